@@ -1,0 +1,82 @@
+-- A structure with an element more, or a rank less, at an end; and the product of two structures.
+--
+-- Added        the elements of a structure and one more
+-- withMin      an element more, directly under all of the lowest rank
+-- withMax      an element more, directly over all of the highest rank
+-- withoutMin   the same elements, those of the lowest rank struck, the ranks one lower
+-- withoutMax   the same elements, those of the highest rank struck
+-- trim         without the minimal rank where min says so, and without the maximal rank where max does
+-- grow         with a maximal element where max says so, and with a minimal one where min does
+-- Product      the pairs of what is in use, with the ends added again
+use mathlib.Core.Path.{_≡_}
+use mathlib.Core.Bool.{Bool, true, false}
+use Prim.Native.Nat.{ℕ, zero, suc, pred, _<_}
+use Rattle.order.specs.Structure.{Order, turned}
+use Rattle.order.specs.Pairs.{Pairs}
+
+pub data Added (E : Type 0) : Type 0 where
+  end : Added E
+  old : E → Added E
+
+abbrev pub AddedExists : (W : Order) → Added (W .Elem) → Type 0
+AddedExists W end = Unit {0}
+AddedExists W (old x) = W .Exists x
+
+abbrev pub addedRank : (W : Order) → Added (W .Elem) → ℕ
+addedRank W end = zero
+addedRank W (old x) = suc (W .rank x)
+
+abbrev pub AddedUnder : (W : Order) → Added (W .Elem) → Added (W .Elem) → Type 0
+AddedUnder W end end = ⊥
+AddedUnder W end (old y) = W .Exists y × (W .rank y ≡ 0)
+AddedUnder W (old x) end = ⊥
+AddedUnder W (old x) (old y) = W .Under x y
+
+abbrev pub withMin : Order → Order
+withMin W = record {
+  Elem = Added (W .Elem);
+  Exists = AddedExists W;
+  rank = addedRank W;
+  top = suc (W .top);
+  Under = AddedUnder W;
+}
+
+abbrev pub withMax : Order → Order
+withMax W = turned (withMin (turned W))
+
+abbrev pub withoutMin : Order → Order
+withoutMin W = record {
+  Elem = W .Elem;
+  Exists = λ x. W .Exists x × (0 < W .rank x);
+  rank = λ x. pred (W .rank x);
+  top = pred (W .top);
+  Under = λ x y. W .Under x y × (0 < W .rank x);
+}
+
+abbrev pub withoutMax : Order → Order
+withoutMax W = turned (withoutMin (turned W))
+
+abbrev pub trimMin : Bool → Order → Order
+trimMin true W = withoutMin W
+trimMin false W = W
+
+abbrev pub trimMax : Bool → Order → Order
+trimMax true W = withoutMax W
+trimMax false W = W
+
+abbrev pub trim : Bool → Bool → Order → Order
+trim min max W = trimMax max (trimMin min W)
+
+abbrev pub growMin : Bool → Order → Order
+growMin true W = withMin W
+growMin false W = W
+
+abbrev pub growMax : Bool → Order → Order
+growMax true W = withMax W
+growMax false W = W
+
+abbrev pub grow : Bool → Bool → Order → Order
+grow min max W = growMin min (growMax max W)
+
+abbrev pub Product : Bool → Bool → Order → Order → Order
+Product min max A B = grow min max (Pairs (trim min max A) (trim min max B))

@@ -1,0 +1,7 @@
+pub mod Lists
+pub mod Sums
+pub mod Structure
+pub mod Diamond
+pub mod Pairs
+pub mod Ends
+pub mod Flags

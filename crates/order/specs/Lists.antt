@@ -1,0 +1,28 @@
+-- Lists of numbers.
+--
+-- In          a number stands in a list
+-- has         whether it does, by looking
+-- Ascending   a list strictly ascends
+-- occurs      how often a number stands in a list
+use mathlib.Core.Path.{_≡_}
+use mathlib.Core.Logic.{_⊎_}
+use mathlib.Core.Bool.{Bool, true, false, cond}
+use mathlib.Core.List.{List, [], _∷_}
+use Prim.Native.Nat.{ℕ, suc, _<_}
+use lib.Dec.{eqb}
+
+unfoldable pub In : ℕ → List ℕ → Type 0
+In a [] = ⊥
+In a (x ∷ l) = (a ≡ x) ⊎ In a l
+
+unfoldable pub has : List ℕ → ℕ → Bool
+has [] a = false
+has (x ∷ l) a = cond (eqb x a) true (has l a)
+
+unfoldable pub Ascending : List ℕ → Type 0
+Ascending [] = Unit {0}
+Ascending (x ∷ l) = ((y : ℕ) → In y l → x < y) × Ascending l
+
+unfoldable pub occurs : ℕ → List ℕ → ℕ
+occurs a [] = 0
+occurs a (x ∷ l) = cond (eqb x a) (suc (occurs a l)) (occurs a l)
