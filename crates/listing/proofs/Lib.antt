@@ -1,0 +1,5 @@
+pub mod Answers
+pub mod Bands
+pub mod Counts
+pub mod Listing
+pub mod ShapeExact

@@ -1,0 +1,65 @@
+-- Laws of the numbers before a rank, of where lists begin, and of where an element's lists and its neighbours' lists stand.
+-- Assumes nothing.
+use mathlib.Core.Path.{_≡_, refl, sym, ap, _∙_}
+use mathlib.Core.List.{List, [], _∷_}
+use Prim.Native.Nat.{ℕ, zero, suc, _+_, _-_, _*_, _≤_, _<_}
+use native.Mathlib.Numerals.{add-one}
+use native.Mathlib.Decide.{decLt}
+use native.Mathlib.Omega.{arith}
+use lib.ListN.{length, getD, List·getD-eq-default}
+use Rattle.order.specs.Sums.{sum}
+use Rattle.order.proofs.Sums.{sum-le}
+use Rattle.listing.specs.Listing.{Listing, Limits, rank, count, below, before, start, Ends}
+use Rattle.listing.specs.Shape.{Shaped}
+
+-- ---- the elements before a rank
+
+pub before-zero : (counts : List ℕ) → before counts 0 ≡ 0
+unfolding before sum
+before-zero counts = refl
+
+pub before-next : (counts : List ℕ) (r : ℕ) → before counts (r + 1) ≡ before counts r + getD counts r 0
+unfolding before sum
+before-next counts r = rw add-one
+
+pub before-last : (counts : List ℕ) (r : ℕ) → before counts r ≡ before counts (r - 1) + getD (0 ∷ counts) r 0
+unfolding before sum
+before-last counts zero = refl
+before-last counts (suc r) =
+    let e : suc r - 1 ≡ r = omega arith in
+    rw e
+
+pub before-le : (counts : List ℕ) (q r : ℕ) → q ≤ r → before counts q ≤ before counts r
+unfolding before
+before-le counts q r h = sum-le _ q r h
+
+-- past the last rank nothing is added
+pub before-all : (counts : List ℕ) (r : ℕ) → before counts r ≤ before counts (length counts)
+unfolding before sum
+before-all counts zero = omega arith
+before-all counts (suc r) = go (before-all counts r) (decLt r (length counts))
+  where
+    go : before counts r ≤ before counts (length counts) → Dec (r < length counts) → before counts (suc r) ≤ before counts (length counts)
+    go ih (yes l) = before-le counts (suc r) (length counts) l
+    go ih (no l) = omega (arith, List·getD-eq-default counts 0 {n = r} (omega arith))
+
+-- ---- where a list begins
+
+pub start-zero : (ends : List ℕ) {k : ℕ} → k ≡ 0 → start ends k ≡ 0
+start-zero ends e = ap (λ (n : ℕ). start ends n) e
+
+-- the end before it; also the count of the rank below
+pub start-more : (ends : List ℕ) {k : ℕ} → (k ≡ 0 → ⊥) → start ends k ≡ getD ends (k - 1) 0
+start-more ends {k = zero} h = absurd (h refl)
+start-more ends {k = suc k} h =
+    let e : suc k - 1 ≡ k = omega arith in
+    rw e
+
+-- ---- an element of a rank that is there
+
+pub rank-there : (L : Listing) (r i : ℕ) → i < count L r → r < length (L .counts)
+rank-there L r i h = go (decLt r (length (L .counts)))
+  where
+    go : Dec (r < length (L .counts)) → r < length (L .counts)
+    go (yes l) = l
+    go (no l) = absurd (omega (arith, List·getD-eq-default (L .counts) 0 {n = r} (omega arith)))

@@ -1,0 +1,7 @@
+pub mod Refusals
+pub mod Answers
+pub mod Listing
+pub mod Shape
+pub mod Counts
+pub mod Layers
+pub mod Written

@@ -1,0 +1,108 @@
+-- The numbers of the refusals under names, and the bands that give a number its class.
+--
+-- noRanks .. outputShort   a refusal's number, one name for each; the same names stand in src/refusal.rt
+-- within                   whether a number lies from one number to another, both counted in
+-- band                     the class of a number: 1 to 9 shape, 10 to 19 structure, 20 to 29 flags, 30 to 39 products
+-- bandNo                   a class as a number, for callers that have no enum
+use Prim.Native.Nat.{ℕ}
+use mathlib.Core.Bool.{Bool, cond, _&&_}
+use lib.Dec.{leb}
+use Rattle.listing.specs.declared.Band.{Band}
+use Rattle.listing.specs.declared.Band.the-variants.{Nothing, Shape, Structure, Flags, Products}
+
+-- shape
+abbrev pub noRanks : ℕ
+noRanks = 1
+
+abbrev pub overRanks : ℕ
+overRanks = 2
+
+abbrev pub overElements : ℕ
+overElements = 3
+
+abbrev pub wrongEnds : ℕ
+wrongEnds = 4
+
+abbrev pub overIncidences : ℕ
+overIncidences = 5
+
+abbrev pub fallingEnds : ℕ
+fallingEnds = 6
+
+-- structure
+abbrev pub notBounded : ℕ
+notBounded = 10
+
+abbrev pub noSubs : ℕ
+noSubs = 11
+
+abbrev pub noSups : ℕ
+noSups = 12
+
+abbrev pub subNotBack : ℕ
+subNotBack = 13
+
+abbrev pub supNotBack : ℕ
+supNotBack = 14
+
+abbrev pub subMissing : ℕ
+subMissing = 15
+
+abbrev pub supMissing : ℕ
+supMissing = 16
+
+abbrev pub thirdBetween : ℕ
+thirdBetween = 17
+
+abbrev pub loneBetween : ℕ
+loneBetween = 18
+
+abbrev pub notAscending : ℕ
+notAscending = 19
+
+-- flags
+abbrev pub notAFlag : ℕ
+notAFlag = 20
+
+abbrev pub outsideRanks : ℕ
+outsideRanks = 21
+
+abbrev pub moreFlags : ℕ
+moreFlags = 22
+
+-- products
+abbrev pub leftInvalid : ℕ
+leftInvalid = 30
+
+abbrev pub rightInvalid : ℕ
+rightInvalid = 31
+
+abbrev pub combOfPoint : ℕ
+combOfPoint = 32
+
+abbrev pub productRanks : ℕ
+productRanks = 33
+
+abbrev pub productElements : ℕ
+productElements = 34
+
+abbrev pub productIncidences : ℕ
+productIncidences = 35
+
+abbrev pub outputShort : ℕ
+outputShort = 36
+
+abbrev pub within : ℕ → ℕ → ℕ → Bool
+within a b n = leb a n && leb n b
+
+unfoldable pub band : ℕ → Band
+band n =
+    cond (within 1 9 n) Shape
+    (cond (within 10 19 n) Structure (cond (within 20 29 n) Flags (cond (within 30 39 n) Products Nothing)))
+
+unfoldable pub bandNo : Band → ℕ
+bandNo Nothing = 0
+bandNo Shape = 1
+bandNo Structure = 2
+bandNo Flags = 3
+bandNo Products = 4

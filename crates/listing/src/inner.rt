@@ -1,0 +1,101 @@
+// What the crates above call once a listing is known to be shaped. These functions ask something of their caller; no entry
+// of the library does.
+use crate::Answer;
+ghost use mathlib.Core.Path.{_≡_};
+ghost use Prim.Native.Nat.{ℕ, _+_, _*_, _≤_, _<_, min};
+ghost use lib.ListN.{length, getD};
+ghost use Rattle.listing.specs.Answers.{refusal};
+ghost use Rattle.listing.specs.Listing.{before, start, entries, Ends};
+ghost use Rattle.listing.specs.Shape.{fills as fillsTo};
+
+// An index as a place in a slice.
+pub fn wide(x: u16) -> usize
+    ensures { λ r. ⌜ (r ≡ x) × (r < 65536) ⌝ }
+{
+    x as usize
+}
+
+// An answer that carries nothing.
+pub fn plain(no: u16) -> Answer
+    ensures { λ r. ⌜ r ≡ refusal no 0 0 0 0 ⌝ }
+{
+    Answer {
+        no,
+        a: 0,
+        b: 0,
+        c: 0,
+        d: 0,
+    }
+}
+
+// The number of elements of a rank: 0 for a rank that is not there.
+pub fn count_at(counts: &[u16], r: usize) -> u16
+    ensures { λ n. ⌜ n ≡ getD (now (counts .entry)) r 0 ⌝ }
+{
+    if r < counts.len() { counts[r] } else { 0 }
+}
+
+// The number of elements of all ranks, or one more than `most` where it is over.
+pub fn elements_to(counts: &[u16], most: usize) -> usize
+    requires { ⌜ most ≤ 65535 ⌝ }
+    ensures { λ n. ⌜ n ≡ min (before (now (counts .entry)) (length (now (counts .entry)))) (most + 1) ⌝ }
+{
+    let mut n: usize = 0;
+    let mut r: usize = 0;
+    while r < counts.len() {
+        n += wide(counts[r]);
+        if most < n {
+            return most + 1;
+        }
+        r += 1;
+    }
+    n
+}
+
+// Whether the ends do not fall, and come to n.
+pub fn fills(ends: &[u16], n: usize) -> bool
+    ensures { λ r. ⌜ r ≡ fillsTo 0 (now (ends .entry)) n ⌝ }
+{
+    let mut from: u16 = 0;
+    let mut k: usize = 0;
+    while k < ends.len() {
+        let x = ends[k];
+        if x < from {
+            return false;
+        }
+        from = x;
+        k += 1;
+    }
+    wide(from) == n
+}
+
+// Where the kth list begins.
+pub fn start_of(ends: &[u16], k: usize) -> usize
+    requires { ⌜ k ≤ length (now ends) ⌝ }
+    ensures { λ r. ⌜ r ≡ start (now (ends .entry)) k ⌝ }
+{
+    if k == 0 {
+        return 0;
+    }
+    wide(ends[k - 1])
+}
+
+// The kth list.
+pub fn list_of<'a>(ends: &[u16], inc: &'a [u16], k: usize) -> &'a [u16]
+    requires { ⌜ Ends (now ends) (now inc) ⌝ }
+    requires { ⌜ k < length (now ends) ⌝ }
+    ensures { λ r. ⌜ now r ≡ entries (now (ends .entry)) (now (inc .entry)) k ⌝ }
+{
+    let a = start_of(ends, k);
+    let e = wide(ends[k]);
+    &inc[a..e]
+}
+
+// The list at side s (0 subs, 1 sups) of the element x places after the place p.
+pub fn side_of<'a>(ends: &[u16], inc: &'a [u16], p: usize, x: u16, s: usize) -> &'a [u16]
+    requires { ⌜ Ends (now ends) (now inc) ⌝ }
+    requires { ⌜ 2 * (p + x) + s < length (now ends) ⌝ }
+    ensures { λ r. ⌜ now r ≡ entries (now (ends .entry)) (now (inc .entry)) (2 * (p + x) + s) ⌝ }
+{
+    list_of(ends, inc, 2 * (p + wide(x)) + s)
+}

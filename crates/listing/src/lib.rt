@@ -1,0 +1,124 @@
+// Listings: cells in three lent slices. Here are their answers and refusals, the shape test and the four counts.
+pub mod inner;
+pub mod limit;
+pub mod refusal;
+
+ghost use mathlib.Core.Path.{_≡_};
+ghost use Rattle.listing.specs.Refusals.{band};
+ghost use Rattle.listing.specs.Counts.{rankOf, elCountOf, vertexCountOf, facetCountOf};
+ghost use Rattle.listing.specs.Listing.{listing, limits};
+ghost use Rattle.listing.specs.Shape.{shapeTest};
+
+// What a test answers: a refusal's number, 0 for none, and the fields that it carries.
+#[repr(C)]
+pub struct Answer {
+    pub no: u16,
+    pub a: u16,
+    pub b: u16,
+    pub c: u16,
+    pub d: u16,
+}
+
+// What a count answers: a refusal's number, 0 for none, and the count.
+#[repr(C)]
+pub struct Number {
+    pub no: u16,
+    pub value: usize,
+}
+
+// The class of a refusal.
+pub enum Band {
+    Nothing,
+    Shape,
+    Structure,
+    Flags,
+    Products,
+}
+
+// The class that a refusal's number falls into.
+pub fn class(no: u16) -> Band
+    ensures { λ r. ⌜ r ≡ band no ⌝ }
+{
+    match no {
+        1..=9 => Band::Shape,
+        10..=19 => Band::Structure,
+        20..=29 => Band::Flags,
+        30..=39 => Band::Products,
+        _ => Band::Nothing,
+    }
+}
+
+// The rank: one less than the number of ranks.
+pub fn rank(counts: &[u16]) -> Number
+    ensures { λ r. ⌜ r ≡ rankOf (now (counts .entry)) ⌝ }
+{
+    if counts.len() == 0 {
+        return Number {
+            no: refusal::NO_RANKS,
+            value: 0,
+        };
+    }
+    Number {
+        no: 0,
+        value: counts.len() - 1,
+    }
+}
+
+// The number of elements of a rank: 0 for a rank that is not there.
+pub fn el_count(counts: &[u16], rank: usize) -> Number
+    ensures { λ r. ⌜ r ≡ elCountOf (now (counts .entry)) rank ⌝ }
+{
+    if counts.len() == 0 {
+        return Number {
+            no: refusal::NO_RANKS,
+            value: 0,
+        };
+    }
+    Number {
+        no: 0,
+        value: inner::wide(inner::count_at(counts, rank)),
+    }
+}
+
+// The number of elements of rank 1.
+pub fn vertex_count(counts: &[u16]) -> Number
+    ensures { λ r. ⌜ r ≡ vertexCountOf (now (counts .entry)) ⌝ }
+{
+    el_count(counts, 1)
+}
+
+// The number of elements of the rank below the top. The nullitope has none: its rank less one wraps to a rank that is not
+// there.
+pub fn facet_count(counts: &[u16]) -> Number
+    ensures { λ r. ⌜ r ≡ facetCountOf (now (counts .entry)) ⌝ }
+{
+    let r = rank(counts);
+    el_count(counts, std::num::wrapping_sub_usize(r.value, 1))
+}
+
+// The shape tests in their order, 1 to 6.
+pub fn shape(counts: &[u16], ends: &[u16], inc: &[u16]) -> Answer
+    ensures { λ r. ⌜ r ≡ shapeTest limits (listing (now (counts .entry)) (now (ends .entry)) (now (inc .entry))) ⌝ }
+{
+    if counts.len() == 0 {
+        return inner::plain(refusal::NO_RANKS);
+    }
+    if limit::RANKS < counts.len() {
+        return inner::plain(refusal::OVER_RANKS);
+    }
+    let n = inner::elements_to(counts, limit::ELEMENTS);
+    if limit::ELEMENTS < n {
+        return inner::plain(refusal::OVER_ELEMENTS);
+    }
+    if ends.len() != 2 * n {
+        return inner::plain(refusal::WRONG_ENDS);
+    }
+    if limit::INCIDENCES < inc.len() {
+        return inner::plain(refusal::OVER_INCIDENCES);
+    }
+    if inner::fills(ends, inc.len()) {
+        inner::plain(0)
+    } else {
+        inner::plain(refusal::FALLING_ENDS)
+    }
+}

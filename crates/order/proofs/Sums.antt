@@ -1,0 +1,75 @@
+-- Sums, and the places that they give. Assumes nothing.
+use mathlib.Core.Path.{_≡_, refl, sym, ap}
+use mathlib.Core.Logic.{_⊎_, inl, inr}
+use Prim.Native.Nat.{ℕ, zero, suc, _+_, _-_, _*_, _≤_, _<_}
+use native.Mathlib.Nat.{not-suc-le-zero, eq-or-lt-of-le}
+use native.Mathlib.Decide.{decLt}
+use native.Mathlib.Omega.{arith}
+use Rattle.order.specs.Sums.{choose, sum, place, Placed}
+
+pub choose-yes {ℓ} : {P : Type 0} {A : Type ℓ} (d : Dec P) (a b : A) → P → choose d a b ≡ a
+unfolding choose
+choose-yes (yes p) a b h = refl
+choose-yes (no p) a b h = absurd (p h)
+
+pub choose-no {ℓ} : {P : Type 0} {A : Type ℓ} (d : Dec P) (a b : A) → ¬ P → choose d a b ≡ b
+unfolding choose
+choose-no (yes p) a b h = absurd (h p)
+choose-no (no p) a b h = refl
+
+pub sum-le : (f : ℕ → ℕ) (i n : ℕ) → i ≤ n → sum f i ≤ sum f n
+unfolding sum
+sum-le f i zero h = let e : i ≡ 0 = omega arith in rw e (omega arith)
+sum-le f i (suc n) h = go (λ l. sum-le f i n l) (eq-or-lt-of-le h)
+  where
+    go : (i ≤ n → sum f i ≤ sum f n) → (i ≡ suc n) ⊎ (i < suc n) → sum f i ≤ sum f n + f n
+    go ih (inl e) = rw e (omega arith)
+    go ih (inr l) = omega (arith, ih (omega arith))
+
+pub sum-lt : (f : ℕ → ℕ) (i j a : ℕ) → i < j → a < f i → sum f i + a < sum f j
+unfolding sum
+sum-lt f i j a l h = omega (arith, sum-le f (suc i) j l)
+
+pub sum-zero : (f : ℕ → ℕ) (n : ℕ) → ((i : ℕ) → i < n → f i ≡ 0) → sum f n ≡ 0
+unfolding sum
+sum-zero f zero h = refl
+sum-zero f (suc n) h = omega (arith, sum-zero f n (λ i l. h i (omega arith)), h n (omega arith))
+
+pub sum-same : (f g : ℕ → ℕ) (n : ℕ) → ((i : ℕ) → i < n → f i ≡ g i) → sum f n ≡ sum g n
+unfolding sum
+sum-same f g zero h = refl
+sum-same f g (suc n) h = omega (arith, sum-same f g n (λ i l. h i (omega arith)), h n (omega arith))
+
+pub place-ok : (f : ℕ → ℕ) (n k : ℕ) → k < sum f n → Placed f n k (place f n k)
+unfolding sum place choose
+place-ok f zero k h = absurd (not-suc-le-zero h)
+place-ok f (suc n) k h = go (λ l. place-ok f n k l) (decLt k (sum f n))
+  where
+    go : (k < sum f n → Placed f n k (place f n k)) → (d : Dec (k < sum f n))
+        → Placed f (suc n) k (choose d (place f n k) (n, k - sum f n))
+    go ih (yes l) = let p = ih l in (omega arith, p .1, p .2)
+    go ih (no l) = omega arith
+
+-- a number falls into one part only
+pub part-same : (f : ℕ → ℕ) (i j a b : ℕ) → a < f i → b < f j → sum f i + a ≡ sum f j + b → i ≡ j
+part-same f i j a b ha hb e = go (decLt i j) (decLt j i)
+  where
+    go : Dec (i < j) → Dec (j < i) → i ≡ j
+    go (yes l) d = absurd (omega (arith, sum-lt f i j a l ha))
+    go (no l) (yes m) = absurd (omega (arith, sum-lt f j i b m hb))
+    go (no l) (no m) = omega arith
+
+pub place-at : (f : ℕ → ℕ) (n i m : ℕ) → i < n → m < f i → place f n (sum f i + m) ≡ (i, m)
+place-at f n i m hi hm =
+    let p = place-ok f n (sum f i + m) (sum-lt f i n m hi hm) in
+    go (place f n (sum f i + m)) p (part-same f _ i _ m (p .1) hm (sym (p .2)))
+  where
+    go : (p : ℕ × ℕ) → Placed f n (sum f i + m) p → p .0 ≡ i → p ≡ (i, m)
+    go p h e =
+        let e′ : p .1 ≡ m = omega (arith, ap (sum f) e, h .2) in
+        λ t. (e t, e′ t)
+
+-- parts of one size c: where a number falls into one, c is no zero
+pub part-pos : (m n c : ℕ) → m < n * c → 0 < c
+part-pos m n zero h = absurd (omega (arith, h))
+part-pos m n (suc c) h = omega arith
