@@ -1,5 +1,5 @@
--- Laws of the first refusal in an order. A loop keeps `W ≡ first of what is left`: -next is a turn, -stop a refusal on the
--- way, -end the loop's end.
+-- Laws of the first refusal in an order. A loop keeps `W ≡ the first of what is left`: -next is a turn, -stop a refusal
+-- on the way, -end the loop's end.
 -- Assumes nothing.
 use mathlib.Core.Path.{_≡_, refl, sym, ap, _∙_}
 use mathlib.Core.Bool.{Bool, true, false}

@@ -1,16 +1,15 @@
--- Laws of the numbers before a rank, of where lists begin, and of where an element's lists and its neighbours' lists stand.
+-- Laws of the elements before a rank, of where a list begins, and of elements that are there.
 -- Assumes nothing.
-use mathlib.Core.Path.{_≡_, refl, sym, ap, _∙_}
-use mathlib.Core.List.{List, [], _∷_}
-use Prim.Native.Nat.{ℕ, zero, suc, _+_, _-_, _*_, _≤_, _<_}
+use mathlib.Core.Path.{_≡_, refl, ap}
+use mathlib.Core.List.{List, _∷_}
+use Prim.Native.Nat.{ℕ, zero, suc, _+_, _-_, _≤_, _<_}
 use native.Mathlib.Numerals.{add-one}
 use native.Mathlib.Decide.{decLt}
 use native.Mathlib.Omega.{arith}
 use lib.ListN.{length, getD, List·getD-eq-default}
 use Rattle.order.specs.Sums.{sum}
 use Rattle.order.proofs.Sums.{sum-le}
-use Rattle.listing.specs.Listing.{Listing, Limits, rank, count, below, before, start, Ends}
-use Rattle.listing.specs.Shape.{Shaped}
+use Rattle.listing.specs.Listing.{Listing, rank, count, below, before, start}
 
 -- ---- the elements before a rank
 
@@ -39,7 +38,8 @@ unfolding before sum
 before-all counts zero = omega arith
 before-all counts (suc r) = go (before-all counts r) (decLt r (length counts))
   where
-    go : before counts r ≤ before counts (length counts) → Dec (r < length counts) → before counts (suc r) ≤ before counts (length counts)
+    go : before counts r ≤ before counts (length counts) → Dec (r < length counts)
+        → before counts (suc r) ≤ before counts (length counts)
     go ih (yes l) = before-le counts (suc r) (length counts) l
     go ih (no l) = omega (arith, List·getD-eq-default counts 0 {n = r} (omega arith))
 

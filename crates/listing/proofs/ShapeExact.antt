@@ -1,23 +1,23 @@
 -- The shape test's answer at each of its tests, and its exactness: it answers 0 exactly if the listing is Shaped.
 -- Assumes nothing.
-use mathlib.Core.Path.{_≡_, refl, sym, ap, _∙_}
-use mathlib.Core.Bool.{Bool, true, false, not, _&&_}
+use mathlib.Core.Path.{_≡_, refl, ap}
+use mathlib.Core.Bool.{Bool, true, false, _&&_}
 use mathlib.Core.List.{List, [], _∷_}
 use mathlib.Core.Logic.{_↔_}
-use Prim.Native.Nat.{ℕ, zero, suc, _+_, _-_, _*_, _≤_, _<_}
+use Prim.Native.Nat.{ℕ, zero, suc, _+_, _*_, _≤_, _<_}
 use native.Mathlib.Nat.{le-of-suc-le-suc, not-suc-le-zero}
 use native.Mathlib.Numerals.{add-one}
 use native.Mathlib.Omega.{arith}
 use borrow.Author.Tests.{eq-eqb, ne-eqb, lt-ltb, le-ltb, le-leb, eqb-true, eqb-false, leb-true, ltb-false, not-false}
-use lib.Dec.{leb, ltb, eqb}
+use lib.Dec.{leb, eqb}
 use lib.ListN.{length, getD, drop, drop-of-length-le}
 use lib.Seq.{drop-cons}
 use Rattle.listing.specs.declared.Answer.{Answer}
-use Rattle.listing.specs.Answers.{plain, fine, _orElse_, on}
+use Rattle.listing.specs.Answers.{plain, fine, _orElse_}
 use Rattle.listing.specs.Refusals.{noRanks, overRanks, overElements, wrongEnds, overIncidences, fallingEnds}
-use Rattle.listing.specs.Listing.{Listing, Limits, before, start, Ends}
+use Rattle.listing.specs.Listing.{Listing, Limits, Ends}
 use Rattle.listing.specs.Shape.{fills, elements, shapeTest, Shaped}
-use Rattle.listing.proofs.Answers.{or-no, on-no, on-or-no}
+use Rattle.listing.proofs.Answers.{on-no, on-or-no}
 
 -- ---- the ends, one at a time
 
@@ -118,7 +118,8 @@ shaped m L e =
 
 unshaped : (m : Limits) (L : Listing) → Shaped m L → shapeTest m L ≡ fine
 unshaped m L s =
-    shape-0 m L (λ e. omega (arith, s .some-rank)) (s .few-ranks) (s .few-elements) (s .two-ends-each) (s .few-incidences)
+    shape-0 m L (λ e. omega (arith, s .some-rank))
+    (s .few-ranks) (s .few-elements) (s .two-ends-each) (s .few-incidences)
     (rising-fills 0 (L .ends) (length (L .inc)) (s .rising) (s .full))
 
 -- The shape test answers 0 exactly if the listing is Shaped.

@@ -1,5 +1,5 @@
--- A listing as functions: how many elements a rank has, and which lie directly under which. The lists of what lies above
--- can be derived.
+-- A listing as functions: how many elements a rank has, and which lie directly under which. What lies above can be
+-- derived.
 --
 -- Layers    ranks 0 to top, the elements of each, the indices under each element
 -- Topped    there are no elements above the top

@@ -87,8 +87,8 @@ pub fn vertex_count(counts: &[u16]) -> Number
     el_count(counts, 1)
 }
 
-// The number of elements of the rank below the top. The nullitope has none: its rank less one wraps to a rank that is not
-// there.
+// The number of elements of the rank below the top. The nullitope has none: its rank less one wraps, to a rank that is
+// not there.
 pub fn facet_count(counts: &[u16]) -> Number
     ensures { λ r. ⌜ r ≡ facetCountOf (now (counts .entry)) ⌝ }
 {

@@ -3,7 +3,8 @@
 -- OneOther     of the things with a property, of which y is one, there is exactly one other
 -- Between      directly above one element and directly under another
 -- Diamond      whenever some element lies between two others, exactly one other does
--- LowDiamond   an element right above the lowest rank has exactly two under it: the diamond over a minimal element taken off
+-- LowDiamond   an element right above the lowest rank has exactly two under it: the diamond over a minimal element that
+--              was taken off
 -- Rooted       every element above the lowest rank has one directly under it
 -- SomeLowest   an element of the lowest rank
 -- OneLowest    bounded at the lower end: exactly one element of the lowest rank

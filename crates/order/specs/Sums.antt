@@ -1,5 +1,5 @@
--- Sums, and the places that they give: parts of the sizes f 0, f 1, .. stand one after another, and each number below the sum
--- of the sizes falls into one part.
+-- Sums, and the places that they give: parts of the sizes f 0, f 1, .. stand one after another, and each number below
+-- the sum of the sizes falls into one part.
 --
 -- choose   the first of two where something holds, else the second
 -- sum      f 0 + .. + f (n - 1)
