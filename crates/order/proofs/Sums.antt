@@ -1,4 +1,5 @@
--- Sums, and the places that they give. Assumes nothing.
+-- Sums, and the places that they give: where a number falls, and that it falls nowhere else.
+-- Assumes nothing.
 use mathlib.Core.Path.{_≡_, refl, sym, ap}
 use mathlib.Core.Logic.{_⊎_, inl, inr}
 use Prim.Native.Nat.{ℕ, zero, suc, _+_, _-_, _*_, _≤_, _<_}
