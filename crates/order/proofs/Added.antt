@@ -7,9 +7,10 @@ use native.Mathlib.Decide.{decLt}
 use native.Mathlib.Omega.{arith}
 use lib.Dec.{T}
 use Rattle.order.specs.Structure.{Order, Ranked, turned, Renumbering}
-use Rattle.order.specs.Diamond.{OneOther, Between, Diamond, LowDiamond, Rooted, SomeLowest, OneLowest, Cell}
+use Rattle.order.specs.Diamond.{Between, Diamond, LowDiamond, Rooted, SomeLowest, OneLowest, Cell}
 use Rattle.order.specs.Ends.{Added, end, old, AddedExists, addedRank, AddedUnder, withMin, withMax}
-use Rattle.order.proofs.Renumbering.{Renumbering·back, Renumbering·turned, turned·ranked, OneOther·map, turned·cell}
+use Rattle.order.proofs.Renumbering.{Renumbering·back, Renumbering·turned, turned·ranked}
+use Rattle.order.proofs.Renumbering.{OneOther·map, turned·cell}
 
 pub withMin·ranked : {W : Order} → Ranked W → Ranked (withMin W)
 withMin·ranked {W} rW = record { exist = exist; step = step; cap = cap }

@@ -5,3 +5,6 @@ pub mod Pairs
 pub mod PairsCell
 pub mod Added
 pub mod Struck
+pub mod Trim
+pub mod Product
+pub mod Flags

@@ -9,7 +9,9 @@ use native.Mathlib.Omega.{arith}
 use Rattle.order.specs.Structure.{Order, Ranked}
 use Rattle.order.specs.Diamond.{OneOther, Between, Diamond, LowDiamond, Rooted, SomeLowest, OneLowest, Cell}
 use Rattle.order.specs.Pairs.{Step, left, right, Pairs, swap}
-use Rattle.order.proofs.Renumbering.{turned·ranked, OneOther·map, Renumbering·between, Renumbering·below, Renumbering·low-diamond, Renumbering·rooted, Renumbering·some-lowest, Renumbering·one-lowest}
+use Rattle.order.proofs.Renumbering.{turned·ranked, OneOther·map, Renumbering·between, Renumbering·below}
+use Rattle.order.proofs.Renumbering.{Renumbering·low-diamond, Renumbering·rooted}
+use Rattle.order.proofs.Renumbering.{Renumbering·some-lowest, Renumbering·one-lowest}
 use Rattle.order.proofs.Pairs.{pair-path, Pairs·ranked, swap-step, Pairs·swap, Pairs·turned}
 
 abbrev Move : (A B : Order) → A .Elem × B .Elem → A .Elem × B .Elem → Type 0
@@ -29,7 +31,8 @@ module _ {A B : Order} (rA : Ranked A) (rB : Ranked B) where
           let ew = rA .exist _ _ (p .0) .1 in
           ((ex, (ew, ey .1), left (p .0) e), ((ew, ey .1), ez, left (p .1) e′))
 
-      from : (v : A .Elem × B .Elem) → Move A B x v → Move A B v z → (w : A .Elem) × Between A (x .0) (z .0) w × (v ≡ (w, y .1))
+      from : (v : A .Elem × B .Elem) → Move A B x v → Move A B v z
+          → (w : A .Elem) × Between A (x .0) (z .0) w × (v ≡ (w, y .1))
       from v (left b f) (left b′ f′) = (v .0, (b, b′), pair-path refl (sym f ∙ e))
       from v (left b f) (right f′ b′) =
           absurd (omega (arith, rB .step _ _ b′, ap (B .rank) e, ap (B .rank) e′, ap (B .rank) f))
@@ -40,7 +43,8 @@ module _ {A B : Order} (rA : Ranked A) (rB : Ranked B) where
 
   -- a step in the first factor and one in the second: the other way round is the one other
   crossed : (x y z : A .Elem × B .Elem) → Pairs A B .Exists x → Pairs A B .Exists z
-      → A .Under (x .0) (y .0) → x .1 ≡ y .1 → y .0 ≡ z .0 → B .Under (y .1) (z .1) → OneOther (Between (Pairs A B) x z) y
+      → A .Under (x .0) (y .0) → x .1 ≡ y .1 → y .0 ≡ z .0 → B .Under (y .1) (z .1)
+      → OneOther (Between (Pairs A B) x z) y
   crossed x y z ex ez a e e′ b =
       let eo : A .Exists (x .0) × B .Exists (z .1) = (ex .0, ez .1) in
       record {
@@ -135,7 +139,8 @@ Pairs·cell rA rB g h =
     record {
       diamond = Pairs·diamond rA rB (g .diamond) (h .diamond);
       low-diamond = λ t. Pairs·low-diamond rA rB (g .low-diamond t) (h .low-diamond t);
-      high-diamond = λ t. Renumbering·low-diamond rP rT f (Pairs·low-diamond tA tB (g .high-diamond t) (h .high-diamond t));
+      high-diamond = λ t.
+          Renumbering·low-diamond rP rT f (Pairs·low-diamond tA tB (g .high-diamond t) (h .high-diamond t));
       one-lowest = λ t. Pairs·one-lowest (g .one-lowest t) (h .one-lowest t);
       one-highest = λ t. Renumbering·one-lowest f (Pairs·one-lowest (g .one-highest t) (h .one-highest t));
       rooted = Pairs·rooted rA rB (g .rooted) (h .rooted);

@@ -1,14 +1,16 @@
 -- A closed cell less an end: the rank at that end struck; and what was added is struck again.
 -- Assumes nothing.
-use mathlib.Core.Path.{_≡_, refl, sym, ap, _∙_, subst}
+use mathlib.Core.Path.{_≡_, refl, ap, _∙_, subst}
 use mathlib.Core.Logic.{_↔_}
 use mathlib.Core.Bool.{Bool, true, false}
 use Prim.Native.Nat.{ℕ, suc, pred, _-_, _≤_, _<_}
 use native.Mathlib.Omega.{arith}
 use Rattle.order.specs.Structure.{Order, Ranked, turned, Renumbering}
-use Rattle.order.specs.Diamond.{OneOther, Between, Diamond, LowDiamond, Rooted, SomeLowest, OneLowest, Cell}
-use Rattle.order.specs.Ends.{Added, end, old, AddedExists, addedRank, AddedUnder, withMin, withMax, withoutMin, withoutMax}
-use Rattle.order.proofs.Renumbering.{from-rank, Renumbering·back, Renumbering·then, Renumbering·turned, turned·ranked, turned·turned, OneOther·same, turned·cell}
+use Rattle.order.specs.Diamond.{Between, Diamond, LowDiamond, Rooted, SomeLowest, OneLowest, Cell}
+use Rattle.order.specs.Ends.{Added, end, old, AddedExists, addedRank, AddedUnder}
+use Rattle.order.specs.Ends.{withMin, withMax, withoutMin, withoutMax}
+use Rattle.order.proofs.Renumbering.{from-rank, Renumbering·back, Renumbering·then, Renumbering·turned}
+use Rattle.order.proofs.Renumbering.{turned·ranked, turned·turned, OneOther·same, turned·cell}
 use Rattle.order.proofs.Added.{withMin·ranked}
 
 -- Ranks one lower, and counted from above: in plain numbers.

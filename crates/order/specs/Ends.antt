@@ -7,7 +7,13 @@
 -- withoutMax   the same elements, those of the highest rank struck
 -- trim         without the minimal rank where min says so, and without the maximal rank where max does
 -- grow         with a maximal element where max says so, and with a minimal one where min does
--- Product      the pairs of what is in use, with the ends added again
+-- InUse        the pairs of what is left of two structures when they are trimmed
+-- Product      these pairs, with the ends added again
+-- need         how high a factor must be: a rank for each end that is taken off
+-- kept         an element, as one of what is left of the structure when it is trimmed
+-- inside       an element, as one of the structure when it is grown; a pair, as one of the product
+-- addedMin     the minimal element that is added
+-- addedMax     the maximal element that is added
 use mathlib.Core.Path.{_≡_}
 use mathlib.Core.Bool.{Bool, true, false}
 use Prim.Native.Nat.{ℕ, zero, suc, pred, _<_}
@@ -78,5 +84,33 @@ growMax false W = W
 abbrev pub grow : Bool → Bool → Order → Order
 grow min max W = growMin min (growMax max W)
 
+abbrev pub InUse : Bool → Bool → Order → Order → Order
+InUse min max A B = Pairs (trim min max A) (trim min max B)
+
 abbrev pub Product : Bool → Bool → Order → Order → Order
-Product min max A B = grow min max (Pairs (trim min max A) (trim min max B))
+Product min max A B = grow min max (InUse min max A B)
+
+abbrev pub need : Bool → Bool → ℕ
+need true true = 2
+need true false = 1
+need false true = 1
+need false false = 0
+
+abbrev pub kept : (min max : Bool) (W : Order) → W .Elem → trim min max W .Elem
+kept true true W x = x
+kept true false W x = x
+kept false true W x = x
+kept false false W x = x
+
+abbrev pub inside : (min max : Bool) (W : Order) → W .Elem → grow min max W .Elem
+inside true true W x = old (old x)
+inside true false W x = old x
+inside false true W x = old x
+inside false false W x = x
+
+abbrev pub addedMin : (max : Bool) (W : Order) → grow true max W .Elem
+addedMin max W = end
+
+abbrev pub addedMax : (min : Bool) (W : Order) → grow min true W .Elem
+addedMax true W = old end
+addedMax false W = end

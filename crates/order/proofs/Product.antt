@@ -1,0 +1,95 @@
+-- The product of two structures, once over the two Booleans: it is a closed cell where the factors are.
+-- Assumes nothing.
+use mathlib.Core.Path.{_≡_}
+use mathlib.Core.Logic.{_↔_, Iff·trans}
+use mathlib.Core.Bool.{Bool, true, false}
+use Prim.Native.Nat.{ℕ, pred, _+_, _≤_, _<_}
+use native.Mathlib.Omega.{arith}
+use lib.Dec.{T}
+use Rattle.order.specs.Structure.{Order, Ranked, Lowest, Highest, Renumbering}
+use Rattle.order.specs.Diamond.{Cell}
+use Rattle.order.specs.Pairs.{swap}
+use Rattle.order.specs.Ends.{trim, InUse, Product, need, kept, inside, addedMin, addedMax}
+use Rattle.order.proofs.Renumbering.{Renumbering·back}
+use Rattle.order.proofs.Pairs.{Pairs·ranked, Pairs·swap, Pairs·renumbered, Pairs·lowest, Pairs·highest}
+use Rattle.order.proofs.PairsCell.{Pairs·cell}
+use Rattle.order.proofs.Trim.{trim·ranked, grow·ranked, trim·cell, grow·cell, trim·renumbered, grow·renumbered}
+use Rattle.order.proofs.Trim.{trim·grow, trim·grow-from, grow·inside, grow·addedMin, grow·addedMax}
+use Rattle.order.proofs.Trim.{addedMin·under, addedMax·over}
+
+pub InUse·ranked : (min max : Bool) {A B : Order} → Ranked A → Ranked B → Ranked (InUse min max A B)
+InUse·ranked min max rA rB = Pairs·ranked (trim·ranked min max rA) (trim·ranked min max rB)
+
+pub Product·ranked : (min max : Bool) {A B : Order} → Ranked A → Ranked B → Ranked (Product min max A B)
+Product·ranked min max rA rB = grow·ranked min max (InUse·ranked min max rA rB)
+
+-- where both ends are taken off, more than one rank of pairs is left
+room : (min max : Bool) (A B : Order) → (T min → T max → 5 ≤ A .top + B .top) → T min → T max
+    → 0 < InUse min max A B .top
+room true true A B h s t = left-over (A .top) (B .top) (h tt tt)
+  where
+    left-over : (a b : ℕ) → 5 ≤ a + b → 0 < pred (pred a) + pred (pred b)
+    left-over a b h = omega arith
+room true false A B h s t = absurd t
+room false max A B h s t = absurd s
+
+pub Product·cell : (min max : Bool) {A B : Order} → Ranked A → Ranked B → need min max ≤ A .top → need min max ≤ B .top
+    → (T min → T max → 5 ≤ A .top + B .top) → Cell false false A → Cell false false B
+    → Cell false false (Product min max A B)
+Product·cell min max {A} {B} rA rB p q h gA gB =
+    let tA = trim·ranked min max rA in
+    let tB = trim·ranked min max rB in
+    grow·cell min max (Pairs·ranked tA tB) (room min max A B h)
+    (Pairs·cell tA tB (trim·cell min max rA p gA) (trim·cell min max rB q gB))
+
+unfoldable pub Product·renumbered : (min max : Bool) {A A′ B B′ : Order} → Ranked A → Ranked A′ → Ranked B → Ranked B′
+    → Renumbering A A′ → Renumbering B B′ → Renumbering (Product min max A B) (Product min max A′ B′)
+Product·renumbered min max rA rA′ rB rB′ f g =
+    grow·renumbered min max (Pairs·renumbered (trim·renumbered min max rA rA′ f) (trim·renumbered min max rB rB′ g))
+
+unfoldable pub Product·swap : (min max : Bool) (A B : Order) → Renumbering (Product min max A B) (Product min max B A)
+Product·swap min max A B = grow·renumbered min max (Pairs·swap (trim min max A) (trim min max B))
+
+-- Apart from the added ends the elements of a product are the pairs in use. (It needs an element of each factor.)
+unfoldable pub Product·pairs : (min max : Bool) {A B : Order} → Ranked A → Ranked B → A .Elem → B .Elem
+    → Renumbering (InUse min max A B) (trim min max (Product min max A B))
+Product·pairs min max {A} {B} rA rB a b =
+    Renumbering·back (trim·grow min max (InUse·ranked min max rA rB) (kept min max A a, kept min max B b))
+
+pub Product·pairs-to : (min max : Bool) {A B : Order} (rA : Ranked A) (rB : Ranked B) (a : A .Elem) (b : B .Elem)
+    (x : InUse min max A B .Elem)
+    → Product·pairs min max rA rB a b .to x ≡ kept min max (Product min max A B) (inside min max (InUse min max A B) x)
+unfolding Product·pairs Renumbering·back
+Product·pairs-to min max {A} {B} rA rB a b x =
+    trim·grow-from min max (InUse·ranked min max rA rB) (kept min max A a, kept min max B b) x
+
+-- Exchanging the factors only swaps pairs, and leaves the added ends where they are.
+pub Product·swap-pair : (min max : Bool) (A B : Order) (x : InUse min max A B .Elem)
+    → Product·swap min max A B .to (inside min max (InUse min max A B) x) ≡ inside min max (InUse min max B A) (swap x)
+unfolding Product·swap Pairs·swap
+Product·swap-pair min max A B x = grow·inside (Pairs·swap (trim min max A) (trim min max B)) min max x
+
+pub Product·swap-min : (max : Bool) (A B : Order)
+    → Product·swap true max A B .to (addedMin max (InUse true max A B)) ≡ addedMin max (InUse true max B A)
+unfolding Product·swap
+Product·swap-min max A B = grow·addedMin (Pairs·swap (trim true max A) (trim true max B)) max
+
+pub Product·swap-max : (min : Bool) (A B : Order)
+    → Product·swap min true A B .to (addedMax min (InUse min true A B)) ≡ addedMax min (InUse min true B A)
+unfolding Product·swap
+Product·swap-max min A B = grow·addedMax (Pairs·swap (trim min true A) (trim min true B)) min
+
+-- The added minimal element lies directly under the pairs of two lowest elements in use, and under no other pair.
+pub Product·min-under : (max : Bool) {A B : Order} → Ranked A → Ranked B → (x : InUse true max A B .Elem)
+    → Product true max A B .Under (addedMin max (InUse true max A B)) (inside true max (InUse true max A B) x)
+    ↔ (Lowest (trim true max A) (x .0) × Lowest (trim true max B) (x .1))
+Product·min-under max {A} {B} rA rB x =
+    Iff·trans (addedMin·under (InUse·ranked true max rA rB) max x) (Pairs·lowest (trim true max A) (trim true max B) x)
+
+-- The added maximal element lies directly over the pairs of two highest elements in use, and over no other pair.
+pub Product·max-over : (min : Bool) {A B : Order} → Ranked A → Ranked B → (x : InUse min true A B .Elem)
+    → Product min true A B .Under (inside min true (InUse min true A B) x) (addedMax min (InUse min true A B))
+    ↔ (Highest (trim min true A) (x .0) × Highest (trim min true B) (x .1))
+Product·max-over min rA rB x =
+    Iff·trans (addedMax·over (InUse·ranked min true rA rB) min x)
+    (Pairs·highest (trim·ranked min true rA) (trim·ranked min true rB) x)

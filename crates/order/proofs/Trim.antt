@@ -1,0 +1,143 @@
+-- Structures trimmed and grown, as the two Booleans say: what becomes of closed cells, and trimming undoes growing.
+-- Assumes nothing.
+use mathlib.Core.Path.{_≡_, refl}
+use mathlib.Core.Logic.{_↔_}
+use mathlib.Core.Bool.{Bool, true, false}
+use Prim.Native.Nat.{ℕ, pred, _≤_, _<_}
+use native.Mathlib.Omega.{arith}
+use lib.Dec.{T}
+use Rattle.order.specs.Structure.{Order, Ranked, Lowest, Highest, turned, Renumbering}
+use Rattle.order.specs.Diamond.{Cell}
+use Rattle.order.specs.Ends.{end, old, withMax, trimMin, trim, growMax, grow}
+use Rattle.order.specs.Ends.{need, kept, inside, addedMin, addedMax}
+use Rattle.order.proofs.Renumbering.{Renumbering·same, Renumbering·back, Renumbering·then}
+use Rattle.order.proofs.Renumbering.{Renumbering·turned, turned·turned}
+use Rattle.order.proofs.Added.{withMin·ranked, withMax·ranked, withMin·cell, withMax·cell}
+use Rattle.order.proofs.Added.{withMin·renumbered, withMax·renumbered}
+use Rattle.order.proofs.Struck.{withoutMin·ranked, withoutMax·ranked, withoutMin·cell, withoutMax·cell}
+use Rattle.order.proofs.Struck.{withoutMin·renumbered, withoutMax·renumbered}
+use Rattle.order.proofs.Struck.{withoutMin·withMin, withoutMax·withMax}
+
+pub trimMin·ranked : (min : Bool) {W : Order} → Ranked W → Ranked (trimMin min W)
+trimMin·ranked true rW = withoutMin·ranked rW
+trimMin·ranked false rW = rW
+
+pub trim·ranked : (min max : Bool) {W : Order} → Ranked W → Ranked (trim min max W)
+trim·ranked min true rW = withoutMax·ranked (trimMin·ranked min rW)
+trim·ranked min false rW = trimMin·ranked min rW
+
+growMax·ranked : (max : Bool) {W : Order} → Ranked W → Ranked (growMax max W)
+growMax·ranked true rW = withMax·ranked rW
+growMax·ranked false rW = rW
+
+pub grow·ranked : (min max : Bool) {W : Order} → Ranked W → Ranked (grow min max W)
+grow·ranked true max rW = withMin·ranked (growMax·ranked max rW)
+grow·ranked false max rW = growMax·ranked max rW
+
+pub trim·cell : (min max : Bool) {W : Order} → Ranked W → need min max ≤ W .top → Cell false false W
+    → Cell min max (trim min max W)
+trim·cell true true rW h g = withoutMax·cell (withoutMin·ranked rW) (pos _ h) (withoutMin·cell rW (omega arith) g)
+  where
+    pos : (t : ℕ) → 2 ≤ t → 0 < pred t
+    pos t h = omega arith
+trim·cell true false rW h g = withoutMin·cell rW h g
+trim·cell false true rW h g = withoutMax·cell rW h g
+trim·cell false false rW h g = g
+
+pub grow·cell : (min max : Bool) {W : Order} → Ranked W → (T min → T max → 0 < W .top) → Cell min max W
+    → Cell false false (grow min max W)
+grow·cell true true rW h g = withMin·cell (withMax·ranked rW) (λ t. absurd t) (withMax·cell rW (h tt) g)
+grow·cell true false rW h g = withMin·cell rW (h tt) g
+grow·cell false true rW h g = withMax·cell rW (λ t. absurd t) g
+grow·cell false false rW h g = g
+
+unfoldable pub trimMin·renumbered : (min : Bool) {A B : Order} → Ranked A → Ranked B → Renumbering A B
+    → Renumbering (trimMin min A) (trimMin min B)
+trimMin·renumbered true rA rB f = withoutMin·renumbered rA rB f
+trimMin·renumbered false rA rB f = f
+
+unfoldable pub trim·renumbered : (min max : Bool) {A B : Order} → Ranked A → Ranked B → Renumbering A B
+    → Renumbering (trim min max A) (trim min max B)
+trim·renumbered min true rA rB f =
+    withoutMax·renumbered (trimMin·ranked min rA) (trimMin·ranked min rB) (trimMin·renumbered min rA rB f)
+trim·renumbered min false rA rB f = trimMin·renumbered min rA rB f
+
+unfoldable pub growMax·renumbered : (max : Bool) {A B : Order} → Renumbering A B
+    → Renumbering (growMax max A) (growMax max B)
+growMax·renumbered true f = withMax·renumbered f
+growMax·renumbered false f = f
+
+unfoldable pub grow·renumbered : (min max : Bool) {A B : Order} → Renumbering A B
+    → Renumbering (grow min max A) (grow min max B)
+grow·renumbered true max f = withMin·renumbered (growMax·renumbered max f)
+grow·renumbered false max f = growMax·renumbered max f
+
+unfoldable pub trim·grow : (min max : Bool) {W : Order} → Ranked W → W .Elem
+    → Renumbering (trim min max (grow min max W)) W
+trim·grow true true {W} rW d =
+    let rM = withMax·ranked rW in
+    let inner = withoutMin·withMin (withMax W) end in
+    Renumbering·then (withoutMax·renumbered (withoutMin·ranked (withMin·ranked rM)) rM inner) (withoutMax·withMax rW d)
+trim·grow true false {W} rW d = withoutMin·withMin W d
+trim·grow false true rW d = withoutMax·withMax rW d
+trim·grow false false {W} rW d = Renumbering·same W
+
+-- What the renumberings do with the elements that were there, and with the added ends.
+pub trim·grow-from : (min max : Bool) {W : Order} (rW : Ranked W) (d x : W .Elem)
+    → trim·grow min max rW d .from x ≡ kept min max (grow min max W) (inside min max W x)
+unfolding trim·grow Renumbering·same Renumbering·back Renumbering·then Renumbering·turned turned·turned
+    withoutMin·renumbered withoutMax·renumbered withoutMin·withMin withoutMax·withMax
+trim·grow-from true true rW d x = refl
+trim·grow-from true false rW d x = refl
+trim·grow-from false true rW d x = refl
+trim·grow-from false false rW d x = refl
+
+module _ {A B : Order} (f : Renumbering A B) where
+  pub grow·inside : (min max : Bool) (x : A .Elem)
+      → grow·renumbered min max f .to (inside min max A x) ≡ inside min max B (f .to x)
+  unfolding grow·renumbered growMax·renumbered withMin·renumbered withMax·renumbered Renumbering·turned
+  grow·inside true true x = refl
+  grow·inside true false x = refl
+  grow·inside false true x = refl
+  grow·inside false false x = refl
+
+  pub grow·addedMin : (max : Bool) → grow·renumbered true max f .to (addedMin max A) ≡ addedMin max B
+  unfolding grow·renumbered withMin·renumbered
+  grow·addedMin max = refl
+
+  pub grow·addedMax : (min : Bool) → grow·renumbered min true f .to (addedMax min A) ≡ addedMax min B
+  unfolding grow·renumbered growMax·renumbered withMin·renumbered withMax·renumbered Renumbering·turned
+  grow·addedMax true = refl
+  grow·addedMax false = refl
+
+-- The added minimal element lies directly under the whole lowest rank, the maximal one directly over the whole highest.
+module _ {W : Order} (rW : Ranked W) where
+  pub addedMin·under : (max : Bool) (x : W .Elem)
+      → grow true max W .Under (addedMin max W) (inside true max W x) ↔ Lowest W x
+  addedMin·under true x = (λ r. (r .0, omega (arith, rW .cap x (r .0))), λ r. (r .0, omega (arith, rW .cap x (r .0))))
+  addedMin·under false x = (λ r. r, λ r. r)
+
+  from-above : (x : W .Elem) → Lowest (turned W) x ↔ Highest W x
+  from-above x = (λ r. (r .0, omega (arith, rW .cap x (r .0))), λ r. (r .0, omega (arith, rW .cap x (r .0))))
+
+  pub addedMax·over : (min : Bool) (x : W .Elem)
+      → grow min true W .Under (inside min true W x) (addedMax min W) ↔ Highest W x
+  addedMax·over true x = from-above x
+  addedMax·over false x = from-above x
+
+-- And there is nothing else next to them.
+pub addedMin·only : (max : Bool) (W : Order) (y : grow true max W .Elem) → grow true max W .Under (addedMin max W) y
+    → (x : W .Elem) × (y ≡ inside true max W x)
+addedMin·only true W end r = absurd r
+addedMin·only true W (old end) r = absurd (omega (arith, r .1))
+addedMin·only true W (old (old x)) r = (x, refl)
+addedMin·only false W end r = absurd r
+addedMin·only false W (old x) r = (x, refl)
+
+pub addedMax·only : (min : Bool) (W : Order) (y : grow min true W .Elem) → grow min true W .Under y (addedMax min W)
+    → (x : W .Elem) × (y ≡ inside min true W x)
+addedMax·only true W end r = absurd (omega (arith, r .1))
+addedMax·only true W (old end) r = absurd r
+addedMax·only true W (old (old x)) r = (x, refl)
+addedMax·only false W end r = absurd r
+addedMax·only false W (old x) r = (x, refl)
