@@ -1,4 +1,4 @@
--- A closed cell from one whose end is taken off: an element more at that end.
+-- An element more at an end makes a closed cell of one whose end was taken off.
 -- Assumes nothing.
 use mathlib.Core.Path.{_≡_, refl, ap, _∙_}
 use mathlib.Core.Bool.{Bool, true, false}
@@ -38,6 +38,7 @@ old-same : {E : Type 0} (v w : E) → old v ≡ old w → v ≡ w
 old-same v w e = cc
 
 module _ (W : Order) where
+  -- what lies between old elements, under one and over one, is old
   between-back : (x z : W .Elem) (v : Added (W .Elem)) → Between (withMin W) (old x) (old z) v
       → (w : W .Elem) × Between W x z w × (v ≡ old w)
   between-back x z end q = absurd (q .0)
@@ -52,6 +53,7 @@ module _ (W : Order) where
   over-back x end q = absurd q
   over-back x (old w) q = (w, q, refl)
 
+  -- over the added element the diamond is the low diamond
   withMin·diamond : Ranked W → Diamond W → LowDiamond W → Diamond (withMin W)
   unfolding Diamond LowDiamond
   withMin·diamond rW d l end end z r s = absurd r
@@ -130,11 +132,12 @@ withMax·cell rW p g =
     let tW = turned·ranked rW in
     turned·cell (withMin·ranked tW) (withMin·cell tW p (turned·cell rW g))
 
--- a map that takes the added element to the added element
+-- A map, with the added element taken to the added element.
 abbrev pub mapAdded : {E F : Type 0} → (E → F) → Added E → Added F
 mapAdded f end = end
 mapAdded f (old x) = old (f x)
 
+-- A renumbering goes on to the structures with an element more: its laws, one by one, and then the renumbering.
 module _ {A B : Order} (f : Renumbering A B) where
   pub added-exists : (x : Added (A .Elem)) → AddedExists A x → AddedExists B (mapAdded (f .to) x)
   added-exists end e = tt

@@ -52,7 +52,7 @@ record UpwardChange (W : Order) (r : ℕ) (x : W .Elem) (l : List (W .Elem)) : T
   changed : ChangedAt r l list
   only : (m : List (W .Elem)) → Upward W x m → ChangedAt r l m → m ≡ list
 
-module _ {W : Order} (rW : Ranked W) where
+module _ {W : Order} where
   -- the element right above x is changed
   first-change : (x y z : W .Elem) (l : List (W .Elem)) → W .Under x y → W .Under y z → Upward W z l
       → OneOther (Between W x z) y → UpwardChange W zero x (y ∷ z ∷ l)
@@ -85,14 +85,16 @@ module _ {W : Order} (rW : Ranked W) where
       only : (m : List (W .Elem)) → Upward W x m → ChangedAt (suc r) (y ∷ l) m → m ≡ y ∷ c .list
       only m h (there {m = k} d) = ap (λ t. y ∷ t) (c .only k (h .1) d)
 
-  upward-change : Diamond W → (r : ℕ) (x : W .Elem) (l : List (W .Elem)) → Upward W x l → suc (W .rank x + r) < W .top
-      → UpwardChange W r x l
+  -- the element r places further up is changed, and it is not of the highest rank
+  upward-change : Ranked W → Diamond W → (r : ℕ) (x : W .Elem) (l : List (W .Elem)) → Upward W x l
+      → suc (W .rank x + r) < W .top → UpwardChange W r x l
   unfolding Upward Diamond
-  upward-change d r x [] u h = absurd (omega arith)
-  upward-change d zero x (y ∷ []) u h = absurd (omega (arith, rW .step x y (u .0), u .1))
-  upward-change d zero x (y ∷ z ∷ l) u h = first-change x y z l (u .0) (u .1 .0) (u .1 .1) (d x y z (u .0) (u .1 .0))
-  upward-change d (suc r) x (y ∷ l) u h =
-      later-change r x y l (u .0) (upward-change d r y l (u .1) (omega (arith, rW .step x y (u .0))))
+  upward-change rW d r x [] u h = absurd (omega arith)
+  upward-change rW d zero x (y ∷ []) u h = absurd (omega (arith, rW .step x y (u .0), u .1))
+  upward-change rW d zero x (y ∷ z ∷ l) u h =
+      first-change x y z l (u .0) (u .1 .0) (u .1 .1) (d x y z (u .0) (u .1 .0))
+  upward-change rW d (suc r) x (y ∷ l) u h =
+      later-change r x y l (u .0) (upward-change rW d r y l (u .1) (omega (arith, rW .step x y (u .0))))
 
 -- Exactly one flag differs from l at a rank between the ends: the diamond between the neighbours there.
 pub one-change : {W : Order} → Ranked W → Diamond W → (r : ℕ) (l : List (W .Elem)) → Flag W l → 0 < r → r < W .top

@@ -20,11 +20,11 @@ unfolding In
 in-right a [] t h = h
 in-right a (x ∷ s) t h = inr (in-right a s t h)
 
-pub in-append : (a : ℕ) (s t : List ℕ) → In a (s ++ t) → In a s ⊎ In a t
+pub append-in : (a : ℕ) (s t : List ℕ) → In a (s ++ t) → In a s ⊎ In a t
 unfolding In
-in-append a [] t h = inr h
-in-append a (x ∷ s) t (inl e) = inl (inl e)
-in-append a (x ∷ s) t (inr h) = go (in-append a s t h)
+append-in a [] t h = inr h
+append-in a (x ∷ s) t (inl e) = inl (inl e)
+append-in a (x ∷ s) t (inr h) = go (append-in a s t h)
   where
     go : In a s ⊎ In a t → In a (x ∷ s) ⊎ In a t
     go (inl m) = inl (inr m)
@@ -36,18 +36,18 @@ in-map f a [] h = absurd h
 in-map f a (x ∷ l) (inl e) = inl (ap f e)
 in-map f a (x ∷ l) (inr h) = inr (in-map f a l h)
 
-pub in-map-back : (f : ℕ → ℕ) (y : ℕ) (l : List ℕ) → In y (map f l) → (a : ℕ) × In a l × (y ≡ f a)
+pub map-in : (f : ℕ → ℕ) (y : ℕ) (l : List ℕ) → In y (map f l) → (a : ℕ) × In a l × (y ≡ f a)
 unfolding In
-in-map-back f y [] h = absurd h
-in-map-back f y (x ∷ l) (inl e) = (x, inl refl, e)
-in-map-back f y (x ∷ l) (inr h) = let r = in-map-back f y l h in (r .0, inr (r .1), r .2)
+map-in f y [] h = absurd h
+map-in f y (x ∷ l) (inl e) = (x, inl refl, e)
+map-in f y (x ∷ l) (inr h) = let r = map-in f y l h in (r .0, inr (r .1), r .2)
 
 pub ascending-append : (s t : List ℕ) → Ascending s → Ascending t → ((x y : ℕ) → In x s → In y t → x < y)
     → Ascending (s ++ t)
 unfolding In Ascending
 ascending-append [] t hs ht h = ht
 ascending-append (x ∷ s) t hs ht h =
-    (λ y m. go y (in-append y s t m), ascending-append s t (hs .1) ht (λ a b ma mb. h a b (inr ma) mb))
+    (λ y m. go y (append-in y s t m), ascending-append s t (hs .1) ht (λ a b ma mb. h a b (inr ma) mb))
   where
     go : (y : ℕ) → In y s ⊎ In y t → x < y
     go y (inl m) = hs .0 y m
@@ -60,7 +60,7 @@ ascending-map f [] h a = tt
 ascending-map f (x ∷ l) h a = (go, ascending-map f l (λ u v mu mv. h u v (inr mu) (inr mv)) (a .1))
   where
     go : (y : ℕ) → In y (map f l) → f x < y
-    go y m = let r = in-map-back f y l m in rw (r .2) (h x (r .0) (inl refl) (inr (r .1)) (a .0 (r .0) (r .1)))
+    go y m = let r = map-in f y l m in rw (r .2) (h x (r .0) (inl refl) (inr (r .1)) (a .0 (r .0) (r .1)))
 
 -- what a test of two numbers says
 abbrev Tested : ℕ → ℕ → Type 0

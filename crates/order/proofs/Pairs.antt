@@ -22,10 +22,22 @@ Pairs·ranked {A} {B} rA rB = record {
     go x y (left a e) = omega (arith, rA .step _ _ a, ap (B .rank) e)
     go x y (right e b) = omega (arith, rB .step _ _ b, ap (A .rank) e)
 
+-- a step with the members of the pairs exchanged, turned over, and mapped
 pub swap-step : {E F : Type 0} {R : E → E → Type 0} {S : F → F → Type 0} {x y : E × F} → Step R S x y
     → Step S R (swap x) (swap y)
 swap-step (left a e) = right e a
 swap-step (right e b) = left b e
+
+turn-step : {E F : Type 0} {R : E → E → Type 0} {S : F → F → Type 0} {x y : E × F} → Step R S x y
+    → Step (λ a b. R b a) (λ a b. S b a) y x
+turn-step (left a e) = left a (sym e)
+turn-step (right e b) = right (sym e) b
+
+pub map-step : {E F G H : Type 0} {R : E → E → Type 0} {S : F → F → Type 0} {T : G → G → Type 0} {U : H → H → Type 0}
+    (f : E → G) (g : F → H) → ((x y : E) → R x y → T (f x) (f y)) → ((x y : F) → S x y → U (g x) (g y))
+    → {x y : E × F} → Step R S x y → Step T U (f (x .0), g (x .1)) (f (y .0), g (y .1))
+map-step f g sf sg (left u e) = left (sf _ _ u) (ap g e)
+map-step f g sf sg (right e u) = right (ap f e) (sg _ _ u)
 
 unfoldable pub Pairs·swap : (A B : Order) → Renumbering (Pairs A B) (Pairs B A)
 Pairs·swap A B = record {
@@ -40,11 +52,6 @@ Pairs·swap A B = record {
   same-rank = λ x e. omega arith;
   same-top = omega arith;
 }
-
-turn-step : {E F : Type 0} {R : E → E → Type 0} {S : F → F → Type 0} {x y : E × F} → Step R S x y
-    → Step (λ a b. R b a) (λ a b. S b a) y x
-turn-step (left a e) = left a (sym e)
-turn-step (right e b) = right (sym e) b
 
 -- Turned over, pairs are the pairs of what is turned over.
 pub Pairs·turned : {A B : Order} → Ranked A → Ranked B
@@ -61,12 +68,6 @@ Pairs·turned rA rB = record {
   same-rank = λ x e. omega (arith, rA .cap _ (e .0), rB .cap _ (e .1));
   same-top = refl;
 }
-
-pub map-step : {E F G H : Type 0} {R : E → E → Type 0} {S : F → F → Type 0} {T : G → G → Type 0} {U : H → H → Type 0}
-    (f : E → G) (g : F → H) → ((x y : E) → R x y → T (f x) (f y)) → ((x y : F) → S x y → U (g x) (g y))
-    → {x y : E × F} → Step R S x y → Step T U (f (x .0), g (x .1)) (f (y .0), g (y .1))
-map-step f g to too (left u e) = left (to _ _ u) (ap g e)
-map-step f g to too (right e u) = right (ap f e) (too _ _ u)
 
 unfoldable pub Pairs·renumbered : {A A′ B B′ : Order} → Renumbering A A′ → Renumbering B B′
     → Renumbering (Pairs A B) (Pairs A′ B′)

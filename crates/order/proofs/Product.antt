@@ -1,4 +1,5 @@
--- The product of two structures, once over the two Booleans: it is a closed cell where the factors are.
+-- The product of two structures, once over the two Booleans: when it is a closed cell, what its elements are, and what
+-- exchanging the factors does.
 -- Assumes nothing.
 use mathlib.Core.Path.{_≡_}
 use mathlib.Core.Logic.{_↔_, Iff·trans}
@@ -23,7 +24,7 @@ InUse·ranked min max rA rB = Pairs·ranked (trim·ranked min max rA) (trim·ran
 pub Product·ranked : (min max : Bool) {A B : Order} → Ranked A → Ranked B → Ranked (Product min max A B)
 Product·ranked min max rA rB = grow·ranked min max (InUse·ranked min max rA rB)
 
--- where both ends are taken off, more than one rank of pairs is left
+-- Where both ends are taken off, more than one rank of pairs is left.
 room : (min max : Bool) (A B : Order) → (T min → T max → 5 ≤ A .top + B .top) → T min → T max
     → 0 < InUse min max A B .top
 room true true A B h s t = left-over (A .top) (B .top) (h tt tt)
@@ -79,14 +80,16 @@ pub Product·swap-max : (min : Bool) (A B : Order)
 unfolding Product·swap
 Product·swap-max min A B = grow·addedMax (Pairs·swap (trim min true A) (trim min true B)) min
 
--- The added minimal element lies directly under the pairs of two lowest elements in use, and under no other pair.
+-- The added minimal element lies directly under the pairs of two lowest elements in use, and under no other pair; under
+-- nothing but pairs, by addedMin·only.
 pub Product·min-under : (max : Bool) {A B : Order} → Ranked A → Ranked B → (x : InUse true max A B .Elem)
     → Product true max A B .Under (addedMin max (InUse true max A B)) (inside true max (InUse true max A B) x)
     ↔ (Lowest (trim true max A) (x .0) × Lowest (trim true max B) (x .1))
 Product·min-under max {A} {B} rA rB x =
     Iff·trans (addedMin·under (InUse·ranked true max rA rB) max x) (Pairs·lowest (trim true max A) (trim true max B) x)
 
--- The added maximal element lies directly over the pairs of two highest elements in use, and over no other pair.
+-- The added maximal element lies directly over the pairs of two highest elements in use, and over no other pair; over
+-- nothing but pairs, by addedMax·only.
 pub Product·max-over : (min : Bool) {A B : Order} → Ranked A → Ranked B → (x : InUse min true A B .Elem)
     → Product min true A B .Under (inside min true (InUse min true A B) x) (addedMax min (InUse min true A B))
     ↔ (Highest (trim min true A) (x .0) × Highest (trim min true B) (x .1))

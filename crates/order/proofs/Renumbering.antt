@@ -113,7 +113,7 @@ OneOther·same P Q y to from o = record {
 }
 
 module _ {A B : Order} (f : Renumbering A B) where
-  -- what lies directly under, where one of the two is in B already
+  -- to-under, where the upper element is given in B
   under-to : (w : A .Elem) (y : B .Elem) → B .Exists y → A .Under w (f .from y) → B .Under (f .to w) y
   under-to w y e r = subst (λ t. B .Under (f .to w) t) (f .to-from y e) (f .to-under _ _ r)
 
@@ -139,7 +139,7 @@ module _ {A B : Order} (f : Renumbering A B) where
         sym (f .to-from x e) ∙ ap (f .to) (s .least-only (f .from x) (f .from-exists x e) (from-rank f x e ∙ h));
   }
 
-  -- one other among things that exist is carried over
+  -- one other among elements that exist is carried over
   carry : (P : A .Elem → Type 0) (Q : B .Elem → Type 0) (y : B .Elem) → B .Exists y → P (f .from y)
       → ((w : A .Elem) → P w → A .Exists w) → ((w : B .Elem) → Q w → B .Exists w)
       → ((w : A .Elem) → P w → Q (f .to w)) → ((w : B .Elem) → Q w → P (f .from w))
@@ -149,6 +149,7 @@ module _ {A B : Order} (f : Renumbering A B) where
       (λ v w p q e. sym (f .from-to v (pe v p)) ∙ ap (f .from) e ∙ f .from-to w (pe w q)) py (f .to-from y ey) o
 
 module _ {A B : Order} (rA : Ranked A) (rB : Ranked B) (f : Renumbering A B) where
+  -- one other between two elements, and one other under an element, carried over
   pub Renumbering·between : (x y z : B .Elem) → B .Under x y → B .Under y z
       → OneOther (Between A (f .from x) (f .from z)) (f .from y) → OneOther (Between B x z) y
   unfolding Renumbering·turned
@@ -160,10 +161,6 @@ module _ {A B : Order} (rA : Ranked A) (rB : Ranked B) (f : Renumbering A B) whe
       (λ w p. (under-to (Renumbering·turned f) w x ex (p .0), under-to f w z ez (p .1)))
       (λ w q. (f .from-under _ _ (q .0), f .from-under _ _ (q .1))) o
 
-  pub Renumbering·diamond : Diamond A → Diamond B
-  unfolding Diamond
-  Renumbering·diamond d x y z r s = Renumbering·between x y z r s (d _ _ _ (f .from-under _ _ r) (f .from-under _ _ s))
-
   pub Renumbering·below : (x y : B .Elem) → B .Under x y → OneOther (λ w. A .Under w (f .from y)) (f .from x)
       → OneOther (λ w. B .Under w y) x
   Renumbering·below x y r o =
@@ -171,6 +168,10 @@ module _ {A B : Order} (rA : Ranked A) (rB : Ranked B) (f : Renumbering A B) whe
       carry f (λ w. A .Under w (f .from y)) (λ w. B .Under w y) x (e .0) (f .from-under _ _ r)
       (λ w p. rA .exist _ _ p .0) (λ w q. rB .exist _ _ q .0) (λ w p. under-to f w y (e .1) p)
       (λ w q. f .from-under _ _ q) o
+
+  pub Renumbering·diamond : Diamond A → Diamond B
+  unfolding Diamond
+  Renumbering·diamond d x y z r s = Renumbering·between x y z r s (d _ _ _ (f .from-under _ _ r) (f .from-under _ _ s))
 
   pub Renumbering·low-diamond : LowDiamond A → LowDiamond B
   unfolding LowDiamond

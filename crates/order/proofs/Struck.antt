@@ -1,4 +1,4 @@
--- A closed cell less an end: the rank at that end struck; and what was added is struck again.
+-- A closed cell less an end: the rank at that end is struck. And what was added at an end is struck again.
 -- Assumes nothing.
 use mathlib.Core.Path.{_≡_, refl, ap, _∙_, subst}
 use mathlib.Core.Logic.{_↔_}
@@ -13,7 +13,7 @@ use Rattle.order.proofs.Renumbering.{from-rank, Renumbering·back, Renu
 use Rattle.order.proofs.Renumbering.{turned·ranked, turned·turned, OneOther·same, turned·cell}
 use Rattle.order.proofs.Added.{withMin·ranked}
 
--- Ranks one lower, and counted from above: in plain numbers.
+-- Ranks one lower, and counted from above, as plain numbers.
 pred-step : (r s : ℕ) → 0 < r → s ≡ suc r → pred s ≡ suc (pred r)
 pred-step r s p h = omega arith
 
@@ -58,16 +58,19 @@ module _ {W : Order} (rW : Ranked W) where
       let low = s .least-only (t .0) (rW .exist _ _ (t .1) .0) (omega (arith, rW .step _ _ (t .1))) in
       subst (λ v. W .Under v x) low (t .1)
 
-  -- the two between the least element and y
+  -- what is left under y is what lies between the least element and y
   withoutMin·low-diamond : Rooted W → OneLowest W → Diamond W → LowDiamond (withoutMin W)
   unfolding LowDiamond Diamond
   withoutMin·low-diamond ro s d x y r h =
-      let one : W .rank x ≡ 1 = pred-zero _ (r .1) h in
-      let up : (w : W .Elem) → W .Under w y → W .Under (s .least) w =
-      λ w u. over-least ro s w (rW .exist _ _ u .0) (omega (arith, rW .step w y u, rW .step x y (r .0))) in
       OneOther·same (Between W (s .least) y) (λ w. withoutMin W .Under w y) x
-      (λ w p. (p .1, omega (arith, rW .step _ _ (p .0)))) (λ w p. (up w (p .0), p .0))
-      (d (s .least) x y (up x (r .0)) (r .0))
+      (λ w p. (p .1, omega (arith, rW .step _ _ (p .0)))) (λ w p. (over w (p .0), p .0))
+      (d (s .least) x y (over x (r .0)) (r .0))
+    where
+      one : W .rank x ≡ 1
+      one = pred-zero _ (r .1) h
+
+      over : (w : W .Elem) → W .Under w y → W .Under (s .least) w
+      over w u = over-least ro s w (rW .exist w y u .0) (omega (arith, one, rW .step w y u, rW .step x y (r .0)))
 
   withoutMin·high-diamond : LowDiamond (turned W) → LowDiamond (turned (withoutMin W))
   unfolding LowDiamond
@@ -152,11 +155,12 @@ unfoldable pub withoutMax·renumbered : {A B : Order} → Ranked A → Ranked B 
 withoutMax·renumbered rA rB f =
     Renumbering·turned (withoutMin·renumbered (turned·ranked rA) (turned·ranked rB) (Renumbering·turned f))
 
--- the element that was there; d in place of the added one
+-- The element that was there, and d for the added one.
 abbrev pub before : {E : Type 0} → E → Added E → E
 before d end = d
 before d (old x) = x
 
+-- What was added is struck again: the laws of a renumbering, one by one, and then the renumbering.
 module _ (W : Order) (d : W .Elem) where
   pub before-exists : (x : Added (W .Elem)) → AddedExists W x × (0 < addedRank W x) → W .Exists (before d x)
   before-exists end e = absurd (omega (arith, e .1))

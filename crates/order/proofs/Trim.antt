@@ -82,7 +82,7 @@ trim·grow true false {W} rW d = withoutMin·withMin W d
 trim·grow false true rW d = withoutMax·withMax rW d
 trim·grow false false {W} rW d = Renumbering·same W
 
--- What the renumberings do with the elements that were there, and with the added ends.
+-- What the renumberings do with the elements that were there, and with the added ends, by computation.
 pub trim·grow-from : (min max : Bool) {W : Order} (rW : Ranked W) (d x : W .Elem)
     → trim·grow min max rW d .from x ≡ kept min max (grow min max W) (inside min max W x)
 unfolding trim·grow Renumbering·same Renumbering·back Renumbering·then Renumbering·turned turned·turned
@@ -125,7 +125,7 @@ module _ {W : Order} (rW : Ranked W) where
   addedMax·over true x = from-above x
   addedMax·over false x = from-above x
 
--- And there is nothing else next to them.
+-- Nothing else lies directly over the added minimal element, or directly under the maximal one.
 pub addedMin·only : (max : Bool) (W : Order) (y : grow true max W .Elem) → grow true max W .Under (addedMin max W) y
     → (x : W .Elem) × (y ≡ inside true max W x)
 addedMin·only true W end r = absurd r

@@ -4,7 +4,7 @@
 -- Pairs   the structure of all pairs: ranks add up, and `directly under` is a step between pairs that exist
 -- swap    a pair with its members exchanged
 use mathlib.Core.Path.{_≡_}
-use Prim.Native.Nat.{ℕ, _+_}
+use Prim.Native.Nat.{_+_}
 use Rattle.order.specs.Structure.{Order}
 
 pub data Step {E F : Type 0} (R : E → E → Type 0) (S : F → F → Type 0) (x y : E × F) : Type 0 where
