@@ -3,3 +3,7 @@ pub mod Bands
 pub mod Counts
 pub mod Listing
 pub mod ShapeExact
+pub mod Sequences
+pub mod Layers
+pub mod Written
+pub mod Rewritten
