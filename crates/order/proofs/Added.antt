@@ -7,10 +7,10 @@ use native.Mathlib.Decide.{decLt}
 use native.Mathlib.Omega.{arith}
 use lib.Dec.{T}
 use Rattle.order.specs.Structure.{Order, Ranked, turned, Renumbering}
-use Rattle.order.specs.Diamond.{Between, Diamond, LowDiamond, Rooted, SomeLowest, OneLowest, Cell}
+use Rattle.order.specs.Diamond.{Between, Diamond, LowDiamond, Rooted, SomeLowest, OneLowest, Frame, Cell}
 use Rattle.order.specs.Ends.{Added, end, old, AddedExists, addedRank, AddedUnder, withMin, withMax}
 use Rattle.order.proofs.Renumbering.{Renumbering·back, Renumbering·turned, turned·ranked}
-use Rattle.order.proofs.Renumbering.{OneOther·map, turned·cell}
+use Rattle.order.proofs.Renumbering.{OneOther·map, turned·frame, turned·cell}
 
 pub withMin·ranked : {W : Order} → Ranked W → Ranked (withMin W)
 withMin·ranked {W} rW = record { exist = exist; step = step; cap = cap }
@@ -110,12 +110,8 @@ module _ (W : Order) where
   withMin·hung l d end e h = (old (l .low), (l .low-exists, l .low-rank))
   withMin·hung l d (old x) e h = let t = d x e (omega arith) in (old (t .0), t .1)
 
-pub withMin·cell : {max : Bool} {W : Order} → Ranked W → (T max → 0 < W .top) → Cell true max W
-    → Cell false max (withMin W)
-withMin·cell {W = W} rW p g = record {
-  diamond = withMin·diamond W rW (g .diamond) (g .low-diamond tt);
-  low-diamond = λ t. absurd t;
-  high-diamond = λ t. withMin·high-diamond W (p t) (g .high-diamond t);
+pub withMin·frame : {max : Bool} {W : Order} → Frame true max W → Frame false max (withMin W)
+withMin·frame {W = W} g = record {
   one-lowest = λ t. withMin·one-lowest W;
   one-highest = λ t. withMin·one-highest W (g .one-highest t);
   rooted = withMin·rooted W (g .rooted);
@@ -125,6 +121,18 @@ withMin·cell {W = W} rW p g = record {
       let s = g .some-highest in
       record { low = old (s .low); low-exists = s .low-exists; low-rank = omega (arith, s .low-rank) };
 }
+
+pub withMin·cell : {max : Bool} {W : Order} → Ranked W → (T max → 0 < W .top) → Cell true max W
+    → Cell false max (withMin W)
+withMin·cell {W = W} rW p g = record {
+  frame = withMin·frame (g .frame);
+  diamond = withMin·diamond W rW (g .diamond) (g .low-diamond tt);
+  low-diamond = λ t. absurd t;
+  high-diamond = λ t. withMin·high-diamond W (p t) (g .high-diamond t);
+}
+
+pub withMax·frame : {min : Bool} {W : Order} → Ranked W → Frame min true W → Frame min false (withMax W)
+withMax·frame rW g = turned·frame (withMin·ranked (turned·ranked rW)) (withMin·frame (turned·frame rW g))
 
 pub withMax·cell : {min : Bool} {W : Order} → Ranked W → (T min → 0 < W .top) → Cell min true W
     → Cell min false (withMax W)

@@ -7,7 +7,8 @@ use Prim.Native.Nat.{_<_}
 use native.Mathlib.Decide.{decLt}
 use native.Mathlib.Omega.{arith}
 use Rattle.order.specs.Structure.{Order, Ranked}
-use Rattle.order.specs.Diamond.{OneOther, Between, Diamond, LowDiamond, Rooted, SomeLowest, OneLowest, Cell}
+use Rattle.order.specs.Diamond.{OneOther, Between, Diamond, LowDiamond}
+use Rattle.order.specs.Diamond.{Rooted, SomeLowest, OneLowest, Frame, Cell}
 use Rattle.order.specs.Pairs.{Step, left, right, Pairs, swap}
 use Rattle.order.proofs.Renumbering.{turned·ranked, OneOther·map, Renumbering·between, Renumbering·below}
 use Rattle.order.proofs.Renumbering.{Renumbering·low-diamond, Renumbering·rooted}
@@ -128,23 +129,31 @@ module _ {A B : Order} (rA : Ranked A) (rB : Ranked B) where
       go (right e b) = Renumbering·below (Pairs·ranked rB rA) (Pairs·ranked rA rB) (Pairs·swap B A) x y r
           (first-low rB rA dB (swap x) (swap y) (swap (r .1)) (omega arith) b e)
 
+pub Pairs·frame : {min max : Bool} {A B : Order} → Ranked A → Ranked B → Frame min max A → Frame min max B
+    → Frame min max (Pairs A B)
+Pairs·frame rA rB g h =
+    let f = Pairs·turned rA rB in
+    record {
+      one-lowest = λ t. Pairs·one-lowest (g .one-lowest t) (h .one-lowest t);
+      one-highest = λ t. Renumbering·one-lowest f (Pairs·one-lowest (g .one-highest t) (h .one-highest t));
+      rooted = Pairs·rooted rA rB (g .rooted) (h .rooted);
+      hung = Renumbering·rooted f (Pairs·rooted (turned·ranked rA) (turned·ranked rB) (g .hung) (h .hung));
+      some-lowest = Pairs·some-lowest (g .some-lowest) (h .some-lowest);
+      some-highest = Renumbering·some-lowest f (Pairs·some-lowest (g .some-highest) (h .some-highest));
+    }
+
 pub Pairs·cell : {min max : Bool} {A B : Order} → Ranked A → Ranked B → Cell min max A → Cell min max B
     → Cell min max (Pairs A B)
 Pairs·cell rA rB g h =
     let tA = turned·ranked rA in
     let tB = turned·ranked rB in
-    let f = Pairs·turned rA rB in
     let rP = Pairs·ranked tA tB in
     let rT = turned·ranked (Pairs·ranked rA rB) in
     record {
+      frame = Pairs·frame rA rB (g .frame) (h .frame);
       diamond = Pairs·diamond rA rB (g .diamond) (h .diamond);
       low-diamond = λ t. Pairs·low-diamond rA rB (g .low-diamond t) (h .low-diamond t);
       high-diamond = λ t.
-          Renumbering·low-diamond rP rT f (Pairs·low-diamond tA tB (g .high-diamond t) (h .high-diamond t));
-      one-lowest = λ t. Pairs·one-lowest (g .one-lowest t) (h .one-lowest t);
-      one-highest = λ t. Renumbering·one-lowest f (Pairs·one-lowest (g .one-highest t) (h .one-highest t));
-      rooted = Pairs·rooted rA rB (g .rooted) (h .rooted);
-      hung = Renumbering·rooted f (Pairs·rooted tA tB (g .hung) (h .hung));
-      some-lowest = Pairs·some-lowest (g .some-lowest) (h .some-lowest);
-      some-highest = Renumbering·some-lowest f (Pairs·some-lowest (g .some-highest) (h .some-highest));
+          Renumbering·low-diamond rP rT (Pairs·turned rA rB)
+          (Pairs·low-diamond tA tB (g .high-diamond t) (h .high-diamond t));
     }

@@ -8,13 +8,14 @@ use Prim.Native.Nat.{ℕ, pred, _+_, _≤_, _<_}
 use native.Mathlib.Omega.{arith}
 use lib.Dec.{T}
 use Rattle.order.specs.Structure.{Order, Ranked, Lowest, Highest, Renumbering}
-use Rattle.order.specs.Diamond.{Cell}
+use Rattle.order.specs.Diamond.{Frame, Cell}
 use Rattle.order.specs.Pairs.{swap}
-use Rattle.order.specs.Ends.{trim, InUse, Product, need, kept, inside, addedMin, addedMax}
+use Rattle.order.specs.Ends.{trim, InUse, Product, need, together, kept, inside, addedMin, addedMax}
 use Rattle.order.proofs.Renumbering.{Renumbering·back}
 use Rattle.order.proofs.Pairs.{Pairs·ranked, Pairs·swap, Pairs·renumbered, Pairs·lowest, Pairs·highest}
-use Rattle.order.proofs.PairsCell.{Pairs·cell}
-use Rattle.order.proofs.Trim.{trim·ranked, grow·ranked, trim·cell, grow·cell, trim·renumbered, grow·renumbered}
+use Rattle.order.proofs.PairsCell.{Pairs·frame, Pairs·cell}
+use Rattle.order.proofs.Trim.{trim·ranked, grow·ranked, trim·frame, grow·frame, trim·cell, grow·cell}
+use Rattle.order.proofs.Trim.{trim·renumbered, grow·renumbered}
 use Rattle.order.proofs.Trim.{trim·grow, trim·grow-from, grow·inside, grow·addedMin, grow·addedMax}
 use Rattle.order.proofs.Trim.{addedMin·under, addedMax·over}
 
@@ -25,17 +26,27 @@ pub Product·ranked : (min max : Bool) {A B : Order} → Ranked A → Ranked B �
 Product·ranked min max rA rB = grow·ranked min max (InUse·ranked min max rA rB)
 
 -- Where both ends are taken off, more than one rank of pairs is left.
-room : (min max : Bool) (A B : Order) → (T min → T max → 5 ≤ A .top + B .top) → T min → T max
+room : (min max : Bool) (A B : Order) → together min max ≤ A .top + B .top → T min → T max
     → 0 < InUse min max A B .top
-room true true A B h s t = left-over (A .top) (B .top) (h tt tt)
+room true true A B h s t = left-over (A .top) (B .top) h
   where
-    left-over : (a b : ℕ) → 5 ≤ a + b → 0 < pred (pred a) + pred (pred b)
+    left-over : (a b : ℕ) → together true true ≤ a + b → 0 < pred (pred a) + pred (pred b)
     left-over a b h = omega arith
 room true false A B h s t = absurd t
 room false max A B h s t = absurd s
 
+-- The product of two frames is a frame.
+pub Product·frame : (min max : Bool) {A B : Order} → Ranked A → Ranked B → need min max ≤ A .top → need min max ≤ B .top
+    → Frame false false A → Frame false false B → Frame false false (Product min max A B)
+Product·frame min max rA rB p q gA gB =
+    let tA = trim·ranked min max rA in
+    let tB = trim·ranked min max rB in
+    grow·frame min max (Pairs·ranked tA tB)
+    (Pairs·frame tA tB (trim·frame min max rA p gA) (trim·frame min max rB q gB))
+
+-- The product of two closed cells is a closed cell.
 pub Product·cell : (min max : Bool) {A B : Order} → Ranked A → Ranked B → need min max ≤ A .top → need min max ≤ B .top
-    → (T min → T max → 5 ≤ A .top + B .top) → Cell false false A → Cell false false B
+    → together min max ≤ A .top + B .top → Cell false false A → Cell false false B
     → Cell false false (Product min max A B)
 Product·cell min max {A} {B} rA rB p q h gA gB =
     let tA = trim·ranked min max rA in

@@ -5,7 +5,8 @@ use mathlib.Core.Logic.{_⊎_, inl, inr}
 use mathlib.Core.Bool.{Bool}
 use native.Mathlib.Omega.{arith}
 use Rattle.order.specs.Structure.{Order, Ranked, turned, Renumbering}
-use Rattle.order.specs.Diamond.{OneOther, Between, Diamond, LowDiamond, Rooted, SomeLowest, OneLowest, Cell}
+use Rattle.order.specs.Diamond.{OneOther, Between, Diamond, LowDiamond}
+use Rattle.order.specs.Diamond.{Rooted, SomeLowest, OneLowest, Frame, Cell}
 
 unfoldable pub Renumbering·same : (W : Order) → Renumbering W W
 Renumbering·same W = record {
@@ -178,14 +179,10 @@ module _ {A B : Order} (rA : Ranked A) (rB : Ranked B) (f : Renumbering A B) whe
   Renumbering·low-diamond d x y r h =
       Renumbering·below x y r (d _ _ (f .from-under _ _ r) (from-rank f x (rB .exist x y r .0) ∙ h))
 
-pub Renumbering·cell : {min max : Bool} {A B : Order} → Ranked A → Ranked B → Renumbering A B → Cell min max A
-    → Cell min max B
-Renumbering·cell rA rB f g =
+pub Renumbering·frame : {min max : Bool} {A B : Order} → Renumbering A B → Frame min max A → Frame min max B
+Renumbering·frame f g =
     let f′ = Renumbering·turned f in
     record {
-      diamond = Renumbering·diamond rA rB f (g .diamond);
-      low-diamond = λ t. Renumbering·low-diamond rA rB f (g .low-diamond t);
-      high-diamond = λ t. Renumbering·low-diamond (turned·ranked rA) (turned·ranked rB) f′ (g .high-diamond t);
       one-lowest = λ t. Renumbering·one-lowest f (g .one-lowest t);
       one-highest = λ t. Renumbering·one-lowest f′ (g .one-highest t);
       rooted = Renumbering·rooted f (g .rooted);
@@ -194,23 +191,39 @@ Renumbering·cell rA rB f g =
       some-highest = Renumbering·some-lowest f′ (g .some-highest);
     }
 
+pub Renumbering·cell : {min max : Bool} {A B : Order} → Ranked A → Ranked B → Renumbering A B → Cell min max A
+    → Cell min max B
+Renumbering·cell rA rB f g = record {
+  frame = Renumbering·frame f (g .frame);
+  diamond = Renumbering·diamond rA rB f (g .diamond);
+  low-diamond = λ t. Renumbering·low-diamond rA rB f (g .low-diamond t);
+  high-diamond = λ t.
+      Renumbering·low-diamond (turned·ranked rA) (turned·ranked rB) (Renumbering·turned f) (g .high-diamond t);
+}
+
 pub turned·diamond : (W : Order) → Diamond W → Diamond (turned W)
 unfolding Diamond
 turned·diamond W d x y z r s =
     OneOther·same (Between W z x) (Between (turned W) x z) y (λ w p. (p .1, p .0)) (λ w p. (p .1, p .0)) (d z y x s r)
 
-pub turned·cell : {min max : Bool} {W : Order} → Ranked W → Cell min max W → Cell max min (turned W)
-turned·cell {W = W} rW g =
+pub turned·frame : {min max : Bool} {W : Order} → Ranked W → Frame min max W → Frame max min (turned W)
+turned·frame rW g =
     let f = turned·turned rW in
-    let r″ = turned·ranked (turned·ranked rW) in
     record {
-      diamond = turned·diamond W (g .diamond);
-      low-diamond = g .high-diamond;
-      high-diamond = λ t. Renumbering·low-diamond rW r″ f (g .low-diamond t);
       one-lowest = g .one-highest;
       one-highest = λ t. Renumbering·one-lowest f (g .one-lowest t);
       rooted = g .hung;
       hung = Renumbering·rooted f (g .rooted);
       some-lowest = g .some-highest;
       some-highest = Renumbering·some-lowest f (g .some-lowest);
+    }
+
+pub turned·cell : {min max : Bool} {W : Order} → Ranked W → Cell min max W → Cell max min (turned W)
+turned·cell {W = W} rW g =
+    let r″ = turned·ranked (turned·ranked rW) in
+    record {
+      frame = turned·frame rW (g .frame);
+      diamond = turned·diamond W (g .diamond);
+      low-diamond = g .high-diamond;
+      high-diamond = λ t. Renumbering·low-diamond rW r″ (turned·turned rW) (g .low-diamond t);
     }

@@ -6,11 +6,11 @@ use mathlib.Core.Bool.{Bool, true, false}
 use Prim.Native.Nat.{ℕ, suc, pred, _-_, _≤_, _<_}
 use native.Mathlib.Omega.{arith}
 use Rattle.order.specs.Structure.{Order, Ranked, turned, Renumbering}
-use Rattle.order.specs.Diamond.{Between, Diamond, LowDiamond, Rooted, SomeLowest, OneLowest, Cell}
+use Rattle.order.specs.Diamond.{Between, Diamond, LowDiamond, Rooted, SomeLowest, OneLowest, Frame, Cell}
 use Rattle.order.specs.Ends.{Added, end, old, AddedExists, addedRank, AddedUnder}
 use Rattle.order.specs.Ends.{withMin, withMax, withoutMin, withoutMax}
 use Rattle.order.proofs.Renumbering.{from-rank, Renumbering·back, Renumbering·then, Renumbering·turned}
-use Rattle.order.proofs.Renumbering.{turned·ranked, turned·turned, OneOther·same, turned·cell}
+use Rattle.order.proofs.Renumbering.{turned·ranked, turned·turned, OneOther·same, turned·frame, turned·cell}
 use Rattle.order.proofs.Added.{withMin·ranked}
 
 -- Ranks one lower, and counted from above, as plain numbers.
@@ -115,12 +115,9 @@ module _ {W : Order} (rW : Ranked W) where
         low-rank = ap pred (up ∙ ap suc (s .low-rank));
       }
 
-pub withoutMin·cell : {max : Bool} {W : Order} → Ranked W → 0 < W .top → Cell false max W
-    → Cell true max (withoutMin W)
-withoutMin·cell rW p g = record {
-  diamond = withoutMin·diamond rW (g .diamond);
-  low-diamond = λ t. withoutMin·low-diamond rW (g .rooted) (g .one-lowest tt) (g .diamond);
-  high-diamond = λ t. withoutMin·high-diamond rW (g .high-diamond t);
+pub withoutMin·frame : {max : Bool} {W : Order} → Ranked W → 0 < W .top → Frame false max W
+    → Frame true max (withoutMin W)
+withoutMin·frame rW p g = record {
   one-lowest = λ t. absurd t;
   one-highest = λ t. withoutMin·one-highest rW p (g .one-highest t);
   rooted = withoutMin·rooted rW (g .rooted);
@@ -128,6 +125,21 @@ withoutMin·cell rW p g = record {
   some-lowest = withoutMin·some-lowest rW p (g .hung) (g .some-lowest);
   some-highest = withoutMin·some-highest rW p (g .some-highest);
 }
+
+pub withoutMin·cell : {max : Bool} {W : Order} → Ranked W → 0 < W .top → Cell false max W
+    → Cell true max (withoutMin W)
+withoutMin·cell rW p g = record {
+  frame = withoutMin·frame rW p (g .frame);
+  diamond = withoutMin·diamond rW (g .diamond);
+  low-diamond = λ t. withoutMin·low-diamond rW (g .frame .rooted) (g .frame .one-lowest tt) (g .diamond);
+  high-diamond = λ t. withoutMin·high-diamond rW (g .high-diamond t);
+}
+
+pub withoutMax·frame : {min : Bool} {W : Order} → Ranked W → 0 < W .top → Frame min false W
+    → Frame min true (withoutMax W)
+withoutMax·frame rW p g =
+    let tW = turned·ranked rW in
+    turned·frame (withoutMin·ranked tW) (withoutMin·frame tW p (turned·frame rW g))
 
 pub withoutMax·cell : {min : Bool} {W : Order} → Ranked W → 0 < W .top → Cell min false W
     → Cell min true (withoutMax W)

@@ -7,14 +7,16 @@ use Prim.Native.Nat.{ℕ, pred, _≤_, _<_}
 use native.Mathlib.Omega.{arith}
 use lib.Dec.{T}
 use Rattle.order.specs.Structure.{Order, Ranked, Lowest, Highest, turned, Renumbering}
-use Rattle.order.specs.Diamond.{Cell}
+use Rattle.order.specs.Diamond.{Frame, Cell}
 use Rattle.order.specs.Ends.{end, old, withMax, trimMin, trim, growMax, grow}
 use Rattle.order.specs.Ends.{need, kept, inside, addedMin, addedMax}
 use Rattle.order.proofs.Renumbering.{Renumbering·same, Renumbering·back, Renumbering·then}
 use Rattle.order.proofs.Renumbering.{Renumbering·turned, turned·turned}
-use Rattle.order.proofs.Added.{withMin·ranked, withMax·ranked, withMin·cell, withMax·cell}
+use Rattle.order.proofs.Added.{withMin·ranked, withMax·ranked, withMin·frame, withMax·frame}
+use Rattle.order.proofs.Added.{withMin·cell, withMax·cell}
 use Rattle.order.proofs.Added.{withMin·renumbered, withMax·renumbered}
-use Rattle.order.proofs.Struck.{withoutMin·ranked, withoutMax·ranked, withoutMin·cell, withoutMax·cell}
+use Rattle.order.proofs.Struck.{withoutMin·ranked, withoutMax·ranked, withoutMin·frame, withoutMax·frame}
+use Rattle.order.proofs.Struck.{withoutMin·cell, withoutMax·cell}
 use Rattle.order.proofs.Struck.{withoutMin·renumbered, withoutMax·renumbered}
 use Rattle.order.proofs.Struck.{withoutMin·withMin, withoutMax·withMax}
 
@@ -34,15 +36,29 @@ pub grow·ranked : (min max : Bool) {W : Order} → Ranked W → Ranked (grow mi
 grow·ranked true max rW = withMin·ranked (growMax·ranked max rW)
 grow·ranked false max rW = growMax·ranked max rW
 
+two-off : (t : ℕ) → need true true ≤ t → 0 < pred t
+two-off t h = omega arith
+
+pub trim·frame : (min max : Bool) {W : Order} → Ranked W → need min max ≤ W .top → Frame false false W
+    → Frame min max (trim min max W)
+trim·frame true true rW h g =
+    withoutMax·frame (withoutMin·ranked rW) (two-off _ h) (withoutMin·frame rW (omega arith) g)
+trim·frame true false rW h g = withoutMin·frame rW h g
+trim·frame false true rW h g = withoutMax·frame rW h g
+trim·frame false false rW h g = g
+
 pub trim·cell : (min max : Bool) {W : Order} → Ranked W → need min max ≤ W .top → Cell false false W
     → Cell min max (trim min max W)
-trim·cell true true rW h g = withoutMax·cell (withoutMin·ranked rW) (pos _ h) (withoutMin·cell rW (omega arith) g)
-  where
-    pos : (t : ℕ) → 2 ≤ t → 0 < pred t
-    pos t h = omega arith
+trim·cell true true rW h g = withoutMax·cell (withoutMin·ranked rW) (two-off _ h) (withoutMin·cell rW (omega arith) g)
 trim·cell true false rW h g = withoutMin·cell rW h g
 trim·cell false true rW h g = withoutMax·cell rW h g
 trim·cell false false rW h g = g
+
+pub grow·frame : (min max : Bool) {W : Order} → Ranked W → Frame min max W → Frame false false (grow min max W)
+grow·frame true true rW g = withMin·frame (withMax·frame rW g)
+grow·frame true false rW g = withMin·frame g
+grow·frame false true rW g = withMax·frame rW g
+grow·frame false false rW g = g
 
 pub grow·cell : (min max : Bool) {W : Order} → Ranked W → (T min → T max → 0 < W .top) → Cell min max W
     → Cell false false (grow min max W)

@@ -8,7 +8,8 @@
 -- Rooted       every element above the lowest rank has one directly under it
 -- SomeLowest   an element of the lowest rank
 -- OneLowest    bounded at the lower end: exactly one element of the lowest rank
--- Cell         a closed cell, whose minimal (maximal) element is taken off where min (max) says so
+-- Frame        bounded and rooted at both ends; the minimal (maximal) element is taken off where min (max) says so
+-- Cell         a closed cell, with its ends or without them as in Frame: a frame with the diamond
 use mathlib.Core.Path.{_≡_}
 use mathlib.Core.Logic.{_≢_, _⊎_}
 use mathlib.Core.Bool.{Bool, not}
@@ -45,13 +46,16 @@ pub record OneLowest (W : Order) : Type 0 where
   pub least-rank : W .rank least ≡ 0
   pub least-only : (x : W .Elem) → W .Exists x → W .rank x ≡ 0 → x ≡ least
 
-pub record Cell (min max : Bool) (W : Order) : Type 0 where
-  pub diamond : Diamond W
-  pub low-diamond : T min → LowDiamond W
-  pub high-diamond : T max → LowDiamond (turned W)
+pub record Frame (min max : Bool) (W : Order) : Type 0 where
   pub one-lowest : T (not min) → OneLowest W
   pub one-highest : T (not max) → OneLowest (turned W)
   pub rooted : Rooted W
   pub hung : Rooted (turned W)
   pub some-lowest : SomeLowest W
   pub some-highest : SomeLowest (turned W)
+
+pub record Cell (min max : Bool) (W : Order) : Type 0 where
+  pub frame : Frame min max W
+  pub diamond : Diamond W
+  pub low-diamond : T min → LowDiamond W
+  pub high-diamond : T max → LowDiamond (turned W)

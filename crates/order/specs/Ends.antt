@@ -10,6 +10,7 @@
 -- InUse        the pairs of what is left of two structures when they are trimmed
 -- Product      these pairs, with the ends added again
 -- need         how high a factor must be: a rank for each end that is taken off
+-- together     how high the two factors must be together
 -- kept         an element, as one of what is left of the structure when it is trimmed
 -- inside       an element, as one of the structure when it is grown; a pair, as one of the product
 -- addedMin     the minimal element that is added
@@ -95,6 +96,12 @@ need true true = 2
 need true false = 1
 need false true = 1
 need false false = 0
+
+abbrev pub together : Bool → Bool → ℕ
+together true true = 5
+together true false = 0
+together false true = 0
+together false false = 0
 
 abbrev pub kept : (min max : Bool) (W : Order) → W .Elem → trim min max W .Elem
 kept true true W x = x
