@@ -3,9 +3,11 @@
 -- refusal     the answer with a number and four fields
 -- plain       the answer with a number alone
 -- fine        the answer of no refusal
+-- ifZero      one thing where a number is 0, else another
 -- _orElse_    the first answer where it refuses, else the second
 -- on          a refusal where a test says so
 -- firstIn     the first refusal along a list
+-- firstFor    the first refusal along k numbers from i on
 -- firstOf     the first refusal along the numbers from i up to, not including, n
 use mathlib.Core.Bool.{Bool, cond}
 use mathlib.Core.List.{List, [], _∷_}

@@ -4,7 +4,8 @@
 -- rankOf        the rank
 -- elCountOf     the elements of a rank, 0 for a rank that is not there
 -- vertexCountOf the elements of rank 1
--- facetCountOf  the elements of the rank below the top; the nullitope has none
+-- facets        the elements of the rank below the top; the nullitope has none
+-- facetCountOf  the same, as an answer
 use mathlib.Core.Bool.{cond}
 use mathlib.Core.List.{List}
 use Prim.Native.Nat.{ℕ, _-_}

@@ -1,9 +1,25 @@
 -- The numbers of the refusals under names, and the bands that give a number its class.
 --
--- noRanks .. outputShort   a refusal's number, one name for each; the same names stand in src/refusal.rt
--- within                   whether a number lies from one number to another, both counted in
--- band                     the class of a number: 1 to 9 shape, 10 to 19 structure, 20 to 29 flags, 30 to 39 products
--- bandNo                   a class as a number, for callers that have no enum
+-- The same names, in the code's spelling, stand in src/refusal.rt.
+--
+-- noRanks, overRanks, overElements       no ranks; too many ranks; too many elements
+-- wrongEnds                              ends is not twice as long as there are elements
+-- overIncidences                         too many incidences
+-- fallingEnds                            ends falls, or does not come to inc's length
+-- notBounded                             not one minimal and one maximal element
+-- noSubs, noSups                         an element without subs above rank 0, without sups below the top
+-- subNotBack, supNotBack                 a sub, a sup that does not list the element back
+-- subMissing, supMissing                 a sub, a sup that does not exist
+-- thirdBetween, loneBetween              the diamond: a third element between; only one
+-- notAscending                           a list that does not strictly ascend
+-- notAFlag, outsideRanks, moreFlags      not a flag; a change outside 1 to rank - 1; more flags than room
+-- leftInvalid, rightInvalid              is_valid refuses the left, the right factor
+-- combOfPoint                            duocomb with a factor of rank 1
+-- productRanks, productElements          a product with too many ranks, elements
+-- productIncidences, outputShort         too many incidences; an output slice that is too short
+-- within                                 whether a number lies from one number to another, both counted in
+-- band                                   the class of a number: 1 to 9 shape, 10 to 19 structure, 20 to 29 flags, 30 to 39 products
+-- bandNo                                 a class as a number, for callers that have no enum
 use Prim.Native.Nat.{ℕ}
 use mathlib.Core.Bool.{Bool, cond, _&&_}
 use lib.Dec.{leb}

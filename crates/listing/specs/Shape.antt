@@ -1,6 +1,7 @@
 -- The shape of a listing.
 --
 -- fills       the numbers do not fall, begin at `from` or later, and the last is n (with no numbers: from is n)
+-- elements    the elements of all ranks
 -- shapeTest   the shape tests in their order, 1 to 6
 -- Shaped      what they ask, said of the listing
 use mathlib.Core.Path.{_≡_}

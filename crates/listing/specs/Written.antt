@@ -2,6 +2,8 @@
 --
 -- joined    the lists f 0 .. f (n - 1), one after another
 -- table     the numbers f 0 .. f (n - 1)
+-- lengths   how long each list is
+-- listAt    a list of an element: what lies under it at side 0, what lies above it at side 1
 -- nth       the nth list of the listing: the subs and the sups of each element in turn, by rank and then index
 -- written   the listing that says what the layers say, with the sups given
 use mathlib.Core.Bool.{cond}

@@ -1,10 +1,12 @@
 -- A structure with an element more, or a rank less, at an end; and the product of two structures.
 --
 -- Added        the elements of a structure and one more
+-- AddedExists, addedRank, AddedUnder   which of these exist, their ranks, and which lies directly under which
 -- withMin      an element more, directly under all of the lowest rank
 -- withMax      an element more, directly over all of the highest rank
 -- withoutMin   the same elements, those of the lowest rank struck, the ranks one lower
 -- withoutMax   the same elements, those of the highest rank struck
+-- trimMin, trimMax, growMin, growMax   one end taken off, one element added, where the Boolean says so
 -- trim         without the minimal rank where min says so, and without the maximal rank where max does
 -- grow         with a maximal element where max says so, and with a minimal one where min does
 -- InUse        the pairs of what is left of two structures when they are trimmed
