@@ -1,0 +1,4 @@
+pub mod Trimmed
+pub mod Paired
+pub mod Grown
+pub mod Product
