@@ -1,3 +1,4 @@
+pub mod Sound
 pub mod Trimmed
 pub mod Paired
 pub mod Grown

@@ -3,9 +3,10 @@
 -- bit       a flag as a number: 1 where it is set
 -- trimmed   the layers without the minimal rank where min is set, and without the maximal rank where max is: the ranks
 --           count from the lowest in use, whose elements have nothing under them
+-- Used      an element that is there and not of a rank left out
 use mathlib.Core.Bool.{Bool, true, false}
 use mathlib.Core.List.{List, []}
-use Prim.Native.Nat.{ℕ, zero, suc, _+_, _-_}
+use Prim.Native.Nat.{ℕ, zero, suc, _+_, _-_, _≤_, _<_}
 use native.Mathlib.Decide.{decLt}
 use Rattle.order.specs.Sums.{choose}
 use Rattle.listing.specs.Layers.{Layers}
@@ -27,3 +28,6 @@ trimmed min max M = record {
   size = trimSize min max M;
   under = trimUnder min M;
 }
+
+abbrev pub Used : Bool → Bool → Layers → ℕ × ℕ → Type 0
+Used min max M x = (x .1 < M .size (x .0)) × (bit min ≤ x .0) × (x .0 + bit max ≤ M .top)
