@@ -1,2 +1,4 @@
 pub mod Kept
 pub mod Trimmed
+pub mod Positions
+pub mod Paired
