@@ -1,0 +1,71 @@
+-- Layers grown at the ends, as two flags say: nothing above the top, lists still sound and sorted, and their order is
+-- that of the structure grown.
+-- Assumes nothing.
+use mathlib.Core.Path.{_≡_, refl}
+use mathlib.Core.Bool.{Bool, true, false}
+use Prim.Native.Nat.{ℕ, suc, _+_}
+use native.Mathlib.Omega.{arith}
+use Rattle.order.specs.Structure.{Renumbering}
+use Rattle.order.specs.Ends.{end, grow, inside, addedMin, addedMax}
+use Rattle.order.proofs.Renumbering.{Renumbering·same, Renumbering·then}
+use Rattle.order.proofs.Added.{withMin·renumbered}
+use Rattle.order.proofs.Pairs.{pair-path}
+use Rattle.listing.specs.Layers.{Layers, Topped, order}
+use Rattle.pairing.specs.Sound.{Sound, Sorted}
+use Rattle.pairing.specs.Trimmed.{bit}
+use Rattle.pairing.specs.Grown.{addMin, addMax, grown}
+use Rattle.pairing.proofs.Trimmed.{raised}
+use Rattle.pairing.proofs.AddMin.{addMin-topped, addMin-sound, addMin-sorted, addMin-order, addMin-order-to}
+use Rattle.pairing.proofs.AddMax.{addMax-topped, addMax-sound, addMax-sorted, addMax-order, addMax-order-to}
+
+-- What an element more at either end keeps, growing keeps.
+grown-keeps : (P : Layers → Type 0) → ((M : Layers) → P M → P (addMin M)) → ((M : Layers) → P M → P (addMax M))
+    → (min max : Bool) (M : Layers) → P M → P (grown min max M)
+grown-keeps P low high true true M p = low _ (high M p)
+grown-keeps P low high true false M p = low M p
+grown-keeps P low high false true M p = high M p
+grown-keeps P low high false false M p = p
+
+module _ (min max : Bool) (M : Layers) where
+  pub grown-topped : Topped M → Topped (grown min max M)
+  grown-topped = grown-keeps Topped addMin-topped (λ N t. addMax-topped N) min max M
+
+  pub grown-sound : Sound M → Sound (grown min max M)
+  grown-sound = grown-keeps Sound addMin-sound addMax-sound min max M
+
+  pub grown-sorted : Sorted M → Sorted (grown min max M)
+  grown-sorted = grown-keeps Sorted addMin-sorted addMax-sorted min max M
+
+pub grown-top : (min max : Bool) (M : Layers) → grown min max M .top ≡ M .top + bit min + bit max
+grown-top true true M = omega arith
+grown-top true false M = omega arith
+grown-top false true M = omega arith
+grown-top false false M = omega arith
+
+pub grown-order : (min max : Bool) (M : Layers) → Topped M
+    → Renumbering (grow min max (order M)) (order (grown min max M))
+grown-order true true M t = Renumbering·then (withMin·renumbered (addMax-order M t)) (addMin-order (addMax M))
+grown-order true false M t = addMin-order M
+grown-order false true M t = addMax-order M t
+grown-order false false M t = Renumbering·same (order M)
+
+-- its map: what was there keeps its index, the added elements have the index 0
+pub grown-inside : (min max : Bool) (M : Layers) (t : Topped M) (x : ℕ × ℕ)
+    → grown-order min max M t .to (inside min max (order M) x) ≡ raised min x
+unfolding grown-order Renumbering·same Renumbering·then withMin·renumbered
+grown-inside true true M t x = rw (addMax-order-to, addMin-order-to) (pair-path (omega arith) refl)
+grown-inside true false M t x = rw addMin-order-to (pair-path (omega arith) refl)
+grown-inside false true M t x = rw addMax-order-to (pair-path (omega arith) refl)
+grown-inside false false M t x = pair-path (omega arith) refl
+
+pub grown-addedMin : (max : Bool) (M : Layers) (t : Topped M)
+    → grown-order true max M t .to (addedMin max (order M)) ≡ (0, 0)
+unfolding grown-order Renumbering·then withMin·renumbered
+grown-addedMin true M t = addMin-order-to (addMax M) end
+grown-addedMin false M t = addMin-order-to M end
+
+pub grown-addedMax : (min : Bool) (M : Layers) (t : Topped M)
+    → grown-order min true M t .to (addedMax min (order M)) ≡ (suc (M .top) + bit min, 0)
+unfolding grown-order Renumbering·then withMin·renumbered
+grown-addedMax true M t = rw (addMax-order-to, addMin-order-to) (pair-path (omega arith) refl)
+grown-addedMax false M t = rw addMax-order-to (pair-path (omega arith) refl)
