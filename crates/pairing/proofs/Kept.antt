@@ -31,10 +31,6 @@ whole-kept true false W x = refl
 whole-kept false true W x = refl
 whole-kept false false W x = refl
 
--- Ranks r up to s are left when the ends of a structure of height t are taken off.
-abbrev pub Inner : Bool → Bool → ℕ → ℕ → ℕ → Type 0
-Inner min max t r s = (bit min ≤ r) × (s + bit max ≤ t)
-
 -- the ends of a structure of height t taken off, said of a rank as plain numbers
 top-off : (t r : ℕ) → (0 < t - r) ↔ (r + 1 ≤ t)
 top-off t r = (λ h. omega arith, λ h. omega arith)
@@ -61,15 +57,15 @@ kept-top false true W = heights _ .2
 kept-top false false W = heights _ .3
 
 module _ {W : Order} (rW : Ranked W) where
-  pub kept-exists : (min max : Bool) (x : W .Elem)
-      → trim min max W .Exists (kept min max W x) ↔ (W .Exists x × Inner min max (W .top) (W .rank x) (W .rank x))
+  pub kept-exists : (min max : Bool) (x : W .Elem) → trim min max W .Exists (kept min max W x)
+      ↔ (W .Exists x × (bit min ≤ W .rank x) × (W .rank x + bit max ≤ W .top))
   kept-exists true true x = (
-    λ e. (e .0 .0, (e .0 .1, both-off _ _ (e .0 .1) .0 (e .1))),
-    λ e. ((e .0, e .1 .0), both-off _ _ (e .1 .0) .1 (e .1 .1)),
+    λ e. (e .0 .0, e .0 .1, both-off _ _ (e .0 .1) .0 (e .1)),
+    λ e. ((e .0, e .1), both-off _ _ (e .1) .1 (e .2)),
   )
-  kept-exists true false x = (λ e. (e .0, (e .1, omega (arith, rW .cap x (e .0)))), λ e. (e .0, e .1 .0))
-  kept-exists false true x = (λ e. (e .0, (omega arith, top-off _ _ .0 (e .1))), λ e. (e .0, top-off _ _ .1 (e .1 .1)))
-  kept-exists false false x = (λ e. (e, (omega arith, omega (arith, rW .cap x e))), λ e. e .0)
+  kept-exists true false x = (λ e. (e .0, e .1, omega (arith, rW .cap x (e .0))), λ e. (e .0, e .1))
+  kept-exists false true x = (λ e. (e .0, omega arith, top-off _ _ .0 (e .1)), λ e. (e .0, top-off _ _ .1 (e .2)))
+  kept-exists false false x = (λ e. (e, omega arith, omega (arith, rW .cap x e)), λ e. e .0)
 
   pub kept-rank : (min max : Bool) (x : W .Elem) → trim min max W .Exists (kept min max W x)
       → trim min max W .rank (kept min max W x) ≡ W .rank x - bit min
@@ -85,14 +81,14 @@ module _ {W : Order} (rW : Ranked W) where
   capped x y u = omega (arith, rW .cap y (rW .exist x y u .1))
 
   pub kept-under : (min max : Bool) (x y : W .Elem) → trim min max W .Under (kept min max W x) (kept min max W y)
-      ↔ (W .Under x y × Inner min max (W .top) (W .rank x) (W .rank y))
+      ↔ (W .Under x y × (bit min ≤ W .rank x) × (W .rank y + bit max ≤ W .top))
   kept-under true true x y = (
-    λ u. (u .0 .0, (u .0 .1, both-off _ _ (above x y (u .0 .0)) .0 (u .1))),
-    λ u. ((u .0, u .1 .0), both-off _ _ (above x y (u .0)) .1 (u .1 .1)),
+    λ u. (u .0 .0, u .0 .1, both-off _ _ (above x y (u .0 .0)) .0 (u .1)),
+    λ u. ((u .0, u .1), both-off _ _ (above x y (u .0)) .1 (u .2)),
   )
-  kept-under true false x y = (λ u. (u .0, (u .1, capped x y (u .0))), λ u. (u .0, u .1 .0))
-  kept-under false true x y = (λ u. (u .0, (omega arith, top-off _ _ .0 (u .1))), λ u. (u .0, top-off _ _ .1 (u .1 .1)))
-  kept-under false false x y = (λ u. (u, (omega arith, capped x y u)), λ u. u .0)
+  kept-under true false x y = (λ u. (u .0, u .1, capped x y (u .0)), λ u. (u .0, u .1))
+  kept-under false true x y = (λ u. (u .0, omega arith, top-off _ _ .0 (u .1)), λ u. (u .0, top-off _ _ .1 (u .2)))
+  kept-under false false x y = (λ u. (u, omega arith, capped x y u), λ u. u .0)
 
 -- A renumbering of what is left does what the renumbering of the whole does.
 pub kept-to : (min max : Bool) {A B : Order} (rA : Ranked A) (rB : Ranked B) (f : Renumbering A B) (x : A .Elem)

@@ -6,3 +6,5 @@ pub mod Paired
 pub mod AddMin
 pub mod AddMax
 pub mod Grown
+pub mod Product
+pub mod ProductPairs

@@ -1,6 +1,7 @@
 -- Layers trimmed: nothing above the top, lists still sound and sorted, and their order is what is left of the order.
 -- Assumes nothing.
 use mathlib.Core.Path.{_≡_, refl, sym, ap, _∙_}
+use mathlib.Core.Logic.{_↔_}
 use mathlib.Core.Bool.{Bool}
 use Prim.Native.Nat.{ℕ, zero, suc, pred, _+_, _-_, _≤_, _<_}
 use native.Mathlib.Decide.{decLt}
@@ -13,7 +14,7 @@ use Rattle.order.proofs.Sums.{choose-yes, choose-no}
 use Rattle.order.proofs.Pairs.{pair-path}
 use Rattle.listing.specs.Layers.{Layers, Topped, order}
 use Rattle.listing.proofs.Layers.{order-ranked}
-use Rattle.pairing.specs.Sound.{Sound, Sorted}
+use Rattle.pairing.specs.Sound.{Sound, Sorted, Listed}
 use Rattle.pairing.specs.Trimmed.{bit, trimSize, trimUnder, trimmed, Used}
 use Rattle.pairing.proofs.Kept.{whole, kept-whole, whole-kept, kept-top, kept-exists, kept-rank, kept-under}
 
@@ -92,28 +93,38 @@ module _ (min max : Bool) (M : Layers) where
   )
 
 module _ (min max : Bool) (M : Layers) (t : Topped M) where
-  -- an element that is left, read as one of the whole
+  pub used-exists : (x : ℕ × ℕ) → trim min max (order M) .Exists (kept min max (order M) x) ↔ Used min max M x
+  used-exists x = kept-exists (order-ranked M t) min max x
+
+  -- among elements in use, what lies directly under what is left is what was listed
+  pub used-under : (x y : ℕ × ℕ) → Used min max M x → Used min max M y
+      → trim min max (order M) .Under (kept min max (order M) x) (kept min max (order M) y) ↔ Listed M x y
+  used-under x y p q = (
+    λ u. let k = kept-under (order-ranked M t) min max x y .0 u in (k .0 .2, k .0 .3),
+    λ l. kept-under (order-ranked M t) min max x y .1 ((p .0, q .0, l .0, l .1), p .1, q .2),
+  )
+
+  -- what is left, read as part of the whole
   left-used : (x : trim min max (order M) .Elem) → trim min max (order M) .Exists x
       → Used min max M (whole min max (order M) x)
-  left-used x e =
-      let z = whole min max (order M) x in
-      let k = kept-exists (order-ranked M t) min max z .0 (rw (kept-whole min max (order M) x) e) in
-      (k .0, k .1 .0, k .1 .1)
+  left-used x e = used-exists (whole min max (order M) x) .0 (rw (kept-whole min max (order M) x) e)
 
   left-under : (x y : trim min max (order M) .Elem) → trim min max (order M) .Under x y
       → order (trimmed min max M) .Under (lowered min (whole min max (order M) x)) (lowered min (whole min max (order M) y))
   left-under x y u =
       let v = whole min max (order M) x in
       let w = whole min max (order M) y in
-      let k = kept-under (order-ranked M t) min max v w .0 (rw (kept-whole min max (order M) x, kept-whole min max (order M) y) u) in
-      lowered-under min max M v w (k .0) (k .1 .0) (k .1 .1)
+      let e = kept-whole min max (order M) x in
+      let f = kept-whole min max (order M) y in
+      let k = kept-under (order-ranked M t) min max v w .0 (rw (e, f) u) in
+      lowered-under min max M v w (k .0) (k .1) (k .2)
 
   raised-kept : (x y : ℕ × ℕ) → order (trimmed min max M) .Under x y
       → trim min max (order M) .Under (kept min max (order M) (raised min x)) (kept min max (order M) (raised min y))
   raised-kept x y u =
       let p = raised-used min max M (x .0) (x .1) (u .0) in
       let q = raised-used min max M (y .0) (y .1) (u .1) in
-      kept-under (order-ranked M t) min max (raised min x) (raised min y) .1 (raised-under min max M x y u, (p .1, q .2))
+      kept-under (order-ranked M t) min max (raised min x) (raised min y) .1 (raised-under min max M x y u, p .1, q .2)
 
   left-rank : (x : trim min max (order M) .Elem) → trim min max (order M) .Exists x
       → whole min max (order M) x .0 - bit min ≡ trim min max (order M) .rank x
@@ -126,9 +137,7 @@ module _ (min max : Bool) (M : Layers) (t : Topped M) where
     to = λ x. lowered min (whole min max (order M) x);
     from = λ y. kept min max (order M) (raised min y);
     to-exists = λ x e. lowered-exists min max M _ _ (left-used x e);
-    from-exists = λ y e.
-        let u = raised-used min max M (y .0) (y .1) e in
-        kept-exists (order-ranked M t) min max (raised min y) .1 (u .0, (u .1, u .2));
+    from-exists = λ y e. used-exists (raised min y) .1 (raised-used min max M (y .0) (y .1) e);
     from-to = λ x e.
         ap (kept min max (order M)) (pair-path (omega (arith, left-used x e .1)) refl) ∙ kept-whole min max (order M) x;
     to-from = λ y e. rw (whole-kept min max (order M) (raised min y)) (pair-path (omega arith) refl);

@@ -2,6 +2,7 @@
 -- one is added again; max, the same for the maximal ones. Pairs are of the first and the second factor, in this order.
 --
 -- product     the layers of the product: the pairs in use, with the ends added again
+-- UsedPair    a pair of elements in use
 -- at          where a pair of elements in use stands in the product
 -- productOf   the product of two listings, written out with its derived sups
 -- nullitope   the listing of one element
@@ -11,12 +12,15 @@ use Prim.Native.Nat.{ℕ, _+_, _-_}
 use Rattle.listing.specs.Listing.{Listing, listing}
 use Rattle.listing.specs.Layers.{Layers, layers, derived}
 use Rattle.listing.specs.Written.{written}
-use Rattle.pairing.specs.Trimmed.{bit, trimmed}
+use Rattle.pairing.specs.Trimmed.{bit, trimmed, Used}
 use Rattle.pairing.specs.Paired.{El, position, paired}
 use Rattle.pairing.specs.Grown.{grown}
 
 unfoldable pub product : Bool → Bool → Layers → Layers → Layers
 product min max A B = grown min max (paired (trimmed min max A) (trimmed min max B))
+
+abbrev pub UsedPair : Bool → Bool → Layers → Layers → El × El → Type 0
+UsedPair min max A B x = Used min max A (x .0) × Used min max B (x .1)
 
 unfoldable pub at : Bool → Bool → Layers → Layers → El × El → El
 at min max A B x =
