@@ -55,6 +55,10 @@ module _ (M : Layers) where
   unfolding maxUnder
   under-top a = choose-yes (decLt (M .top) (suc (M .top))) _ _ (omega arith)
 
+  -- the added element lists all of the rank below
+  pub listed-top : (a : ℕ) → a < maxSize M (M .top) → In a (maxUnder M (suc (M .top)) 0)
+  listed-top a h = rw (under-top 0) (in-upTo a _ (rw (size-low (M .top) (omega arith)) at h))
+
   pub addMax-topped : Topped (addMax M)
   unfolding Topped maxSize
   addMax-topped r h = choose-yes (decLt (M .top) r) _ _ (omega arith) ∙ choose-yes (decLt (suc (M .top)) r) _ _ h

@@ -1,21 +1,24 @@
 -- Layers grown at the ends, as two flags say: nothing above the top, lists still sound and sorted, and their order is
 -- that of the structure grown.
 -- Assumes nothing.
-use mathlib.Core.Path.{_≡_, refl}
+use mathlib.Core.Path.{_≡_, refl, sym}
+use mathlib.Core.Logic.{_↔_, inl}
 use mathlib.Core.Bool.{Bool, true, false}
-use Prim.Native.Nat.{ℕ, suc, _+_}
+use Prim.Native.Nat.{ℕ, suc, _+_, _<_}
 use native.Mathlib.Omega.{arith}
+use Rattle.order.specs.Lists.{In}
 use Rattle.order.specs.Structure.{Renumbering}
 use Rattle.order.specs.Ends.{end, grow, inside, addedMin, addedMax}
 use Rattle.order.proofs.Renumbering.{Renumbering·same, Renumbering·then}
 use Rattle.order.proofs.Added.{withMin·renumbered}
 use Rattle.order.proofs.Pairs.{pair-path}
 use Rattle.listing.specs.Layers.{Layers, Topped, order}
-use Rattle.pairing.specs.Sound.{Sound, Sorted}
+use Rattle.pairing.specs.Sound.{Sound, Sorted, Listed}
 use Rattle.pairing.specs.Trimmed.{bit}
-use Rattle.pairing.specs.Grown.{addMin, addMax, grown}
+use Rattle.pairing.specs.Grown.{minSize, minUnder, addMin, maxUnder, addMax, grown}
 use Rattle.pairing.proofs.Trimmed.{raised}
 use Rattle.pairing.proofs.AddMin.{addMin-topped, addMin-sound, addMin-sorted, addMin-order, addMin-order-to}
+use Rattle.pairing.proofs.AddMax.{size-top, listed-top}
 use Rattle.pairing.proofs.AddMax.{addMax-topped, addMax-sound, addMax-sorted, addMax-order, addMax-order-to}
 
 -- What an element more at either end keeps, growing keeps.
@@ -69,3 +72,33 @@ pub grown-addedMax : (min : Bool) (M : Layers) (t : Topped M)
 unfolding grown-order Renumbering·then withMin·renumbered
 grown-addedMax true M t = rw (addMax-order-to, addMin-order-to) (pair-path (omega arith) refl)
 grown-addedMax false M t = rw addMax-order-to (pair-path (omega arith) refl)
+
+-- ---- the added elements, in plain numbers
+
+module _ (max : Bool) (M : Layers) where
+  pub grown-min-size : grown true max M .size 0 ≡ 1
+  unfolding minSize
+  grown-min-size = refl
+
+  -- the added minimal element is listed by all of rank 1, and nowhere else
+  pub grown-min-listed : (y : ℕ × ℕ) → Listed (grown true max M) (0, 0) y ↔ (y .0 ≡ 1)
+  unfolding minUnder In
+  grown-min-listed y = (λ l. l .0, λ e. (e, rw e (inl refl)))
+
+pub grown-max-size : (min : Bool) (M : Layers) → grown min true M .size (grown min true M .top) ≡ 1
+unfolding minSize
+grown-max-size true M = size-top M
+grown-max-size false M = size-top M
+
+-- the added maximal element lists all of the rank below, and nothing else
+pub grown-max-listed : (min : Bool) (M : Layers) (x : ℕ × ℕ) → x .1 < grown min true M .size (x .0)
+    → Listed (grown min true M) x (grown min true M .top, 0) ↔ (suc (x .0) ≡ grown min true M .top)
+unfolding minSize minUnder
+grown-max-listed true M x h = (λ l. sym (l .0), λ e. (sym e, go e))
+  where
+    go : suc (x .0) ≡ suc (suc (M .top)) → In (x .1) (maxUnder M (suc (M .top)) 0)
+    go e = let k : x .0 ≡ suc (M .top) = omega arith in listed-top M (x .1) (rw k at h)
+grown-max-listed false M x h = (λ l. sym (l .0), λ e. (sym e, go e))
+  where
+    go : suc (x .0) ≡ suc (M .top) → In (x .1) (maxUnder M (suc (M .top)) 0)
+    go e = let k : x .0 ≡ M .top = omega arith in listed-top M (x .1) (rw k at h)

@@ -8,3 +8,5 @@ pub mod AddMax
 pub mod Grown
 pub mod Product
 pub mod ProductPairs
+pub mod ProductEnds
+pub mod ProductSwap

@@ -88,11 +88,12 @@ module _ (A B : Layers) (tA : Topped A) (tB : Topped B) (sA : Sound A) (sB : Sou
       → order (paired A B) .Under (position A B x) (position A B y)
   unfolding position
   position-under x y u =
-      let m = step-in A B x y (u .2) in
-      (position-exists A B x (u .0),
-      position-exists A B y (u .1),
-      ranked .step x y u,
-      rw (pairAt-position A B y (u .1)) m)
+      let m = step-in A B x y (u .2) in (
+        position-exists A B x (u .0),
+        position-exists A B y (u .1),
+        ranked .step x y u,
+        rw (pairAt-position A B y (u .1)) m,
+      )
 
   pairAt-under : (x y : El) → order (paired A B) .Under x y
       → Pairs (order A) (order B) .Under (pairAt A B x) (pairAt A B y)

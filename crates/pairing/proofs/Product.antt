@@ -1,16 +1,16 @@
 -- The product of two layers, once over the two flags: its lists are sound and sorted, its order is the product of the
 -- orders, and it is closed where they are.
 -- Assumes nothing.
-use mathlib.Core.Path.{_≡_, ap, _∙_}
+use mathlib.Core.Path.{_≡_, refl, ap, _∙_}
 use mathlib.Core.Bool.{Bool, true, false}
 use Prim.Native.Nat.{ℕ, _+_, _-_, _≤_}
 use native.Mathlib.Omega.{arith}
 use Rattle.order.specs.Structure.{Ranked, Renumbering}
 use Rattle.order.specs.Diamond.{Frame, Cell}
-use Rattle.order.specs.Ends.{InUse, Product, need, together, kept, inside}
+use Rattle.order.specs.Ends.{InUse, Product, need, together, kept, inside, addedMin, addedMax}
 use Rattle.order.proofs.Renumbering.{Renumbering·then, Renumbering·frame, Renumbering·cell}
-use Rattle.order.proofs.Pairs.{Pairs·renumbered}
-use Rattle.order.proofs.Trim.{grow·renumbered, grow·inside}
+use Rattle.order.proofs.Pairs.{pair-path, Pairs·renumbered}
+use Rattle.order.proofs.Trim.{grow·renumbered, grow·inside, grow·addedMin, grow·addedMax}
 use Rattle.order.proofs.Product.{Product·ranked, Product·frame, Product·cell}
 use Rattle.listing.specs.Layers.{Layers, Topped, order}
 use Rattle.listing.proofs.Layers.{order-ranked}
@@ -23,6 +23,7 @@ use Rattle.pairing.proofs.Trimmed.{trimmed-order, trimmed-order-to}
 use Rattle.pairing.proofs.Positions.{paired-topped}
 use Rattle.pairing.proofs.Paired.{paired-sound, paired-sorted, paired-order, paired-order-to}
 use Rattle.pairing.proofs.Grown.{grown-topped, grown-sound, grown-sorted, grown-top, grown-order, grown-inside}
+use Rattle.pairing.proofs.Grown.{grown-addedMin, grown-addedMax}
 
 -- The layers of the pairs in use, and a pair of elements as a pair in use.
 abbrev pub inUse : Bool → Bool → Layers → Layers → Layers
@@ -80,7 +81,7 @@ module _ (min max : Bool) (A B : Layers) (tA : Topped A) (tB : Topped B) (sA : S
   inUse-order-to : (x : El × El) → inUse-order .to (keptPair min max A B x)
       ≡ position (trimmed min max A) (trimmed min max B) (lowered min (x .0), lowered min (x .1))
   unfolding inUse-order Renumbering·then Pairs·renumbered
-  inUse-order-to x = 
+  inUse-order-to x =
       rw (trimmed-order-to min max A tA (x .0), trimmed-order-to min max B tB (x .1), paired-order-to)
 
   pub product-order : Renumbering (Product min max (order A) (order B)) (order (product min max A B))
@@ -96,6 +97,21 @@ module _ (min max : Bool) (A B : Layers) (tA : Topped A) (tB : Topped B) (sA : S
   unfolding product-order Renumbering·then at product
   product-order-to x = rw (grow·inside inUse-order min max, grown-inside) (ap (raised min) (inUse-order-to x))
 
+-- the added ends go to the ends
+pub product-order-min : (max : Bool) (A B : Layers) (tA : Topped A) (tB : Topped B) (sA : Sound A) (sB : Sound B)
+    → product-order true max A B tA tB sA sB .to (addedMin max (InUse true max (order A) (order B))) ≡ (0, 0)
+unfolding product-order Renumbering·then product
+product-order-min max A B tA tB sA sB =
+    rw (grow·addedMin (inUse-order true max A B tA tB sA sB) max, grown-addedMin)
+
+pub product-order-max : (min : Bool) (A B : Layers) (tA : Topped A) (tB : Topped B) (sA : Sound A) (sB : Sound B)
+    → product-order min true A B tA tB sA sB .to (addedMax min (InUse min true (order A) (order B)))
+    ≡ (product min true A B .top, 0)
+unfolding product-order Renumbering·then product
+product-order-max min A B tA tB sA sB =
+    rw (grow·addedMax (inUse-order min true A B tA tB sA sB) min, grown-addedMax) (pair-path (omega (arith, grown-top min true (inUse min true A B))) refl)
+
+module _ (min max : Bool) (A B : Layers) (tA : Topped A) (tB : Topped B) (sA : Sound A) (sB : Sound B) where
   rA : Ranked (order A)
   rA = order-ranked A tA
 
@@ -105,10 +121,10 @@ module _ (min max : Bool) (A B : Layers) (tA : Topped A) (tB : Topped B) (sA : S
   -- Products of frames are frames, products of closed cells closed cells.
   pub product-frame : need min max ≤ A .top → need min max ≤ B .top → Frame false false (order A)
       → Frame false false (order B) → Frame false false (order (product min max A B))
-  product-frame p q gA gB = Renumbering·frame product-order (Product·frame min max rA rB p q gA gB)
+  product-frame p q gA gB = Renumbering·frame (product-order min max A B tA tB sA sB) (Product·frame min max rA rB p q gA gB)
 
   pub product-cell : need min max ≤ A .top → need min max ≤ B .top → together min max ≤ A .top + B .top
       → Cell false false (order A) → Cell false false (order B) → Cell false false (order (product min max A B))
   product-cell p q h gA gB =
-      Renumbering·cell (Product·ranked min max rA rB) (order-ranked _ (product-topped min max A B)) product-order
-      (Product·cell min max rA rB p q h gA gB)
+      Renumbering·cell (Product·ranked min max rA rB) (order-ranked _ (product-topped min max A B))
+      (product-order min max A B tA tB sA sB) (Product·cell min max rA rB p q h gA gB)

@@ -2,7 +2,7 @@
 -- another exactly if one member of the pairs is equal and the other directly under.
 -- Assumes nothing.
 use mathlib.Core.Path.{_≡_, sym, ap, _∙_, subst}
-use mathlib.Core.Logic.{_↔_, Iff·trans, Iff·symm}
+use mathlib.Core.Logic.{_↔_, Iff·trans, Iff·symm, Iff·and}
 use mathlib.Core.Bool.{Bool}
 use Rattle.order.specs.Structure.{Renumbering}
 use Rattle.order.specs.Pairs.{Step, left, right}
@@ -45,12 +45,9 @@ module _ (min max : Bool) (A B : Layers) (tA : Topped A) (tB : Topped B) (sA : S
 
   -- ---- the same in plain numbers
 
-  keptPair-exists : (x : El × El)
+  pub keptPair-exists : (x : El × El)
       → InUse min max (order A) (order B) .Exists (keptPair min max A B x) ↔ UsedPair min max A B x
-  keptPair-exists x =
-      let a = used-exists min max A tA (x .0) in
-      let b = used-exists min max B tB (x .1) in
-      (λ e. (a .0 (e .0), b .0 (e .1)), λ u. (a .1 (u .0), b .1 (u .1)))
+  keptPair-exists x = Iff·and (used-exists min max A tA (x .0)) (used-exists min max B tB (x .1))
 
   -- where a pair in use stands there is an element, and no added one
   pub at-used : (x : El × El) → UsedPair min max A B x → Used min max (product min max A B) (at min max A B x)
@@ -67,7 +64,7 @@ module _ (min max : Bool) (A B : Layers) (tA : Topped A) (tB : Topped B) (sA : S
       → at min max A B x ≡ at min max A B y → x ≡ y
   at-one x y p q e =
       let back : El → InUse min max (order A) (order B) .Elem
-          = λ z. product-pairs .from (kept min max (order (product min max A B)) z) in
+      = λ z. product-pairs .from (kept min max (order (product min max A B)) z) in
       let k = sym (at-back x p) ∙ ap back e ∙ at-back y q in
       pair-path (kept-same min max A _ _ (ap (λ z. z .0) k)) (kept-same min max B _ _ (ap (λ z. z .1) k))
 
