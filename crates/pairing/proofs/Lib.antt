@@ -10,3 +10,4 @@ pub mod Product
 pub mod ProductPairs
 pub mod ProductEnds
 pub mod ProductSwap
+pub mod Listings
