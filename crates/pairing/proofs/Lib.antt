@@ -11,3 +11,6 @@ pub mod ProductPairs
 pub mod ProductEnds
 pub mod ProductSwap
 pub mod Listings
+pub mod Lengths
+pub mod OverPairs
+pub mod PairedLengths

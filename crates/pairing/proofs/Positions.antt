@@ -80,6 +80,11 @@ module _ (A B : Layers) where
   unfolding position
   found y x e r k = ap (pairAt A B) (pair-path (sym r) k) ∙ pairAt-position x e
 
+  -- two pairs of one rank do not stand at one place
+  pub position-one : (x y : El × El) → Pairs (order A) (order B) .Exists x → Pairs (order A) (order B) .Exists y
+      → x .0 .0 + x .1 .0 ≡ y .0 .0 + y .1 .0 → position A B x .1 ≡ position A B y .1 → x ≡ y
+  position-one x y ex ey r k = sym (pairAt-position x ex) ∙ found (position A B x) y ey (sym r ∙ sym (position-rank x)) k
+
   -- what lies under the pair that stands there
   pub paired-under : (x : El × El) → Pairs (order A) (order B) .Exists x
       → paired A B .under (position A B x .0) (position A B x .1) ≡ pairSubs A B x

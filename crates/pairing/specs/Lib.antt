@@ -3,3 +3,4 @@ pub mod Trimmed
 pub mod Paired
 pub mod Grown
 pub mod Product
+pub mod Lengths
