@@ -14,3 +14,4 @@ pub mod Listings
 pub mod Lengths
 pub mod OverPairs
 pub mod PairedLengths
+pub mod GrownLengths

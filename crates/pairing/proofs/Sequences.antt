@@ -10,7 +10,7 @@ use borrow.Author.Tests.{eq-eqb, ne-eqb}
 use lib.ListN.{length, length-append}
 use Rattle.order.specs.Lists.{In, Ascending, occurs}
 use Rattle.order.specs.Sums.{sum}
-use Rattle.order.proofs.Lists.{in-left, in-right, append-in, ascending-append, occurs-append}
+use Rattle.order.proofs.Lists.{in-left, in-right, append-in, ascending-append, ascending-once, occurs-some, occurs-append}
 use Rattle.order.proofs.Sums.{sum-zero, sum-same}
 use Rattle.listing.proofs.Sequences.{occurs-same, occurs-other, sum-parts}
 use Rattle.pairing.specs.Grown.{upTo}
@@ -49,6 +49,10 @@ pub upTo-length : (n : ℕ) → length (upTo n) ≡ n
 unfolding upTo
 upTo-length zero = refl
 upTo-length (suc n) = omega (arith, length-append (upTo n) (n ∷ []), upTo-length n)
+
+pub upTo-occurs : (a n : ℕ) → a < n → occurs a (upTo n) ≡ 1
+upTo-occurs a n h =
+    omega (arith, occurs-some a (upTo n) .1 (in-upTo a n h), ascending-once a (upTo n) (upTo-ascending n))
 
 -- ---- sums
 
