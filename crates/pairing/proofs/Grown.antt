@@ -4,7 +4,10 @@
 use mathlib.Core.Path.{_≡_, refl, sym}
 use mathlib.Core.Logic.{_↔_, inl}
 use mathlib.Core.Bool.{Bool, true, false}
-use Prim.Native.Nat.{ℕ, suc, _+_, _<_}
+use mathlib.Core.List.{[], _∷_}
+use Prim.Native.Nat.{ℕ, zero, suc, _+_, _≤_, _<_}
+use native.Mathlib.Nat.{add-zero}
+use native.Mathlib.Numerals.{add-one}
 use native.Mathlib.Omega.{arith}
 use Rattle.order.specs.Lists.{In}
 use Rattle.order.specs.Structure.{Renumbering}
@@ -15,10 +18,10 @@ use Rattle.order.proofs.Pairs.{pair-path}
 use Rattle.listing.specs.Layers.{Layers, Topped, order}
 use Rattle.pairing.specs.Sound.{Sound, Sorted, Listed}
 use Rattle.pairing.specs.Trimmed.{bit}
-use Rattle.pairing.specs.Grown.{minSize, minUnder, addMin, maxUnder, addMax, grown}
+use Rattle.pairing.specs.Grown.{upTo, minSize, minUnder, addMin, maxUnder, addMax, grown}
 use Rattle.pairing.proofs.Trimmed.{raised}
 use Rattle.pairing.proofs.AddMin.{addMin-topped, addMin-sound, addMin-sorted, addMin-order, addMin-order-to}
-use Rattle.pairing.proofs.AddMax.{size-top, listed-top}
+use Rattle.pairing.proofs.AddMax.{size-low, size-top, under-low, under-top, listed-top}
 use Rattle.pairing.proofs.AddMax.{addMax-topped, addMax-sound, addMax-sorted, addMax-order, addMax-order-to}
 
 -- What an element more at either end keeps, growing keeps.
@@ -72,6 +75,35 @@ pub grown-addedMax : (min : Bool) (M : Layers) (t : Topped M)
 unfolding grown-order Renumbering·then withMin·renumbered
 grown-addedMax true M t = rw (addMax-order-to, addMin-order-to) (pair-path (omega arith) refl)
 grown-addedMax false M t = rw addMax-order-to (pair-path (omega arith) refl)
+
+-- ---- sizes and lists
+
+pub grown-size : (min max : Bool) (M : Layers) (r : ℕ) → r ≤ M .top → grown min max M .size (r + bit min) ≡ M .size r
+unfolding minSize
+grown-size true true M r h = rw add-one (size-low M r h)
+grown-size true false M r h = rw add-one
+grown-size false true M r h = rw add-zero (size-low M r h)
+grown-size false false M r h = rw add-zero
+
+-- what was there lists what it did, but for the lowest rank over an added minimal element
+pub grown-under : (min max : Bool) (M : Layers) (r a : ℕ) → bit min ≤ r → r ≤ M .top
+    → grown min max M .under (r + bit min) a ≡ M .under r a
+unfolding minUnder
+grown-under true max M zero a p h = absurd (omega arith)
+grown-under true true M (suc r) a p h = rw add-one (under-low M (suc r) a h)
+grown-under true false M (suc r) a p h = rw add-one
+grown-under false true M r a p h = rw add-zero (under-low M r a h)
+grown-under false false M r a p h = rw add-zero
+
+pub grown-min-under : (max : Bool) (M : Layers) (a : ℕ) → grown true max M .under 1 a ≡ 0 ∷ []
+unfolding minUnder
+grown-min-under max M a = refl
+
+pub grown-max-under : (min : Bool) (M : Layers) (a : ℕ)
+    → grown min true M .under (grown min true M .top) a ≡ upTo (M .size (M .top))
+unfolding minUnder
+grown-max-under true M a = under-top M a
+grown-max-under false M a = under-top M a
 
 -- ---- the added elements, in plain numbers
 

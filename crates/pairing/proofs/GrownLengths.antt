@@ -123,3 +123,21 @@ grown-subs true true M s =
 grown-subs true false M s = omega (arith, addMin-subs M s)
 grown-subs false true M s = omega (arith, addMax-subs M)
 grown-subs false false M s = omega arith
+
+-- ---- how many elements
+
+addMin-count : (M : Layers) → sum (addMin M .size) (suc (addMin M .top)) ≡ sum (M .size) (suc (M .top)) + 1
+unfolding minSize
+addMin-count M = omega (arith, sum-first (minSize M) (suc (M .top)))
+
+addMax-count : (M : Layers) → sum (addMax M .size) (suc (addMax M .top)) ≡ sum (M .size) (suc (M .top)) + 1
+unfolding sum
+addMax-count M =
+    omega (arith, sum-same (maxSize M) (M .size) (suc (M .top)) (λ r h. size-low M r (omega arith)), size-top M)
+
+pub grown-count : (min max : Bool) (M : Layers)
+    → sum (grown min max M .size) (suc (grown min max M .top)) ≡ sum (M .size) (suc (M .top)) + bit min + bit max
+grown-count true true M = omega (arith, addMin-count (addMax M), addMax-count M)
+grown-count true false M = omega (arith, addMin-count M)
+grown-count false true M = omega (arith, addMax-count M)
+grown-count false false M = omega arith

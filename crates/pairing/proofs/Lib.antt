@@ -15,3 +15,5 @@ pub mod Lengths
 pub mod OverPairs
 pub mod PairedLengths
 pub mod GrownLengths
+pub mod ProductLengths
+pub mod ProductLists

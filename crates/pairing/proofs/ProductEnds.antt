@@ -94,9 +94,9 @@ high-end min false A B y e l = absurd (omega (arith, in-range _ (product-topped 
 abbrev pub Kind : Bool → Bool → Layers → El → Type 0
 Kind min max P y = Used min max P y ⊎ ((T min × (y ≡ (0, 0))) ⊎ (T max × (y ≡ (P .top, 0))))
 
-pub product-elements : (min max : Bool) (A B : Layers) (y : El) → y .1 < product min max A B .size (y .0)
+pub product-kinds : (min max : Bool) (A B : Layers) (y : El) → y .1 < product min max A B .size (y .0)
     → Kind min max (product min max A B) y
-product-elements min max A B y e = go (decLt (y .0) (bit min)) (decLt (product min max A B .top) (y .0 + bit max))
+product-kinds min max A B y e = go (decLt (y .0) (bit min)) (decLt (product min max A B .top) (y .0 + bit max))
   where
     go : Dec (y .0 < bit min) → Dec (product min max A B .top < y .0 + bit max)
         → Kind min max (product min max A B) y
