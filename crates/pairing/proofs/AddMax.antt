@@ -37,27 +37,27 @@ maxFrom-low t x l = choose-no (decLt t (x .0)) end (old x) (λ k. omega arith)
 module _ (M : Layers) where
   -- ---- sizes and lists, up to the top that was and at the new one
 
-  pub size-low : (r : ℕ) → r ≤ M .top → maxSize M r ≡ M .size r
+  pub max-size-low : (r : ℕ) → r ≤ M .top → maxSize M r ≡ M .size r
   unfolding maxSize
-  size-low r h = choose-no (decLt (M .top) r) _ _ (λ l. omega arith)
+  max-size-low r h = choose-no (decLt (M .top) r) _ _ (λ l. omega arith)
 
-  pub size-top : maxSize M (suc (M .top)) ≡ 1
+  pub max-size-top : maxSize M (suc (M .top)) ≡ 1
   unfolding maxSize
-  size-top =
+  max-size-top =
       choose-yes (decLt (M .top) (suc (M .top))) _ _ (omega arith)
       ∙ choose-no (decLt (suc (M .top)) (suc (M .top))) _ _ (λ l. omega arith)
 
-  pub under-low : (r a : ℕ) → r ≤ M .top → maxUnder M r a ≡ M .under r a
+  pub max-under-low : (r a : ℕ) → r ≤ M .top → maxUnder M r a ≡ M .under r a
   unfolding maxUnder
-  under-low r a h = choose-no (decLt (M .top) r) _ _ (λ l. omega arith)
+  max-under-low r a h = choose-no (decLt (M .top) r) _ _ (λ l. omega arith)
 
-  pub under-top : (a : ℕ) → maxUnder M (suc (M .top)) a ≡ upTo (M .size (M .top))
+  pub max-under-top : (a : ℕ) → maxUnder M (suc (M .top)) a ≡ upTo (M .size (M .top))
   unfolding maxUnder
-  under-top a = choose-yes (decLt (M .top) (suc (M .top))) _ _ (omega arith)
+  max-under-top a = choose-yes (decLt (M .top) (suc (M .top))) _ _ (omega arith)
 
   -- the added element lists all of the rank below
-  pub listed-top : (a : ℕ) → a < maxSize M (M .top) → In a (maxUnder M (suc (M .top)) 0)
-  listed-top a h = rw (under-top 0) (in-upTo a _ (rw (size-low (M .top) (omega arith)) at h))
+  pub max-listed : (a : ℕ) → a < maxSize M (M .top) → In a (maxUnder M (suc (M .top)) 0)
+  max-listed a h = rw (max-under-top 0) (in-upTo a _ (rw (max-size-low (M .top) (omega arith)) at h))
 
   pub addMax-topped : Topped (addMax M)
   unfolding Topped maxSize
@@ -73,9 +73,9 @@ module _ (M : Layers) where
       go : Dec (M .top < x .0) → Sort x
       go (yes l) =
           let a : x .0 ≡ suc (M .top) = omega (arith, in-range (addMax M) addMax-topped (x .0) (x .1) e) in
-          let b : x .1 ≡ 0 = omega (arith, rw a at e, size-top) in
+          let b : x .1 ≡ 0 = omega (arith, rw a at e, max-size-top) in
           inl (pair-path a b)
-      go (no l) = let k : x .0 ≤ M .top = omega arith in inr (k, rw (size-low (x .0) k) at e)
+      go (no l) = let k : x .0 ≤ M .top = omega arith in inr (k, rw (max-size-low (x .0) k) at e)
 
   pub addMax-sound : Sound M → Sound (addMax M)
   unfolding Sound
@@ -84,29 +84,29 @@ module _ (M : Layers) where
       go : Sort (r, b) → (0 < r) × (a < maxSize M (pred r))
       go (inl e) =
           let q : r ≡ suc (M .top) = ap (λ (x : ℕ × ℕ). x .0) e in
-          let k : a < M .size (M .top) = upTo-in a _ (rw (q, under-top b) at m) in
+          let k : a < M .size (M .top) = upTo-in a _ (rw (q, max-under-top b) at m) in
           let p : pred r ≡ M .top = omega arith in
-          (omega arith, rw (p, size-low (M .top) (omega arith)) k)
+          (omega arith, rw (p, max-size-low (M .top) (omega arith)) k)
       go (inr k) =
-          let t = s r b a (k .1) (rw (under-low r b (k .0)) at m) in
-          (t .0, rw (size-low (pred r) (omega (arith, k .0))) (t .1))
+          let t = s r b a (k .1) (rw (max-under-low r b (k .0)) at m) in
+          (t .0, rw (max-size-low (pred r) (omega (arith, k .0))) (t .1))
 
   pub addMax-sorted : Sorted M → Sorted (addMax M)
   unfolding Sorted
   addMax-sorted s r b h = go (sort (r, b) h)
     where
       go : Sort (r, b) → Ascending (maxUnder M r b)
-      go (inl e) = rw (ap (λ (x : ℕ × ℕ). x .0) e, under-top b) (upTo-ascending _)
-      go (inr k) = rw (under-low r b (k .0)) (s r b (k .1))
+      go (inl e) = rw (ap (λ (x : ℕ × ℕ). x .0) e, max-under-top b) (upTo-ascending _)
+      go (inr k) = rw (max-under-low r b (k .0)) (s r b (k .1))
 
 module _ (M : Layers) (t : Topped M) where
   -- ---- the order
 
   exists-low : (x : ℕ × ℕ) → order M .Exists x → order (addMax M) .Exists x
-  exists-low x e = rw (size-low M (x .0) (in-range M t (x .0) (x .1) e)) e
+  exists-low x e = rw (max-size-low M (x .0) (in-range M t (x .0) (x .1) e)) e
 
   max-to-exists : (x : Added (ℕ × ℕ)) → AddedExists (turned (order M)) x → order (addMax M) .Exists (maxTo (M .top) x)
-  max-to-exists end e = omega (arith, size-top M)
+  max-to-exists end e = omega (arith, max-size-top M)
   max-to-exists (old x) e = exists-low x e
 
   max-from-exists : (x : ℕ × ℕ) → order (addMax M) .Exists x → AddedExists (turned (order M)) (maxFrom (M .top) x)
@@ -133,10 +133,11 @@ module _ (M : Layers) (t : Topped M) where
   max-to-under end (old y) r = absurd r
   max-to-under (old x) end r =
       let e : x .0 ≡ M .top = omega (arith, r .1, in-range M t (x .0) (x .1) (r .0)) in
-      (exists-low x (r .0), omega (arith, size-top M), ap suc (sym e), rw (under-top M 0) (in-upTo (x .1) _ (rw e at (r .0))))
+      let m = in-upTo (x .1) (M .size (M .top)) (rw e at (r .0)) in
+      (exists-low x (r .0), omega (arith, max-size-top M), ap suc (sym e), rw (max-under-top M 0) m)
   max-to-under (old x) (old y) r =
       let k = in-range M t (y .0) (y .1) (r .1) in
-      (exists-low x (r .0), exists-low y (r .1), r .2, rw (under-low M (y .0) (y .1) k) (r .3))
+      (exists-low x (r .0), exists-low y (r .1), r .2, rw (max-under-low M (y .0) (y .1) k) (r .3))
 
   max-from-under : (x y : ℕ × ℕ) → order (addMax M) .Under x y
       → AddedUnder (turned (order M)) (maxFrom (M .top) y) (maxFrom (M .top) x)
@@ -151,7 +152,7 @@ module _ (M : Layers) (t : Topped M) where
           rw (maxFrom-low (M .top) x (k .0), maxFrom-high (M .top) y (omega (arith, e))) (k .1, omega (arith, u .2, e))
       go (inr k) (inr l) =
           rw (maxFrom-low (M .top) x (k .0), maxFrom-low (M .top) y (l .0))
-          (k .1, l .1, u .2, rw (under-low M (y .0) (y .1) (l .0)) at (u .3))
+          (k .1, l .1, u .2, rw (max-under-low M (y .0) (y .1) (l .0)) at (u .3))
 
   max-rank : (x : Added (ℕ × ℕ)) → AddedExists (turned (order M)) x
       → maxTo (M .top) x .0 ≡ suc (M .top) - addedRank (turned (order M)) x

@@ -21,7 +21,7 @@ use Rattle.pairing.specs.Trimmed.{bit}
 use Rattle.pairing.specs.Grown.{upTo, minSize, minUnder, addMin, maxUnder, addMax, grown}
 use Rattle.pairing.proofs.Trimmed.{raised}
 use Rattle.pairing.proofs.AddMin.{addMin-topped, addMin-sound, addMin-sorted, addMin-order, addMin-order-to}
-use Rattle.pairing.proofs.AddMax.{size-low, size-top, under-low, under-top, listed-top}
+use Rattle.pairing.proofs.AddMax.{max-size-low, max-size-top, max-under-low, max-under-top, max-listed}
 use Rattle.pairing.proofs.AddMax.{addMax-topped, addMax-sound, addMax-sorted, addMax-order, addMax-order-to}
 
 -- What an element more at either end keeps, growing keeps.
@@ -80,9 +80,9 @@ grown-addedMax false M t = rw addMax-order-to (pair-path (omega arith) refl)
 
 pub grown-size : (min max : Bool) (M : Layers) (r : ℕ) → r ≤ M .top → grown min max M .size (r + bit min) ≡ M .size r
 unfolding minSize
-grown-size true true M r h = rw add-one (size-low M r h)
+grown-size true true M r h = rw add-one (max-size-low M r h)
 grown-size true false M r h = rw add-one
-grown-size false true M r h = rw add-zero (size-low M r h)
+grown-size false true M r h = rw add-zero (max-size-low M r h)
 grown-size false false M r h = rw add-zero
 
 -- what was there lists what it did, but for the lowest rank over an added minimal element
@@ -90,9 +90,9 @@ pub grown-under : (min max : Bool) (M : Layers) (r a : ℕ) → bit min ≤ r �
     → grown min max M .under (r + bit min) a ≡ M .under r a
 unfolding minUnder
 grown-under true max M zero a p h = absurd (omega arith)
-grown-under true true M (suc r) a p h = rw add-one (under-low M (suc r) a h)
+grown-under true true M (suc r) a p h = rw add-one (max-under-low M (suc r) a h)
 grown-under true false M (suc r) a p h = rw add-one
-grown-under false true M r a p h = rw add-zero (under-low M r a h)
+grown-under false true M r a p h = rw add-zero (max-under-low M r a h)
 grown-under false false M r a p h = rw add-zero
 
 pub grown-min-under : (max : Bool) (M : Layers) (a : ℕ) → grown true max M .under 1 a ≡ 0 ∷ []
@@ -102,8 +102,8 @@ grown-min-under max M a = refl
 pub grown-max-under : (min : Bool) (M : Layers) (a : ℕ)
     → grown min true M .under (grown min true M .top) a ≡ upTo (M .size (M .top))
 unfolding minUnder
-grown-max-under true M a = under-top M a
-grown-max-under false M a = under-top M a
+grown-max-under true M a = max-under-top M a
+grown-max-under false M a = max-under-top M a
 
 -- ---- the added elements, in plain numbers
 
@@ -119,8 +119,8 @@ module _ (max : Bool) (M : Layers) where
 
 pub grown-max-size : (min : Bool) (M : Layers) → grown min true M .size (grown min true M .top) ≡ 1
 unfolding minSize
-grown-max-size true M = size-top M
-grown-max-size false M = size-top M
+grown-max-size true M = max-size-top M
+grown-max-size false M = max-size-top M
 
 -- the added maximal element lists all of the rank below, and nothing else
 pub grown-max-listed : (min : Bool) (M : Layers) (x : ℕ × ℕ) → x .1 < grown min true M .size (x .0)
@@ -129,8 +129,8 @@ unfolding minSize minUnder
 grown-max-listed true M x h = (λ l. sym (l .0), λ e. (sym e, go e))
   where
     go : suc (x .0) ≡ suc (suc (M .top)) → In (x .1) (maxUnder M (suc (M .top)) 0)
-    go e = let k : x .0 ≡ suc (M .top) = omega arith in listed-top M (x .1) (rw k at h)
+    go e = let k : x .0 ≡ suc (M .top) = omega arith in max-listed M (x .1) (rw k at h)
 grown-max-listed false M x h = (λ l. sym (l .0), λ e. (sym e, go e))
   where
     go : suc (x .0) ≡ suc (M .top) → In (x .1) (maxUnder M (suc (M .top)) 0)
-    go e = let k : x .0 ≡ M .top = omega arith in listed-top M (x .1) (rw k at h)
+    go e = let k : x .0 ≡ M .top = omega arith in max-listed M (x .1) (rw k at h)

@@ -1,23 +1,23 @@
 -- The lists of grown layers: the sups that the added elements have and give, and how many subs they add.
 -- Assumes nothing.
-use mathlib.Core.Path.{_≡_, refl, sym, ap, _∙_}
+use mathlib.Core.Path.{_≡_, refl, ap, _∙_}
 use mathlib.Core.Bool.{Bool, true, false}
-use mathlib.Core.List.{List, [], _∷_, _++_}
+use mathlib.Core.List.{List, [], _∷_}
 use Prim.Native.Nat.{ℕ, zero, suc, _+_, _*_, _≤_, _<_}
 use native.Mathlib.Nat.{add-zero}
 use native.Mathlib.Numerals.{add-one}
 use native.Mathlib.Omega.{arith}
-use lib.ListN.{length, replicate}
-use Rattle.order.specs.Lists.{In, occurs}
+use lib.ListN.{length}
+use Rattle.order.specs.Lists.{occurs}
 use Rattle.order.specs.Sums.{sum}
 use Rattle.order.proofs.Sums.{sum-same}
-use Rattle.listing.specs.Layers.{Layers, Topped, gather, derived}
+use Rattle.listing.specs.Layers.{Layers, gather, derived}
 use Rattle.pairing.specs.Sound.{Sound}
 use Rattle.pairing.specs.Trimmed.{bit}
-use Rattle.pairing.specs.Grown.{upTo, minSize, minUnder, addMin, maxSize, maxUnder, addMax, grown}
+use Rattle.pairing.specs.Grown.{upTo, minSize, minUnder, addMin, maxSize, addMax, grown}
 use Rattle.pairing.specs.Lengths.{rankSubs, allSubs}
 use Rattle.pairing.proofs.Sequences.{upTo-length, upTo-occurs, sum-all, sum-first}
-use Rattle.pairing.proofs.AddMax.{size-low, size-top, under-low, under-top, addMax-sound}
+use Rattle.pairing.proofs.AddMax.{max-size-low, max-size-top, max-under-low, max-under-top, addMax-sound}
 use Rattle.pairing.proofs.Lengths.{rankSubs-lowest}
 
 -- ---- gathering from lists that are alike
@@ -76,20 +76,22 @@ module _ (M : Layers) where
 module _ (M : Layers) where
   addMax-sups : (r a : ℕ) → r < M .top → derived (addMax M) r a ≡ derived M r a
   unfolding derived
-  addMax-sups r a h = rw (size-low M (suc r) h) (gather-same _ _ a (M .size (suc r)) (λ k l. under-low M (suc r) k h))
+  addMax-sups r a h =
+      rw (max-size-low M (suc r) h) (gather-same _ _ a (M .size (suc r)) (λ k l. max-under-low M (suc r) k h))
 
   addMax-sups-high : (a : ℕ) → a < M .size (M .top) → derived (addMax M) (M .top) a ≡ 0 ∷ []
   unfolding derived gather
-  addMax-sups-high a h = rw (size-top M, under-top M 0, upTo-occurs a (M .size (M .top)) h)
+  addMax-sups-high a h = rw (max-size-top M, max-under-top M 0, upTo-occurs a (M .size (M .top)) h)
 
   max-lower : (r : ℕ) → r < suc (M .top) → rankSubs (addMax M) r ≡ rankSubs M r
   unfolding rankSubs
   max-lower r h =
-      rw (size-low M r (omega arith)) (sum-same _ _ (M .size r) (λ b k. ap length (under-low M r b (omega arith))))
+      let l : r ≤ M .top = omega arith in
+      rw (max-size-low M r l) (sum-same _ _ (M .size r) (λ b k. ap length (max-under-low M r b l)))
 
   max-end : rankSubs (addMax M) (suc (M .top)) ≡ M .size (M .top)
   unfolding rankSubs sum
-  max-end = rw (size-top M, under-top M 0) (omega (arith, upTo-length (M .size (M .top))))
+  max-end = rw (max-size-top M, max-under-top M 0) (omega (arith, upTo-length (M .size (M .top))))
 
   -- one sub for each element of the highest rank
   addMax-subs : allSubs (addMax M) ≡ allSubs M + M .size (M .top)
@@ -107,7 +109,7 @@ grown-sups false false M r a h = rw add-zero
 
 -- the added minimal element has all of rank 1 for sups
 pub grown-min-sups : (max : Bool) (M : Layers) → derived (grown true max M) 0 0 ≡ upTo (M .size 0)
-grown-min-sups true M = addMin-sups-end (addMax M) ∙ ap upTo (size-low M 0 (omega arith))
+grown-min-sups true M = addMin-sups-end (addMax M) ∙ ap upTo (max-size-low M 0 (omega arith))
 grown-min-sups false M = addMin-sups-end M
 
 -- the added maximal element is the one sup of the rank below
@@ -119,7 +121,7 @@ grown-max-sups false M a h = rw add-zero (addMax-sups-high M a h)
 pub grown-subs : (min max : Bool) (M : Layers) → Sound M
     → allSubs (grown min max M) ≡ allSubs M + bit min * M .size 0 + bit max * M .size (M .top)
 grown-subs true true M s =
-    omega (arith, addMin-subs (addMax M) (addMax-sound M s), addMax-subs M, size-low M 0 (omega arith))
+    omega (arith, addMin-subs (addMax M) (addMax-sound M s), addMax-subs M, max-size-low M 0 (omega arith))
 grown-subs true false M s = omega (arith, addMin-subs M s)
 grown-subs false true M s = omega (arith, addMax-subs M)
 grown-subs false false M s = omega arith
@@ -133,7 +135,7 @@ addMin-count M = omega (arith, sum-first (minSize M) (suc (M .top)))
 addMax-count : (M : Layers) → sum (addMax M .size) (suc (addMax M .top)) ≡ sum (M .size) (suc (M .top)) + 1
 unfolding sum
 addMax-count M =
-    omega (arith, sum-same (maxSize M) (M .size) (suc (M .top)) (λ r h. size-low M r (omega arith)), size-top M)
+    omega (arith, sum-same (maxSize M) (M .size) (suc (M .top)) (λ r h. max-size-low M r (omega arith)), max-size-top M)
 
 pub grown-count : (min max : Bool) (M : Layers)
     → sum (grown min max M .size) (suc (grown min max M .top)) ≡ sum (M .size) (suc (M .top)) + bit min + bit max

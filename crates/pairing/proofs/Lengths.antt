@@ -3,7 +3,7 @@
 use mathlib.Core.Path.{_≡_, refl, _∙_}
 use mathlib.Core.List.{List, [], _∷_}
 use mathlib.Core.Logic.{inl}
-use Prim.Native.Nat.{ℕ, suc, _+_, _*_, _<_}
+use Prim.Native.Nat.{ℕ, suc, _*_, _<_}
 use native.Mathlib.Nat.{not-suc-le-zero}
 use native.Mathlib.Omega.{arith}
 use lib.ListN.{length}
@@ -55,6 +55,6 @@ module _ (M : Layers) (t : Topped M) (s : Sound M) where
   pub total-derived : total M (derived M) ≡ 2 * allSubs M
   unfolding allSubs rankSubs
   total-derived =
-      sum-same _ _ (suc (M .top)) (λ r h. sum-plus (λ i. length (M .under r i)) (λ i. length (derived M r i)) (M .size r))
+      sum-same _ _ (suc (M .top)) (λ r h. sum-plus _ _ (M .size r))
       ∙ sum-plus (rankSubs M) (λ r. sum (λ a. length (derived M r a)) (M .size r)) (suc (M .top))
       ∙ omega (arith, all-sups)

@@ -39,8 +39,12 @@ module _ (M : Layers) (above : ℕ → ℕ → List ℕ) (t : Topped M) where
     from-exists = λ x e. exists-written (x .0) (x .1) e;
     from-to = λ x e. refl;
     to-from = λ x e. refl;
-    to-under = λ x y u.
-        (written-exists (x .0) (x .1) (u .0), written-exists (y .0) (y .1) (u .1), u .2, rw (written-subs M above t (y .0) (y .1) (u .1)) (u .3));
+    to-under = λ x y u. (
+      written-exists (x .0) (x .1) (u .0),
+      written-exists (y .0) (y .1) (u .1),
+      u .2,
+      rw (written-subs M above t (y .0) (y .1) (u .1)) (u .3),
+    );
     from-under = λ x y u.
         let k = exists-written (y .0) (y .1) (u .1) in
         (exists-written (x .0) (x .1) (u .0), k, u .2, rw (written-subs M above t (y .0) (y .1) k) at (u .3));

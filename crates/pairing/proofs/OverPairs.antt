@@ -40,23 +40,27 @@ module _ (A B : Layers) (R : ℕ) where
 
   pub over-same : (f g : El × El → ℕ) → ((y : El × El) → PairOf A B R y → f y ≡ g y)
       → overPairs A B R f ≡ overPairs A B R g
-  over-same f g h =
-      sum-same _ _ (suc R) (λ i k. sum-same _ _ (A .size i) (λ a p. sum-same _ _ (B .size (R - i)) (λ b q.
-        h (pairIn R i a b) ((p, q), omega arith))))
+  over-same f g h = sum-same _ _ (suc R) rows
+    where
+      rows : (i : ℕ) → i < suc R → overRank A B R f i ≡ overRank A B R g i
+      rows i k =
+          sum-same _ _ (A .size i)
+          (λ a p. sum-same _ _ (B .size (R - i)) (λ b q. h (pairIn R i a b) ((p, q), omega arith)))
 
   pub over-plus : (f g : El × El → ℕ)
       → overPairs A B R (λ y. f y + g y) ≡ overPairs A B R f + overPairs A B R g
-  over-plus f g =
-      sum-same _ _ (suc R) (λ i k. sum-same _ _ (A .size i) (λ a p. sum-plus _ _ (B .size (R - i))) ∙ sum-plus _ _ (A .size i))
-      ∙ sum-plus _ _ (suc R)
+  over-plus f g = sum-same _ _ (suc R) (λ i h. rows i) ∙ sum-plus _ _ (suc R)
+    where
+      rows : (i : ℕ) → overRank A B R (λ y. f y + g y) i ≡ overRank A B R f i + overRank A B R g i
+      rows i = sum-same _ _ (A .size i) (λ a p. sum-plus _ _ (B .size (R - i))) ∙ sum-plus _ _ (A .size i)
 
 -- ---- only pairs with one member given count
 
 module _ (A B : Layers) (f : El × El → ℕ) where
-  none-in : (R i : ℕ) → i < suc R → ((y : El × El) → PairOf A B R y → y .0 .0 ≡ i → f y ≡ 0) → overRank A B R f i ≡ 0
-  none-in R i k none =
+  rank-none : (R i : ℕ) → i < suc R → ((y : El × El) → PairOf A B R y → y .0 .0 ≡ i → f y ≡ 0) → overRank A B R f i ≡ 0
+  rank-none R i k none =
       sum-zero _ (A .size i) (λ a p. sum-zero _ (B .size (R - i)) (λ b q.
-        none (pairIn R i a b) ((p, q), omega arith) refl))
+      none (pairIn R i a b) ((p, q), omega arith) refl))
 
   -- the second member is z, the first of rank r
   pub over-first : (r : ℕ) (z : El) → z .1 < B .size (z .0)
@@ -67,7 +71,7 @@ module _ (A B : Layers) (f : El × El → ℕ) where
       sum-one _ (suc (r + z .0)) r (omega arith) other ∙ rw e (sum-same _ _ (A .size r) row)
     where
       other : (i : ℕ) → i < suc (r + z .0) → i ≢ r → overRank A B (r + z .0) f i ≡ 0
-      other i k d = none-in (r + z .0) i k (λ y p q. none y p (λ t. d (sym q ∙ t .0)))
+      other i k d = rank-none (r + z .0) i k (λ y p q. none y p (λ t. d (sym q ∙ t .0)))
 
       row : (a : ℕ) → a < A .size r → sum (λ b. f ((r, a), (z .0, b))) (B .size (z .0)) ≡ f ((r, a), z)
       row a p =
@@ -83,7 +87,7 @@ module _ (A B : Layers) (f : El × El → ℕ) where
       sum-one _ (suc (z .0 + s)) (z .0) (omega arith) other ∙ rw e (sum-one _ (A .size (z .0)) (z .1) h row)
     where
       other : (i : ℕ) → i < suc (z .0 + s) → i ≢ z .0 → overRank A B (z .0 + s) f i ≡ 0
-      other i k d = none-in (z .0 + s) i k (λ y p q. none y p (λ t. d (sym q ∙ ap (λ (w : El). w .0) (t .0))))
+      other i k d = rank-none (z .0 + s) i k (λ y p q. none y p (λ t. d (sym q ∙ ap (λ (w : El). w .0) (t .0))))
 
       row : (a : ℕ) → a < A .size (z .0) → a ≢ z .1 → sum (λ b. f ((z .0, a), (s, b))) (B .size s) ≡ 0
       row a p d =

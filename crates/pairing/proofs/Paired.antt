@@ -27,24 +27,24 @@ abbrev pub rightAt : Layers → Layers → El × El → ℕ → ℕ
 rightAt A B y b = position A B (y .0, (pred (y .1 .0), b)) .1
 
 module _ (A B : Layers) where
-  left-in : (x y : El × El) → order A .Under (x .0) (y .0) → x .1 ≡ y .1 → In (position A B x .1) (leftSubs A B y)
+  in-leftSubs : (x y : El × El) → order A .Under (x .0) (y .0) → x .1 ≡ y .1 → In (position A B x .1) (leftSubs A B y)
   unfolding leftSubs
-  left-in x y u e =
+  in-leftSubs x y u e =
       let p : pred (y .0 .0) ≡ x .0 .0 = omega (arith, u .2) in
       let q : ((pred (y .0 .0), x .0 .1), y .1) ≡ x = pair-path (pair-path p refl) (sym e) in
       subst (λ t. In (position A B t .1) (leftSubs A B y)) q (in-map (leftAt A B y) (x .0 .1) _ (u .3))
 
-  right-in : (x y : El × El) → x .0 ≡ y .0 → order B .Under (x .1) (y .1) → In (position A B x .1) (rightSubs A B y)
+  in-rightSubs : (x y : El × El) → x .0 ≡ y .0 → order B .Under (x .1) (y .1) → In (position A B x .1) (rightSubs A B y)
   unfolding rightSubs
-  right-in x y e u =
+  in-rightSubs x y e u =
       let p : pred (y .1 .0) ≡ x .1 .0 = omega (arith, u .2) in
       let q : (y .0, (pred (y .1 .0), x .1 .1)) ≡ x = pair-path (sym e) (pair-path p refl) in
       subst (λ t. In (position A B t .1) (rightSubs A B y)) q (in-map (rightAt A B y) (x .1 .1) _ (u .3))
 
   -- a pair a step below another is listed there
-  step-in : (x y : El × El) → Step (order A .Under) (order B .Under) x y → In (position A B x .1) (pairSubs A B y)
-  step-in x y (left u e) = in-left _ (leftSubs A B y) (rightSubs A B y) (left-in x y u e)
-  step-in x y (right e u) = in-right _ (leftSubs A B y) (rightSubs A B y) (right-in x y e u)
+  in-pairSubs : (x y : El × El) → Step (order A .Under) (order B .Under) x y → In (position A B x .1) (pairSubs A B y)
+  in-pairSubs x y (left u e) = in-left _ (leftSubs A B y) (rightSubs A B y) (in-leftSubs x y u e)
+  in-pairSubs x y (right e u) = in-right _ (leftSubs A B y) (rightSubs A B y) (in-rightSubs x y e u)
 
 -- A sub of a pair, as the position of a pair a step below it.
 abbrev SubPair : Layers → Layers → El × El → ℕ → Type 0
@@ -70,13 +70,14 @@ module _ (A B : Layers) (tA : Topped A) (tB : Topped B) (sA : Sound A) (sB : Sou
       let x : El × El = (y .0, (pred (y .1 .0), t .0)) in
       (x, ((e .0, s .1), e, right refl (s .1, e .1, omega (arith, s .0), t .1)), t .2)
 
-  subs-in : (y : El × El) (k : ℕ) → Pairs (order A) (order B) .Exists y → In k (pairSubs A B y) → SubPair A B y k
-  subs-in y k e m = ⊎-elim (leftSubs-in y k e) (rightSubs-in y k e) (append-in k (leftSubs A B y) (rightSubs A B y) m)
+  pairSubs-in : (y : El × El) (k : ℕ) → Pairs (order A) (order B) .Exists y → In k (pairSubs A B y) → SubPair A B y k
+  pairSubs-in y k e m =
+      ⊎-elim (leftSubs-in y k e) (rightSubs-in y k e) (append-in k (leftSubs A B y) (rightSubs A B y) m)
 
   pub paired-sound : Sound (paired A B)
   unfolding Sound
   paired-sound R k a h m =
-      go (pairAt A B (R, k)) (pairAt-rank A B (R, k) h) (subs-in _ a (pairAt-exists A B (R, k) h) m)
+      go (pairAt A B (R, k)) (pairAt-rank A B (R, k) h) (pairSubs-in _ a (pairAt-exists A B (R, k) h) m)
     where
       go : (y : El × El) → y .0 .0 + y .1 .0 ≡ R → SubPair A B y a → (0 < R) × (a < paired A B .size (pred R))
       go y e t =
@@ -88,7 +89,7 @@ module _ (A B : Layers) (tA : Topped A) (tB : Topped B) (sA : Sound A) (sB : Sou
       → order (paired A B) .Under (position A B x) (position A B y)
   unfolding position
   position-under x y u =
-      let m = step-in A B x y (u .2) in (
+      let m = in-pairSubs A B x y (u .2) in (
         position-exists A B x (u .0),
         position-exists A B y (u .1),
         ranked .step x y u,
@@ -98,7 +99,7 @@ module _ (A B : Layers) (tA : Topped A) (tB : Topped B) (sA : Sound A) (sB : Sou
   pairAt-under : (x y : El) → order (paired A B) .Under x y
       → Pairs (order A) (order B) .Under (pairAt A B x) (pairAt A B y)
   pairAt-under x y u =
-      go (pairAt A B y) (pairAt-rank A B y (u .1)) (subs-in _ (x .1) (pairAt-exists A B y (u .1)) (u .3))
+      go (pairAt A B y) (pairAt-rank A B y (u .1)) (pairSubs-in _ (x .1) (pairAt-exists A B y (u .1)) (u .3))
     where
       go : (q : El × El) → q .0 .0 + q .1 .0 ≡ y .0 → SubPair A B q (x .1)
           → Pairs (order A) (order B) .Under (pairAt A B x) q
@@ -123,6 +124,10 @@ module _ (A B : Layers) (tA : Topped A) (tB : Topped B) (sA : Sound A) (sB : Sou
   pub paired-order-to : (x : El × El) → paired-order .to x ≡ position A B x
   unfolding paired-order
   paired-order-to x = refl
+
+  pub paired-order-from : (y : El) → paired-order .from y ≡ pairAt A B y
+  unfolding paired-order
+  paired-order-from y = refl
 
 module _ (A B : Layers) (sA : Sound A) (sB : Sound B) (oA : Sorted A) (oB : Sorted B) where
   left-ascending : (q : El × El) → Pairs (order A) (order B) .Exists q → Ascending (leftSubs A B q)

@@ -1,11 +1,10 @@
 -- How long the lists of pairs are: the subs of a pair are as many as those of its members, and so are the sups.
 -- Assumes nothing.
 use mathlib.Core.Path.{_≡_, refl, sym, ap, _∙_, subst}
-use Prim.Native.Nat.{ℕ, suc, pred, _+_, _-_, _*_, _<_}
+use Prim.Native.Nat.{ℕ, suc, pred, _+_, _-_, _<_}
 use native.Mathlib.Omega.{arith}
 use lib.ListN.{length, length-append, length-map}
 use Rattle.order.specs.Lists.{In, occurs}
-use Rattle.order.specs.Sums.{sum}
 use Rattle.order.specs.Pairs.{Pairs}
 use Rattle.order.proofs.Sums.{sum-same}
 use Rattle.order.proofs.Lists.{map-in, occurs-none, occurs-append}
@@ -67,16 +66,28 @@ module _ (A B : Layers) (sA : Sound A) (sB : Sound B) (x : El × El) (e : Pairs 
 
   -- and it has it as often as that member has the one of x
   left-occurs : (c : ℕ) → c < A .size (suc (x .0 .0))
-      → occurs (position A B x .1) (leftSubs A B ((suc (x .0 .0), c), x .1)) ≡ occurs (x .0 .1) (A .under (suc (x .0 .0)) c)
+      → occurs (position A B x .1) (leftSubs A B ((suc (x .0 .0), c), x .1))
+      ≡ occurs (x .0 .1) (A .under (suc (x .0 .0)) c)
   unfolding leftSubs Sound
-  left-occurs c h = occurs-map (leftAt A B ((suc (x .0 .0), c), x .1)) (x .0 .1) (A .under (suc (x .0 .0)) c)
-      (λ d m q. ap (λ (w : El × El). w .0 .1) (position-one A B ((x .0 .0, d), x .1) x (sA _ _ _ h m .1, e .1) e refl q))
+  left-occurs c h = occurs-map (leftAt A B ((suc (x .0 .0), c), x .1)) (x .0 .1) (A .under (suc (x .0 .0)) c) one
+    where
+      one : (d : ℕ) → In d (A .under (suc (x .0 .0)) c) → position A B ((x .0 .0, d), x .1) .1 ≡ position A B x .1
+          → d ≡ x .0 .1
+      one d m q =
+          let p = position-one A B ((x .0 .0, d), x .1) x (sA _ _ _ h m .1, e .1) e refl q in
+          ap (λ (w : El × El). w .0 .1) p
 
   right-occurs : (c : ℕ) → c < B .size (suc (x .1 .0))
-      → occurs (position A B x .1) (rightSubs A B (x .0, (suc (x .1 .0), c))) ≡ occurs (x .1 .1) (B .under (suc (x .1 .0)) c)
+      → occurs (position A B x .1) (rightSubs A B (x .0, (suc (x .1 .0), c)))
+      ≡ occurs (x .1 .1) (B .under (suc (x .1 .0)) c)
   unfolding rightSubs Sound
-  right-occurs c h = occurs-map (rightAt A B (x .0, (suc (x .1 .0), c))) (x .1 .1) (B .under (suc (x .1 .0)) c)
-      (λ d m q. ap (λ (w : El × El). w .1 .1) (position-one A B (x .0, (x .1 .0, d)) x (e .0, sB _ _ _ h m .1) e refl q))
+  right-occurs c h = occurs-map (rightAt A B (x .0, (suc (x .1 .0), c))) (x .1 .1) (B .under (suc (x .1 .0)) c) one
+    where
+      one : (d : ℕ) → In d (B .under (suc (x .1 .0)) c) → position A B (x .0, (x .1 .0, d)) .1 ≡ position A B x .1
+          → d ≡ x .1 .1
+      one d m q =
+          let p = position-one A B (x .0, (x .1 .0, d)) x (e .0, sB _ _ _ h m .1) e refl q in
+          ap (λ (w : El × El). w .1 .1) p
 
   -- the sups of a pair by the first member, and by the second
   left-sups : overPairs A B (suc (x .0 .0 + x .1 .0)) (λ y. occurs (position A B x .1) (leftSubs A B y))

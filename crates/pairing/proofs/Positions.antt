@@ -1,7 +1,7 @@
 -- Where a pair of elements stands among all pairs of its rank, and which pair stands where.
 -- Assumes nothing.
 use mathlib.Core.Path.{_≡_, refl, sym, ap, _∙_}
-use Prim.Native.Nat.{ℕ, suc, pred, _+_, _-_, _*_, _/_, _%_, _<_}
+use Prim.Native.Nat.{ℕ, suc, _+_, _-_, _*_, _<_}
 use native.Mathlib.Nat.{mod-lt, div-lt-iff-lt-mul, div-add-mod', mul-zero, zero-mul}
 use native.Mathlib.Decide.{decLt}
 use native.Mathlib.Omega.{arith}
@@ -83,7 +83,8 @@ module _ (A B : Layers) where
   -- two pairs of one rank do not stand at one place
   pub position-one : (x y : El × El) → Pairs (order A) (order B) .Exists x → Pairs (order A) (order B) .Exists y
       → x .0 .0 + x .1 .0 ≡ y .0 .0 + y .1 .0 → position A B x .1 ≡ position A B y .1 → x ≡ y
-  position-one x y ex ey r k = sym (pairAt-position x ex) ∙ found (position A B x) y ey (sym r ∙ sym (position-rank x)) k
+  position-one x y ex ey r k =
+      sym (pairAt-position x ex) ∙ found (position A B x) y ey (sym (position-rank x ∙ r)) k
 
   -- what lies under the pair that stands there
   pub paired-under : (x : El × El) → Pairs (order A) (order B) .Exists x

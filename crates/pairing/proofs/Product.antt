@@ -16,8 +16,8 @@ use Rattle.listing.specs.Layers.{Layers, Topped, order}
 use Rattle.listing.proofs.Layers.{order-ranked}
 use Rattle.pairing.specs.Sound.{Sound, Sorted}
 use Rattle.pairing.specs.Trimmed.{bit, trimmed}
-use Rattle.pairing.specs.Paired.{El, position, paired}
-use Rattle.pairing.specs.Product.{product, at}
+use Rattle.pairing.specs.Paired.{El, position}
+use Rattle.pairing.specs.Product.{usedPairs, product, at}
 use Rattle.pairing.proofs.Trimmed.{lowered, raised, trimmed-topped, trimmed-sound, trimmed-sorted}
 use Rattle.pairing.proofs.Trimmed.{trimmed-order, trimmed-order-to}
 use Rattle.pairing.proofs.Positions.{paired-topped}
@@ -25,20 +25,17 @@ use Rattle.pairing.proofs.Paired.{paired-sound, paired-sorted, paired-o
 use Rattle.pairing.proofs.Grown.{grown-topped, grown-sound, grown-sorted, grown-top, grown-order, grown-inside}
 use Rattle.pairing.proofs.Grown.{grown-addedMin, grown-addedMax}
 
--- The layers of the pairs in use, and a pair of elements as a pair in use.
-abbrev pub inUse : Bool → Bool → Layers → Layers → Layers
-inUse min max A B = paired (trimmed min max A) (trimmed min max B)
-
+-- A pair of elements, as one of what is left of the factors.
 abbrev pub keptPair : (min max : Bool) (A B : Layers) → El × El → InUse min max (order A) (order B) .Elem
 keptPair min max A B x = (kept min max (order A) (x .0), kept min max (order B) (x .1))
 
 module _ (min max : Bool) (A B : Layers) where
-  inUse-topped : Topped (inUse min max A B)
-  inUse-topped = paired-topped _ _ (trimmed-topped min max A) (trimmed-topped min max B)
+  pub usedPairs-topped : Topped (usedPairs min max A B)
+  usedPairs-topped = paired-topped _ _ (trimmed-topped min max A) (trimmed-topped min max B)
 
   pub product-topped : Topped (product min max A B)
   unfolding product
-  product-topped = grown-topped min max _ inUse-topped
+  product-topped = grown-topped min max _ usedPairs-topped
 
   pub product-sound : Sound A → Sound B → Sound (product min max A B)
   unfolding product
@@ -68,48 +65,49 @@ pub product-top : (min max : Bool) (A B : Layers) → need min max ≤ A .top �
     → product min max A B .top ≡ A .top + B .top - bit min - bit max
 unfolding product
 product-top min max A B p q =
-    grown-top min max (inUse min max A B)
+    grown-top min max (usedPairs min max A B)
     ∙ heights (bit min) (bit max) (A .top) (B .top) (rw need-bits at p) (rw need-bits at q)
 
 module _ (min max : Bool) (A B : Layers) (tA : Topped A) (tB : Topped B) (sA : Sound A) (sB : Sound B) where
-  inUse-order : Renumbering (InUse min max (order A) (order B)) (order (inUse min max A B))
-  inUse-order =
+  usedPairs-order : Renumbering (InUse min max (order A) (order B)) (order (usedPairs min max A B))
+  usedPairs-order =
       Renumbering·then (Pairs·renumbered (trimmed-order min max A tA) (trimmed-order min max B tB))
       (paired-order _ _ (trimmed-topped min max A) (trimmed-topped min max B) (trimmed-sound min max A sA)
       (trimmed-sound min max B sB))
 
-  inUse-order-to : (x : El × El) → inUse-order .to (keptPair min max A B x)
+  usedPairs-order-to : (x : El × El) → usedPairs-order .to (keptPair min max A B x)
       ≡ position (trimmed min max A) (trimmed min max B) (lowered min (x .0), lowered min (x .1))
-  unfolding inUse-order Renumbering·then Pairs·renumbered
-  inUse-order-to x =
+  unfolding usedPairs-order Renumbering·then Pairs·renumbered
+  usedPairs-order-to x =
       rw (trimmed-order-to min max A tA (x .0), trimmed-order-to min max B tB (x .1), paired-order-to)
 
   pub product-order : Renumbering (Product min max (order A) (order B)) (order (product min max A B))
   unfolding product
   product-order =
-      Renumbering·then (grow·renumbered min max inUse-order)
-      (grown-order min max (inUse min max A B) (inUse-topped min max A B))
+      Renumbering·then (grow·renumbered min max usedPairs-order)
+      (grown-order min max (usedPairs min max A B) (usedPairs-topped min max A B))
 
   -- a pair goes where `at` says
   pub product-order-to : (x : El × El)
       → product-order .to (inside min max (InUse min max (order A) (order B)) (keptPair min max A B x))
       ≡ at min max A B x
   unfolding product-order Renumbering·then at product
-  product-order-to x = rw (grow·inside inUse-order min max, grown-inside) (ap (raised min) (inUse-order-to x))
+  product-order-to x = rw (grow·inside usedPairs-order min max, grown-inside) (ap (raised min) (usedPairs-order-to x))
 
 -- the added ends go to the ends
 pub product-order-min : (max : Bool) (A B : Layers) (tA : Topped A) (tB : Topped B) (sA : Sound A) (sB : Sound B)
     → product-order true max A B tA tB sA sB .to (addedMin max (InUse true max (order A) (order B))) ≡ (0, 0)
 unfolding product-order Renumbering·then product
 product-order-min max A B tA tB sA sB =
-    rw (grow·addedMin (inUse-order true max A B tA tB sA sB) max, grown-addedMin)
+    rw (grow·addedMin (usedPairs-order true max A B tA tB sA sB) max, grown-addedMin)
 
 pub product-order-max : (min : Bool) (A B : Layers) (tA : Topped A) (tB : Topped B) (sA : Sound A) (sB : Sound B)
     → product-order min true A B tA tB sA sB .to (addedMax min (InUse min true (order A) (order B)))
     ≡ (product min true A B .top, 0)
 unfolding product-order Renumbering·then product
 product-order-max min A B tA tB sA sB =
-    rw (grow·addedMax (inUse-order min true A B tA tB sA sB) min, grown-addedMax) (pair-path (omega (arith, grown-top min true (inUse min true A B))) refl)
+    rw (grow·addedMax (usedPairs-order min true A B tA tB sA sB) min, grown-addedMax)
+    (pair-path (omega (arith, grown-top min true (usedPairs min true A B))) refl)
 
 module _ (min max : Bool) (A B : Layers) (tA : Topped A) (tB : Topped B) (sA : Sound A) (sB : Sound B) where
   rA : Ranked (order A)
@@ -121,7 +119,8 @@ module _ (min max : Bool) (A B : Layers) (tA : Topped A) (tB : Topped B) (sA : S
   -- Products of frames are frames, products of closed cells closed cells.
   pub product-frame : need min max ≤ A .top → need min max ≤ B .top → Frame false false (order A)
       → Frame false false (order B) → Frame false false (order (product min max A B))
-  product-frame p q gA gB = Renumbering·frame (product-order min max A B tA tB sA sB) (Product·frame min max rA rB p q gA gB)
+  product-frame p q gA gB =
+      Renumbering·frame (product-order min max A B tA tB sA sB) (Product·frame min max rA rB p q gA gB)
 
   pub product-cell : need min max ≤ A .top → need min max ≤ B .top → together min max ≤ A .top + B .top
       → Cell false false (order A) → Cell false false (order B) → Cell false false (order (product min max A B))

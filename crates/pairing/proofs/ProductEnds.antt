@@ -14,9 +14,9 @@ use Rattle.listing.proofs.Layers.{in-range}
 use Rattle.pairing.specs.Sound.{Sound, Listed}
 use Rattle.pairing.specs.Trimmed.{bit, Used}
 use Rattle.pairing.specs.Paired.{El, position}
-use Rattle.pairing.specs.Product.{product, UsedPair, at}
+use Rattle.pairing.specs.Product.{usedPairs, product, UsedPair, at}
 use Rattle.pairing.proofs.Grown.{grown-top, grown-min-size, grown-min-listed, grown-max-size, grown-max-listed}
-use Rattle.pairing.proofs.Product.{inUse, product-topped}
+use Rattle.pairing.proofs.Product.{product-topped}
 use Rattle.pairing.proofs.ProductPairs.{at-used}
 
 -- ranks of pairs in use, as plain numbers
@@ -35,26 +35,26 @@ module _ (min max : Bool) (A B : Layers) where
 module _ (max : Bool) (A B : Layers) where
   pub product-min-size : product true max A B .size 0 ≡ 1
   unfolding product
-  product-min-size = grown-min-size max (inUse true max A B)
+  product-min-size = grown-min-size max (usedPairs true max A B)
 
   -- the added minimal element lies directly under the pairs of two elements of rank 1
   pub product-min : (x : El × El) → UsedPair true max A B x
       → Listed (product true max A B) (0, 0) (at true max A B x) ↔ ((x .0 .0 ≡ 1) × (x .1 .0 ≡ 1))
   unfolding product at position
   product-min x u =
-      Iff·trans (grown-min-listed max (inUse true max A B) (at true max A B x))
+      Iff·trans (grown-min-listed max (usedPairs true max A B) (at true max A B x))
       (lowest-pair (x .0 .0) (x .1 .0) (u .0 .1) (u .1 .1))
 
   -- and under nothing but pairs
   pub product-min-only : (y : El) → y .1 < product true max A B .size (y .0) → Listed (product true max A B) (0, 0) y
       → Used true max (product true max A B) y
   unfolding product
-  product-min-only y e l = (e, omega (arith, l .0), omega (arith, l .0, grown-top true max (inUse true max A B)))
+  product-min-only y e l = (e, omega (arith, l .0), omega (arith, l .0, grown-top true max (usedPairs true max A B)))
 
 module _ (min : Bool) (A B : Layers) where
   pub product-max-size : product min true A B .size (product min true A B .top) ≡ 1
   unfolding product
-  product-max-size = grown-max-size min (inUse min true A B)
+  product-max-size = grown-max-size min (usedPairs min true A B)
 
   -- the added maximal element lies directly over the pairs of two facets
   pub product-max : Topped A → Topped B → Sound A → Sound B → (x : El × El) → UsedPair min true A B x
@@ -63,8 +63,8 @@ module _ (min : Bool) (A B : Layers) where
   unfolding product at position
   product-max tA tB sA sB x u =
       let e = at-used min true A B tA tB sA sB x u .0 in
-      Iff·trans (grown-max-listed min (inUse min true A B) (at min true A B x) e)
-      (rw (grown-top min true (inUse min true A B))
+      Iff·trans (grown-max-listed min (usedPairs min true A B) (at min true A B x) e)
+      (rw (grown-top min true (usedPairs min true A B))
       (highest-pair (bit min) (A .top) (B .top) (x .0 .0) (x .1 .0) (u .0 .1) (u .1 .1) (u .0 .2) (u .1 .2)))
 
   -- and over nothing but pairs
@@ -72,7 +72,7 @@ module _ (min : Bool) (A B : Layers) where
       → Listed (product min true A B) y (product min true A B .top, 0) → Used min true (product min true A B) y
   unfolding product
   product-max-only y e l =
-      let h = grown-top min true (inUse min true A B) in
+      let h = grown-top min true (usedPairs min true A B) in
       (e, omega (arith, l .0), omega (arith, l .0))
 
 low-end : (min max : Bool) (A B : Layers) (y : El) → y .1 < product min max A B .size (y .0) → y .0 < bit min

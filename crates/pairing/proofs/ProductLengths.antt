@@ -1,27 +1,25 @@
 -- How many elements and incidences a product has, and the sups of a pair in it.
 -- Assumes nothing.
-use mathlib.Core.Path.{_≡_, refl, sym, ap, _∙_}
+use mathlib.Core.Path.{_≡_, ap, _∙_}
 use mathlib.Core.Logic.{_≢_}
-use mathlib.Core.Bool.{Bool, true, false}
-use mathlib.Core.List.{[], _∷_}
-use Prim.Native.Nat.{ℕ, zero, suc, _+_, _-_, _*_, _≤_, _<_}
+use mathlib.Core.Bool.{Bool}
+use Prim.Native.Nat.{ℕ, suc, _+_, _-_, _*_, _<_}
 use native.Mathlib.Nat.{mul-zero, zero-mul}
 use native.Mathlib.Decide.{decLt}
 use native.Mathlib.Omega.{arith}
-use lib.ListN.{length}
 use Rattle.order.specs.Sums.{sum}
 use Rattle.order.proofs.Sums.{sum-same}
-use Rattle.listing.specs.Layers.{Layers, Topped, gather, derived}
+use Rattle.listing.specs.Layers.{Layers, Topped, derived}
 use Rattle.listing.proofs.Written.{total}
 use Rattle.pairing.specs.Sound.{Sound}
 use Rattle.pairing.specs.Trimmed.{bit, trimmed}
 use Rattle.pairing.specs.Paired.{block, paired}
-use Rattle.pairing.specs.Product.{product}
+use Rattle.pairing.specs.Product.{usedPairs, product}
 use Rattle.pairing.specs.Lengths.{allSubs, pairedSubs, productSubs}
 use Rattle.pairing.proofs.Sequences.{sum-one}
 use Rattle.pairing.proofs.Trimmed.{trimmed-topped, trimmed-sound}
 use Rattle.pairing.proofs.Paired.{paired-sound}
-use Rattle.pairing.proofs.Product.{inUse, product-topped, product-sound}
+use Rattle.pairing.proofs.Product.{product-topped, product-sound}
 use Rattle.pairing.proofs.Lengths.{total-derived}
 use Rattle.pairing.proofs.PairedLengths.{paired-rankSubs}
 use Rattle.pairing.proofs.GrownLengths.{grown-subs, grown-count}
@@ -47,9 +45,9 @@ paired-highest A B tA tB =
 
 pub product-count : (min max : Bool) (A B : Layers)
     → sum (product min max A B .size) (suc (product min max A B .top))
-    ≡ sum (inUse min max A B .size) (suc (inUse min max A B .top)) + bit min + bit max
+    ≡ sum (usedPairs min max A B .size) (suc (usedPairs min max A B .top)) + bit min + bit max
 unfolding product
-product-count min max A B = grown-count min max (inUse min max A B)
+product-count min max A B = grown-count min max (usedPairs min max A B)
 
 -- ---- incidences
 

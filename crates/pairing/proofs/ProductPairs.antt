@@ -25,6 +25,11 @@ use Rattle.pairing.proofs.Product.{keptPair, product-topped, product-or
 abbrev pub placed : (min max : Bool) (A B : Layers) → El × El → trim min max (order (product min max A B)) .Elem
 placed min max A B x = kept min max (order (product min max A B)) (at min max A B x)
 
+-- A step between two pairs, as pairs of what is left.
+abbrev KeptStep : Bool → Bool → Layers → Layers → El × El → El × El → Type 0
+KeptStep min max A B x y =
+    Step (trim min max (order A) .Under) (trim min max (order B) .Under) (keptPair min max A B x) (keptPair min max A B y)
+
 kept-same : (min max : Bool) (M : Layers) (x y : El) → kept min max (order M) x ≡ kept min max (order M) y → x ≡ y
 kept-same min max M x y e =
     sym (whole-kept min max (order M) x) ∙ ap (whole min max (order M)) e ∙ whole-kept min max (order M) y
@@ -86,19 +91,18 @@ module _ (min max : Bool) (A B : Layers) (tA : Topped A) (tB : Topped B) (sA : S
       let e = kept-wholePair z in
       let x = wholePair z in
       let to = sym (product-pairs-to x) ∙ ap (product-pairs .to) e ∙ product-pairs .to-from _ k in
-      (x, keptPair-exists x .0 (subst (InUse min max (order A) (order B) .Exists) (sym e) (product-pairs .from-exists _ k)), kept-same min max P _ y to)
+      let there = subst (InUse min max (order A) (order B) .Exists) (sym e) (product-pairs .from-exists _ k) in
+      (x, keptPair-exists x .0 there, kept-same min max P _ y to)
 
-  step-in-use : (x y : El × El) → UsedPair min max A B x → UsedPair min max A B y
-      → Step (Listed A) (Listed B) x y
-      → Step (trim min max (order A) .Under) (trim min max (order B) .Under) (keptPair min max A B x) (keptPair min max A B y)
-  step-in-use x y p q (left l e) =
+  step-kept : (x y : El × El) → UsedPair min max A B x → UsedPair min max A B y
+      → Step (Listed A) (Listed B) x y → KeptStep min max A B x y
+  step-kept x y p q (left l e) =
       left (used-under min max A tA _ _ (p .0) (q .0) .1 l) (ap (kept min max (order B)) e)
-  step-in-use x y p q (right e l) =
+  step-kept x y p q (right e l) =
       right (ap (kept min max (order A)) e) (used-under min max B tB _ _ (p .1) (q .1) .1 l)
 
   step-listed : (x y : El × El) → UsedPair min max A B x → UsedPair min max A B y
-      → Step (trim min max (order A) .Under) (trim min max (order B) .Under) (keptPair min max A B x) (keptPair min max A B y)
-      → Step (Listed A) (Listed B) x y
+      → KeptStep min max A B x y → Step (Listed A) (Listed B) x y
   step-listed x y p q (left u e) =
       left (used-under min max A tA (x .0) (y .0) (p .0) (q .0) .0 u) (kept-same min max B (x .1) (y .1) e)
   step-listed x y p q (right e u) =
@@ -108,7 +112,8 @@ module _ (min max : Bool) (A B : Layers) (tA : Topped A) (tB : Topped B) (sA : S
   pub at-under : (x y : El × El) → UsedPair min max A B x → UsedPair min max A B y
       → Listed (product min max A B) (at min max A B x) (at min max A B y) ↔ Step (Listed A) (Listed B) x y
   at-under x y p q =
-      Iff·trans (Iff·symm (used-under min max _ (product-topped min max A B) _ _ (at-used x p) (at-used y q))) (to, from)
+      let k = used-under min max _ (product-topped min max A B) _ _ (at-used x p) (at-used y q) in
+      Iff·trans (Iff·symm k) (to, from)
     where
       to : trim min max (order (product min max A B)) .Under (placed min max A B x) (placed min max A B y)
           → Step (Listed A) (Listed B) x y
@@ -121,4 +126,4 @@ module _ (min max : Bool) (A B : Layers) (tA : Topped A) (tB : Topped B) (sA : S
       from s =
           let k = keptPair-exists x .1 p in
           let l = keptPair-exists y .1 q in
-          rw (product-pairs-to x, product-pairs-to y) at (product-pairs .to-under _ _ (k, l, step-in-use x y p q s))
+          rw (product-pairs-to x, product-pairs-to y) at (product-pairs .to-under _ _ (k, l, step-kept x y p q s))

@@ -10,7 +10,8 @@ use borrow.Author.Tests.{eq-eqb, ne-eqb}
 use lib.ListN.{length, length-append}
 use Rattle.order.specs.Lists.{In, Ascending, occurs}
 use Rattle.order.specs.Sums.{sum}
-use Rattle.order.proofs.Lists.{in-left, in-right, append-in, ascending-append, ascending-once, occurs-some, occurs-append}
+use Rattle.order.proofs.Lists.{in-left, in-right, append-in, ascending-append, ascending-once}
+use Rattle.order.proofs.Lists.{occurs-some, occurs-append}
 use Rattle.order.proofs.Sums.{sum-zero, sum-same}
 use Rattle.listing.proofs.Sequences.{occurs-same, occurs-other, sum-parts}
 use Rattle.pairing.specs.Grown.{upTo}

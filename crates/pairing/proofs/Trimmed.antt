@@ -8,7 +8,7 @@ use native.Mathlib.Decide.{decLt}
 use native.Mathlib.Omega.{arith}
 use Rattle.order.specs.Lists.{In, Ascending}
 use Rattle.order.specs.Sums.{choose}
-use Rattle.order.specs.Structure.{Order, Ranked, Renumbering}
+use Rattle.order.specs.Structure.{Renumbering}
 use Rattle.order.specs.Ends.{trim, kept}
 use Rattle.order.proofs.Sums.{choose-yes, choose-no}
 use Rattle.order.proofs.Pairs.{pair-path}
@@ -96,7 +96,7 @@ module _ (min max : Bool) (M : Layers) (t : Topped M) where
   pub used-exists : (x : ℕ × ℕ) → trim min max (order M) .Exists (kept min max (order M) x) ↔ Used min max M x
   used-exists x = kept-exists (order-ranked M t) min max x
 
-  -- among elements in use, what lies directly under what is left is what was listed
+  -- between elements in use, directly under means listed
   pub used-under : (x y : ℕ × ℕ) → Used min max M x → Used min max M y
       → trim min max (order M) .Under (kept min max (order M) x) (kept min max (order M) y) ↔ Listed M x y
   used-under x y p q = (
@@ -110,7 +110,8 @@ module _ (min max : Bool) (M : Layers) (t : Topped M) where
   left-used x e = used-exists (whole min max (order M) x) .0 (rw (kept-whole min max (order M) x) e)
 
   left-under : (x y : trim min max (order M) .Elem) → trim min max (order M) .Under x y
-      → order (trimmed min max M) .Under (lowered min (whole min max (order M) x)) (lowered min (whole min max (order M) y))
+      → order (trimmed min max M)
+      .Under (lowered min (whole min max (order M) x)) (lowered min (whole min max (order M) y))
   left-under x y u =
       let v = whole min max (order M) x in
       let w = whole min max (order M) y in
@@ -130,7 +131,8 @@ module _ (min max : Bool) (M : Layers) (t : Topped M) where
       → whole min max (order M) x .0 - bit min ≡ trim min max (order M) .rank x
   left-rank x e =
       let k = kept-whole min max (order M) x in
-      sym (kept-rank (order-ranked M t) min max (whole min max (order M) x) (rw k e)) ∙ ap (trim min max (order M) .rank) k
+      sym (kept-rank (order-ranked M t) min max (whole min max (order M) x) (rw k e))
+      ∙ ap (trim min max (order M) .rank) k
 
   pub trimmed-order : Renumbering (trim min max (order M)) (order (trimmed min max M))
   trimmed-order = record {
