@@ -64,13 +64,13 @@ module _ (M : Layers) where
   addMax-topped r h = choose-yes (decLt (M .top) r) _ _ (omega arith) ∙ choose-yes (decLt (suc (M .top)) r) _ _ h
 
   -- an element is the added one, or one that was there
-  abbrev Sort : ℕ × ℕ → Type 0
-  Sort x = (x ≡ (suc (M .top), 0)) ⊎ ((x .0 ≤ M .top) × (x .1 < M .size (x .0)))
+  abbrev AddedOrOld : ℕ × ℕ → Type 0
+  AddedOrOld x = (x ≡ (suc (M .top), 0)) ⊎ ((x .0 ≤ M .top) × (x .1 < M .size (x .0)))
 
-  sort : (x : ℕ × ℕ) → order (addMax M) .Exists x → Sort x
-  sort x e = go (decLt (M .top) (x .0))
+  added-or-old : (x : ℕ × ℕ) → order (addMax M) .Exists x → AddedOrOld x
+  added-or-old x e = go (decLt (M .top) (x .0))
     where
-      go : Dec (M .top < x .0) → Sort x
+      go : Dec (M .top < x .0) → AddedOrOld x
       go (yes l) =
           let a : x .0 ≡ suc (M .top) = omega (arith, in-range (addMax M) addMax-topped (x .0) (x .1) e) in
           let b : x .1 ≡ 0 = omega (arith, rw a at e, max-size-top) in
@@ -79,9 +79,9 @@ module _ (M : Layers) where
 
   pub addMax-sound : Sound M → Sound (addMax M)
   unfolding Sound
-  addMax-sound s r b a h m = go (sort (r, b) h)
+  addMax-sound s r b a h m = go (added-or-old (r, b) h)
     where
-      go : Sort (r, b) → (0 < r) × (a < maxSize M (pred r))
+      go : AddedOrOld (r, b) → (0 < r) × (a < maxSize M (pred r))
       go (inl e) =
           let q : r ≡ suc (M .top) = ap (λ (x : ℕ × ℕ). x .0) e in
           let k : a < M .size (M .top) = upTo-in a _ (rw (q, max-under-top b) at m) in
@@ -93,9 +93,9 @@ module _ (M : Layers) where
 
   pub addMax-sorted : Sorted M → Sorted (addMax M)
   unfolding Sorted
-  addMax-sorted s r b h = go (sort (r, b) h)
+  addMax-sorted s r b h = go (added-or-old (r, b) h)
     where
-      go : Sort (r, b) → Ascending (maxUnder M r b)
+      go : AddedOrOld (r, b) → Ascending (maxUnder M r b)
       go (inl e) = rw (ap (λ (x : ℕ × ℕ). x .0) e, max-under-top b) (upTo-ascending _)
       go (inr k) = rw (max-under-low r b (k .0)) (s r b (k .1))
 
@@ -110,9 +110,9 @@ module _ (M : Layers) (t : Topped M) where
   max-to-exists (old x) e = exists-low x e
 
   max-from-exists : (x : ℕ × ℕ) → order (addMax M) .Exists x → AddedExists (turned (order M)) (maxFrom (M .top) x)
-  max-from-exists x e = go (sort M x e)
+  max-from-exists x e = go (added-or-old M x e)
     where
-      go : Sort M x → AddedExists (turned (order M)) (maxFrom (M .top) x)
+      go : AddedOrOld M x → AddedExists (turned (order M)) (maxFrom (M .top) x)
       go (inl p) = rw (p, maxFrom-high (M .top) (suc (M .top), 0) (omega arith)) tt
       go (inr k) = rw (maxFrom-low (M .top) x (k .0)) (k .1)
 
@@ -121,9 +121,9 @@ module _ (M : Layers) (t : Topped M) where
   max-from-to (old x) e = maxFrom-low (M .top) x (in-range M t (x .0) (x .1) e)
 
   max-to-from : (x : ℕ × ℕ) → order (addMax M) .Exists x → maxTo (M .top) (maxFrom (M .top) x) ≡ x
-  max-to-from x e = go (sort M x e)
+  max-to-from x e = go (added-or-old M x e)
     where
-      go : Sort M x → maxTo (M .top) (maxFrom (M .top) x) ≡ x
+      go : AddedOrOld M x → maxTo (M .top) (maxFrom (M .top) x) ≡ x
       go (inl p) = ap (maxTo (M .top)) (maxFrom-high (M .top) x (omega (arith, ap (λ (y : ℕ × ℕ). y .0) p))) ∙ sym p
       go (inr k) = ap (maxTo (M .top)) (maxFrom-low (M .top) x (k .0))
 
@@ -141,9 +141,9 @@ module _ (M : Layers) (t : Topped M) where
 
   max-from-under : (x y : ℕ × ℕ) → order (addMax M) .Under x y
       → AddedUnder (turned (order M)) (maxFrom (M .top) y) (maxFrom (M .top) x)
-  max-from-under x y u = go (sort M x (u .0)) (sort M y (u .1))
+  max-from-under x y u = go (added-or-old M x (u .0)) (added-or-old M y (u .1))
     where
-      go : Sort M x → Sort M y → AddedUnder (turned (order M)) (maxFrom (M .top) y) (maxFrom (M .top) x)
+      go : AddedOrOld M x → AddedOrOld M y → AddedUnder (turned (order M)) (maxFrom (M .top) y) (maxFrom (M .top) x)
       go (inl p) q =
           let l = in-range (addMax M) (addMax-topped M) (y .0) (y .1) (u .1) in
           absurd (omega (arith, u .2, ap (λ (z : ℕ × ℕ). z .0) p))

@@ -18,7 +18,7 @@ abbrev pub minTo : Added (ℕ × ℕ) → ℕ × ℕ
 minTo end = (0, 0)
 minTo (old x) = (suc (x .0), x .1)
 
-abbrev pub minFrom : ℕ → ℕ → Added (ℕ × ℕ)
+abbrev minFrom : ℕ → ℕ → Added (ℕ × ℕ)
 minFrom zero a = end
 minFrom (suc r) a = old (r, a)
 

@@ -31,7 +31,7 @@ whole-kept true false W x = refl
 whole-kept false true W x = refl
 whole-kept false false W x = refl
 
--- the ends of a structure of height t taken off, said of a rank as plain numbers
+-- a rank r, and the top t, where the ends are taken off, as plain numbers
 top-off : (t r : ℕ) → (0 < t - r) ↔ (r + 1 ≤ t)
 top-off t r = (λ h. omega arith, λ h. omega arith)
 
@@ -47,14 +47,14 @@ lower-from-above t r h = from-above (pred t) (pred r) h ∙ omega arith
 lower : (r : ℕ) → pred r ≡ r - 1
 lower r = omega arith
 
-heights : (t : ℕ) → (pred (pred t) ≡ t - 1 - 1) × (pred t ≡ t - 1 - 0) × (pred t ≡ t - 0 - 1) × (t ≡ t - 0 - 0)
-heights t = (omega arith, omega arith, omega arith, omega arith)
+tops : (t : ℕ) → (pred (pred t) ≡ t - 1 - 1) × (pred t ≡ t - 1 - 0) × (pred t ≡ t - 0 - 1) × (t ≡ t - 0 - 0)
+tops t = (omega arith, omega arith, omega arith, omega arith)
 
 pub kept-top : (min max : Bool) (W : Order) → trim min max W .top ≡ W .top - bit min - bit max
-kept-top true true W = heights _ .0
-kept-top true false W = heights _ .1
-kept-top false true W = heights _ .2
-kept-top false false W = heights _ .3
+kept-top true true W = tops _ .0
+kept-top true false W = tops _ .1
+kept-top false true W = tops _ .2
+kept-top false false W = tops _ .3
 
 module _ {W : Order} (rW : Ranked W) where
   pub kept-exists : (min max : Bool) (x : W .Elem) → trim min max W .Exists (kept min max W x)

@@ -1,4 +1,4 @@
--- The product of two listings: it says what the product of their layers says, and its rank.
+-- The product of two listings says what the product of their layers says. Its rank; and it is closed where they are.
 -- Assumes nothing.
 use mathlib.Core.Path.{_≡_, refl, _∙_}
 use mathlib.Core.List.{List}

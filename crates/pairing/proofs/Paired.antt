@@ -17,7 +17,7 @@ use Rattle.listing.proofs.Layers.{order-ranked}
 use Rattle.pairing.specs.Sound.{Sound, Sorted}
 use Rattle.pairing.specs.Paired.{El, block, offset, position, pairAt, leftSubs, rightSubs, pairSubs, paired}
 use Rattle.pairing.proofs.Positions.{in-block, position-rank, position-exists, pairAt-exists}
-use Rattle.pairing.proofs.Positions.{pairAt-position, position-pairAt, pairAt-rank, found}
+use Rattle.pairing.proofs.Positions.{pairAt-position, position-pairAt, pairAt-rank, pairAt-found}
 
 -- Where a pair stands with another first, or second, member: an element with index a, a rank below the pair's own.
 abbrev pub leftAt : Layers → Layers → El × El → ℕ → ℕ
@@ -105,7 +105,7 @@ module _ (A B : Layers) (tA : Topped A) (tB : Topped B) (sA : Sound A) (sB : Sou
           → Pairs (order A) (order B) .Under (pairAt A B x) q
       go q e t =
           let r = ranked .step (t .0) q (t .1) in
-          rw (found A B x (t .0) (t .1 .0) (omega (arith, u .2)) (t .2)) (t .1)
+          rw (pairAt-found A B x (t .0) (t .1 .0) (omega (arith, u .2)) (t .2)) (t .1)
 
   pub paired-order : Renumbering (Pairs (order A) (order B)) (order (paired A B))
   paired-order = record {

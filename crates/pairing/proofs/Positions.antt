@@ -75,16 +75,16 @@ module _ (A B : Layers) where
   pairAt-rank y h = ap (λ (t : El). t .0) (position-pairAt y h)
 
   -- an element that stands where a pair does is that pair
-  pub found : (y : El) (x : El × El) → Pairs (order A) (order B) .Exists x → x .0 .0 + x .1 .0 ≡ y .0
+  pub pairAt-found : (y : El) (x : El × El) → Pairs (order A) (order B) .Exists x → x .0 .0 + x .1 .0 ≡ y .0
       → y .1 ≡ position A B x .1 → pairAt A B y ≡ x
   unfolding position
-  found y x e r k = ap (pairAt A B) (pair-path (sym r) k) ∙ pairAt-position x e
+  pairAt-found y x e r k = ap (pairAt A B) (pair-path (sym r) k) ∙ pairAt-position x e
 
   -- two pairs of one rank do not stand at one place
   pub position-one : (x y : El × El) → Pairs (order A) (order B) .Exists x → Pairs (order A) (order B) .Exists y
       → x .0 .0 + x .1 .0 ≡ y .0 .0 + y .1 .0 → position A B x .1 ≡ position A B y .1 → x ≡ y
   position-one x y ex ey r k =
-      sym (pairAt-position x ex) ∙ found (position A B x) y ey (sym (position-rank x ∙ r)) k
+      sym (pairAt-position x ex) ∙ pairAt-found (position A B x) y ey (sym (position-rank x ∙ r)) k
 
   -- what lies under the pair that stands there
   pub paired-under : (x : El × El) → Pairs (order A) (order B) .Exists x

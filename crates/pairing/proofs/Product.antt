@@ -58,15 +58,15 @@ need-bits true false = omega arith
 need-bits false true = omega arith
 need-bits false false = omega arith
 
-heights : (m n a b : ℕ) → m + n ≤ a → m + n ≤ b → a - m - n + (b - m - n) + m + n ≡ a + b - m - n
-heights m n a b p q = omega arith
+tops : (m n a b : ℕ) → m + n ≤ a → m + n ≤ b → a - m - n + (b - m - n) + m + n ≡ a + b - m - n
+tops m n a b p q = omega arith
 
 pub product-top : (min max : Bool) (A B : Layers) → need min max ≤ A .top → need min max ≤ B .top
     → product min max A B .top ≡ A .top + B .top - bit min - bit max
 unfolding product
 product-top min max A B p q =
     grown-top min max (usedPairs min max A B)
-    ∙ heights (bit min) (bit max) (A .top) (B .top) (rw need-bits at p) (rw need-bits at q)
+    ∙ tops (bit min) (bit max) (A .top) (B .top) (rw need-bits at p) (rw need-bits at q)
 
 module _ (min max : Bool) (A B : Layers) (tA : Topped A) (tB : Topped B) (sA : Sound A) (sB : Sound B) where
   usedPairs-order : Renumbering (InUse min max (order A) (order B)) (order (usedPairs min max A B))
@@ -116,7 +116,7 @@ module _ (min max : Bool) (A B : Layers) (tA : Topped A) (tB : Topped B) (sA : S
   rB : Ranked (order B)
   rB = order-ranked B tB
 
-  -- Products of frames are frames, products of closed cells closed cells.
+  -- products of frames are frames, and products of closed cells are closed cells
   pub product-frame : need min max ≤ A .top → need min max ≤ B .top → Frame false false (order A)
       → Frame false false (order B) → Frame false false (order (product min max A B))
   product-frame p q gA gB =

@@ -45,7 +45,7 @@ module _ (max : Bool) (A B : Layers) where
       Iff·trans (grown-min-listed max (usedPairs true max A B) (at true max A B x))
       (lowest-pair (x .0 .0) (x .1 .0) (u .0 .1) (u .1 .1))
 
-  -- and under nothing but pairs
+  -- and under nothing that is not a pair (at-onto says which)
   pub product-min-only : (y : El) → y .1 < product true max A B .size (y .0) → Listed (product true max A B) (0, 0) y
       → Used true max (product true max A B) y
   unfolding product
@@ -67,7 +67,7 @@ module _ (min : Bool) (A B : Layers) where
       (rw (grown-top min true (usedPairs min true A B))
       (highest-pair (bit min) (A .top) (B .top) (x .0 .0) (x .1 .0) (u .0 .1) (u .1 .1) (u .0 .2) (u .1 .2)))
 
-  -- and over nothing but pairs
+  -- and over nothing that is not a pair
   pub product-max-only : (y : El) → y .1 < product min true A B .size (y .0)
       → Listed (product min true A B) y (product min true A B .top, 0) → Used min true (product min true A B) y
   unfolding product

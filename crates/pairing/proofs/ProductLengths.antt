@@ -1,4 +1,4 @@
--- How many elements and incidences a product has, and the sups of a pair in it.
+-- How many elements a product has, and how many incidences, by the sizes and the subs of the trimmed factors.
 -- Assumes nothing.
 use mathlib.Core.Path.{_≡_, ap, _∙_}
 use mathlib.Core.Logic.{_≢_}

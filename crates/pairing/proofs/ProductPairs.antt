@@ -28,7 +28,9 @@ placed min max A B x = kept min max (order (product min max A B)) (at min max A 
 -- A step between two pairs, as pairs of what is left.
 abbrev KeptStep : Bool → Bool → Layers → Layers → El × El → El × El → Type 0
 KeptStep min max A B x y =
-    Step (trim min max (order A) .Under) (trim min max (order B) .Under) (keptPair min max A B x) (keptPair min max A B y)
+    let R = trim min max (order A) .Under in
+    let S = trim min max (order B) .Under in
+    Step R S (keptPair min max A B x) (keptPair min max A B y)
 
 kept-same : (min max : Bool) (M : Layers) (x y : El) → kept min max (order M) x ≡ kept min max (order M) y → x ≡ y
 kept-same min max M x y e =
@@ -60,16 +62,17 @@ module _ (min max : Bool) (A B : Layers) (tA : Topped A) (tB : Topped B) (sA : S
       used-exists min max _ (product-topped min max A B) (at min max A B x) .0
       (rw product-pairs-to at (product-pairs .to-exists _ (keptPair-exists x .1 u)))
 
-  at-back : (x : El × El) → UsedPair min max A B x
-      → product-pairs .from (placed min max A B x) ≡ keptPair min max A B x
+  -- the pair that stands at an element, as one of what is left of the factors
+  abbrev back : El → InUse min max (order A) (order B) .Elem
+  back y = product-pairs .from (kept min max (order (product min max A B)) y)
+
+  at-back : (x : El × El) → UsedPair min max A B x → back (at min max A B x) ≡ keptPair min max A B x
   at-back x u = ap (product-pairs .from) (sym (product-pairs-to x)) ∙ product-pairs .from-to _ (keptPair-exists x .1 u)
 
   -- two pairs in use do not stand at one place
   pub at-one : (x y : El × El) → UsedPair min max A B x → UsedPair min max A B y
       → at min max A B x ≡ at min max A B y → x ≡ y
   at-one x y p q e =
-      let back : El → InUse min max (order A) (order B) .Elem
-      = λ z. product-pairs .from (kept min max (order (product min max A B)) z) in
       let k = sym (at-back x p) ∙ ap back e ∙ at-back y q in
       pair-path (kept-same min max A _ _ (ap (λ z. z .0) k)) (kept-same min max B _ _ (ap (λ z. z .1) k))
 
@@ -87,9 +90,8 @@ module _ (min max : Bool) (A B : Layers) (tA : Topped A) (tB : Topped B) (sA : S
   at-onto y u =
       let P = product min max A B in
       let k = used-exists min max P (product-topped min max A B) y .1 u in
-      let z = product-pairs .from (kept min max (order P) y) in
-      let e = kept-wholePair z in
-      let x = wholePair z in
+      let e = kept-wholePair (back y) in
+      let x = wholePair (back y) in
       let to = sym (product-pairs-to x) ∙ ap (product-pairs .to) e ∙ product-pairs .to-from _ k in
       let there = subst (InUse min max (order A) (order B) .Exists) (sym e) (product-pairs .from-exists _ k) in
       (x, keptPair-exists x .0 there, kept-same min max P _ y to)

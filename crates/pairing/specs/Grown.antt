@@ -1,9 +1,12 @@
 -- Layers with an element more at an end.
 --
--- upTo      the numbers 0 .. n - 1
--- addMin    an element more under all of the lowest rank: each of those has it alone under it
--- addMax    an element more over all of the highest rank: it has all of those under it
--- grown     with a maximal element where max is set, and with a minimal one where min is
+-- upTo                the numbers 0 .. n - 1
+-- addMin              an element more under all of the lowest rank: each of those has it alone under it
+-- addMax              an element more over all of the highest rank: it has all of those under it
+-- minSize, minUnder   the sizes and the lists with the element more under all
+-- maxSize, maxUnder   the sizes and the lists with the element more over all
+-- growMin, growMax    one element more where the flag is set
+-- grown               with a maximal element where max is set, and with a minimal one where min is
 use mathlib.Core.Bool.{Bool, true, false}
 use mathlib.Core.List.{List, [], _∷_, _++_}
 use Prim.Native.Nat.{ℕ, zero, suc}

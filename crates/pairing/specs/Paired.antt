@@ -5,9 +5,11 @@
 -- block       how many pairs of rank R have a first member of rank i
 -- offset      how many pairs of the same rank come before those of the ranks i and j
 -- position    the rank and the index of a pair
+-- pairOf      the pair of rank R in a block, by the first member's rank and the place in the block
 -- pairAt      the pair at a rank and an index
 -- leftSubs    the positions of the pairs with the first member's subs in their order, the second member fixed
 -- rightSubs   the positions of the pairs with the second member's subs in their order, the first member fixed
+-- pairSubs    both, those of the first member before those of the second
 -- paired      the layers of all pairs
 use mathlib.Core.List.{List, _++_, map}
 use Prim.Native.Nat.{ℕ, suc, pred, _+_, _-_, _*_, _/_, _%_}

@@ -1,9 +1,11 @@
 -- The layers of a factor that a product uses.
 --
--- bit       a flag as a number: 1 where it is set
--- trimmed   the layers without the minimal rank where min is set, and without the maximal rank where max is: the ranks
---           count from the lowest in use, whose elements have nothing under them
--- Used      an element that is there and not of a rank left out
+-- bit         a flag as a number: 1 where it is set
+-- trimSize    how many elements a rank in use has
+-- trimUnder   what lies under an element in use
+-- trimmed     the layers without the minimal rank where min is set, and without the maximal rank where max is: ranks
+--             count from the lowest in use, whose elements have nothing under them
+-- Used        an element that is there and not of a rank left out
 use mathlib.Core.Bool.{Bool, true, false}
 use mathlib.Core.List.{List, []}
 use Prim.Native.Nat.{ℕ, zero, suc, _+_, _-_, _≤_, _<_}
