@@ -102,6 +102,7 @@ module _ (M : Layers) where
 module _ (M : Layers) (t : Topped M) where
   -- ---- the order
 
+  -- what was there is there
   exists-low : (x : ℕ × ℕ) → order M .Exists x → order (addMax M) .Exists x
   exists-low x e = rw (max-size-low M (x .0) (in-range M t (x .0) (x .1) e)) e
 

@@ -44,6 +44,7 @@ module _ (M : Layers) where
   unfolding derived minSize minUnder
   addMin-sups r a = refl
 
+  -- the subs by rank
   min-end : rankSubs (addMin M) 0 ≡ 0
   unfolding rankSubs minSize minUnder sum
   min-end = refl
@@ -83,6 +84,7 @@ module _ (M : Layers) where
   unfolding derived gather
   addMax-sups-high a h = rw (max-size-top M, max-under-top M 0, upTo-occurs a (M .size (M .top)) h)
 
+  -- the subs by rank
   max-lower : (r : ℕ) → r < suc (M .top) → rankSubs (addMax M) r ≡ rankSubs M r
   unfolding rankSubs
   max-lower r h =
@@ -100,6 +102,7 @@ module _ (M : Layers) where
 
 -- ---- both
 
+-- what was there has the sups that it had, but for the highest rank under an added maximal element
 pub grown-sups : (min max : Bool) (M : Layers) (r a : ℕ) → r + bit max ≤ M .top
     → derived (grown min max M) (r + bit min) a ≡ derived M r a
 grown-sups true true M r a h = rw add-one (addMin-sups (addMax M) r a ∙ addMax-sups M r a (omega arith))
@@ -118,6 +121,7 @@ pub grown-max-sups : (min : Bool) (M : Layers) (a : ℕ) → a < M .size (M .top
 grown-max-sups true M a h = rw add-one (addMin-sups (addMax M) (M .top) a ∙ addMax-sups-high M a h)
 grown-max-sups false M a h = rw add-zero (addMax-sups-high M a h)
 
+-- how many subs the added elements bring
 pub grown-subs : (min max : Bool) (M : Layers) → Sound M
     → allSubs (grown min max M) ≡ allSubs M + bit min * M .size 0 + bit max * M .size (M .top)
 grown-subs true true M s =

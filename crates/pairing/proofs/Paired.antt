@@ -85,6 +85,7 @@ module _ (A B : Layers) (tA : Topped A) (tB : Topped B) (sA : Sound A) (sB : Sou
           let p : t .0 .0 .0 + t .0 .1 .0 ≡ pred R = omega arith in
           (omega arith, rw (t .2, ← p) (rw (position-rank A B (t .0)) at (position-exists A B (t .0) (t .1 .0))))
 
+  -- a step between pairs is one between their positions, and back
   position-under : (x y : El × El) → Pairs (order A) (order B) .Under x y
       → order (paired A B) .Under (position A B x) (position A B y)
   unfolding position

@@ -27,6 +27,7 @@ module _ (A B : Layers) where
       let d : i + suc j - i ≡ suc j = omega arith in
       rw (e, block-next (i + suc j) i, d)
 
+  -- the place of a pair in its block
   pub in-block : (i a j b : ℕ) → a < A .size i → b < B .size j → a * B .size j + b < block A B (i + j) i
   unfolding block
   in-block i a j b ha hb =

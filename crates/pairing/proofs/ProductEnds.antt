@@ -75,6 +75,7 @@ module _ (min : Bool) (A B : Layers) where
       let h = grown-top min true (usedPairs min true A B) in
       (e, omega (arith, l .0), omega (arith, l .0))
 
+-- an element that is not in use is an added one
 low-end : (min max : Bool) (A B : Layers) (y : El) → y .1 < product min max A B .size (y .0) → y .0 < bit min
     → T min × (y ≡ (0, 0))
 low-end true max A B y e l =

@@ -37,6 +37,7 @@ module _ (min max : Bool) (A B : Layers) where
   product-size R h = grown-size min max (usedPairs min max A B) R h
 
   module _ (x : El × El) (u : UsedPair min max A B x) where
+    -- the pair exists among the pairs in use, and of what rank
     lowered-pair : Pairs (order (trimmed min max A)) (order (trimmed min max B)) .Exists (loweredPair min x)
     lowered-pair = (lowered-exists min max A _ _ (u .0), lowered-exists min max B _ _ (u .1))
 
@@ -104,6 +105,7 @@ module _ (min max : Bool) (M : Layers) (i a : ℕ) where
       let e : suc i + bit min ≡ suc (i + bit min) = omega arith in
       rw (trimmed-size min max M (suc i) h) (ap (λ (r : ℕ). gather (M .under r) a (M .size r)) e)
 
+  -- the highest rank in use has no sups
   pub trimmed-sups-none : M .top < suc i + bit min + bit max → derived (trimmed min max M) i a ≡ []
   unfolding derived gather trimSize
   trimmed-sups-none h = rw (choose-yes (decLt (M .top) (suc i + bit min + bit max)) 0 (M .size (suc i + bit min)) h)

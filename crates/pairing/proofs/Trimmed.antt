@@ -28,6 +28,7 @@ raised min x = (x .0 + bit min, x .1)
 module _ (min max : Bool) (M : Layers) where
   -- ---- which elements are left
 
+  -- what trimmed layers have is in use, and what is in use they have
   pub raised-used : (i a : ℕ) → a < trimSize min max M i → Used min max M (i + bit min, a)
   unfolding trimSize
   raised-used i a h = go (decLt (M .top) (i + bit min + bit max)) h
@@ -104,7 +105,7 @@ module _ (min max : Bool) (M : Layers) (t : Topped M) where
     λ l. kept-under (order-ranked M t) min max x y .1 ((p .0, q .0, l .0, l .1), p .1, q .2),
   )
 
-  -- what is left, read as part of the whole
+  -- an element that is left is in use, and what lies directly under it there does so in the trimmed layers
   left-used : (x : trim min max (order M) .Elem) → trim min max (order M) .Exists x
       → Used min max M (whole min max (order M) x)
   left-used x e = used-exists (whole min max (order M) x) .0 (rw (kept-whole min max (order M) x) e)
@@ -120,6 +121,7 @@ module _ (min max : Bool) (M : Layers) (t : Topped M) where
       let k = kept-under (order-ranked M t) min max v w .0 (rw (e, f) u) in
       lowered-under min max M v w (k .0) (k .1) (k .2)
 
+  -- and back
   raised-kept : (x y : ℕ × ℕ) → order (trimmed min max M) .Under x y
       → trim min max (order M) .Under (kept min max (order M) (raised min x)) (kept min max (order M) (raised min y))
   raised-kept x y u =
