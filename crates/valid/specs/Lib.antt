@@ -1,0 +1,6 @@
+pub mod Bounds
+pub mod Incidence
+pub mod Ascent
+pub mod Dyadic
+pub mod Tests
+pub mod Closed
