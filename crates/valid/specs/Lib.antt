@@ -1,5 +1,6 @@
 pub mod Bounds
 pub mod Incidence
+pub mod Ways
 pub mod Ascent
 pub mod Dyadic
 pub mod Tests

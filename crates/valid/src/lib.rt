@@ -1,5 +1,6 @@
 // The tests of a cell: those of the Rust's is_valid, and the closed test, which also looks at the top.
 pub mod bounds;
+pub mod incidence;
 
 use listing::Answer;
 ghost use mathlib.Core.Path.{_≡_};

@@ -1,3 +1,4 @@
+use Rattle.valid.proofs.BoundsExact.{bounded-yes, bounded-low, bounded-high}
 use native.Mathlib.Omega.{arith}
 use mathlib.Core.Path.{_≡_, refl, sym, ap, _∙_}
 use Prim.Native.Nat.{ℕ, zero, suc, _+_, _-_, _*_, _≤_, _<_}
@@ -31,15 +32,15 @@ plain-requires c κs = search needs
 
 -- src/bounds.rt:21:13
 returns : tie.Need-returns
-returns c = search needs
+returns c = λ e i. c .plain .ensures ∙ sym (bounded-yes _ (c .before .before .if1 .taken) (c .before .if2 .taken))
 
 -- src/bounds.rt:12:1
 returns-2 : tie.Need-returns-2
-returns-2 c = search needs
+returns-2 c = λ e i. sym (bounded-high _ (c .before .if1 .taken) (c .if2 .left))
 
 -- src/bounds.rt:12:1
 returns-3 : tie.Need-returns-3
-returns-3 c = search needs
+returns-3 c = λ e i. sym (bounded-low _ (c .if1 .left))
 
 pub check-bounded-spec : {M : Type 1} → statement M
 check-bounded-spec =
