@@ -2,3 +2,4 @@ pub mod Sequences
 pub mod Places
 pub mod BoundsExact
 pub mod IncidenceExact
+pub mod AscentExact

@@ -24,6 +24,12 @@ pub and-off : (a : Bool) {b : Bool} → b ≡ false → a && b ≡ false
 and-off true e = e
 and-off false e = refl
 
+-- what holds at both sides holds at each
+pub at-sides : (P : ℕ → Type 0) → P 0 → P 1 → (s : ℕ) → s < 2 → P s
+at-sides P p q zero h = p
+at-sides P p q (suc zero) h = q
+at-sides P p q (suc (suc s)) h = absurd (omega arith)
+
 -- ---- looking for a number, one place at a time
 
 module _ (l : List ℕ) (k a : ℕ) where

@@ -11,6 +11,7 @@
 -- Two            exactly two numbers have a property
 -- DiamondAt      the book's rule at rank r: whenever some element lies between, exactly two do
 -- Diamond        the book's rule at the ranks 2 to h
+-- Distinct       no list of the listing holds an index twice
 -- MetTwice       what the test counts where lists repeat: each index that a walk meets is met twice, by occurrence
 use mathlib.Core.Path.{_≡_}
 use mathlib.Core.Logic.{_≢_, _⊎_}
@@ -21,7 +22,7 @@ use Rattle.order.specs.Lists.{In, occurs}
 use Rattle.listing.specs.declared.Answer.{Answer}
 use Rattle.listing.specs.Refusals.{thirdBetween, loneBetween}
 use Rattle.listing.specs.Answers.{refusal, fine, on, _orElse_, firstOf}
-use Rattle.listing.specs.Listing.{Listing, count, before, entries, subs}
+use Rattle.listing.specs.Listing.{Listing, count, before, entries, side, subs}
 
 unfoldable pub subsOfAll : List ℕ → List ℕ → ℕ → List ℕ → List ℕ
 subsOfAll ends inc b [] = []
@@ -65,6 +66,9 @@ DiamondAt L r = (i x s : ℕ) → i < count L r → Between L r i x s → Two (B
 
 unfoldable pub Diamond : Listing → ℕ → Type 0
 Diamond L h = (r : ℕ) → 2 ≤ r → r ≤ h → DiamondAt L r
+
+unfoldable pub Distinct : Listing → Type 0
+Distinct L = (s r i x : ℕ) → s < 2 → i < count L r → occurs x (side L s r i) ≤ 1
 
 unfoldable pub MetTwice : Listing → ℕ → Type 0
 MetTwice L h = (r i x : ℕ) → 2 ≤ r → r ≤ h → i < count L r → In x (walk L r i) → occurs x (walk L r i) ≡ 2
