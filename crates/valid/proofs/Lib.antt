@@ -3,3 +3,4 @@ pub mod Places
 pub mod BoundsExact
 pub mod IncidenceExact
 pub mod AscentExact
+pub mod Walks

@@ -4,7 +4,7 @@ use mathlib.Core.Path.{_≡_, refl, sym, ap, _∙_}
 use mathlib.Core.Bool.{Bool, true, false, true≢false, cond, _&&_}
 use mathlib.Core.List.{List, [], _∷_}
 use mathlib.Core.Logic.{inl, inr}
-use Prim.Native.Nat.{ℕ, zero, suc, _+_, _≤_, _<_}
+use Prim.Native.Nat.{ℕ, zero, suc, _+_, _-_, _≤_, _<_}
 use native.Mathlib.Nat.{not-suc-le-zero, le-of-suc-le-suc}
 use native.Mathlib.Numerals.{add-one}
 use native.Mathlib.Omega.{arith}
@@ -13,7 +13,7 @@ use lib.ListN.{length, getD, drop, drop-of-length-le}
 use lib.Seq.{drop-cons}
 use Rattle.order.specs.Lists.{In, has}
 use Rattle.listing.specs.declared.Answer.{Answer}
-use Rattle.listing.specs.Answers.{_orElse_}
+use Rattle.listing.specs.Answers.{_orElse_, firstFor, firstOf}
 use Rattle.listing.proofs.Answers.{or-fine, or-stop}
 
 pub and-true : (a b : Bool) → a && b ≡ true → (a ≡ true) × (b ≡ true)
@@ -69,3 +69,17 @@ or-assoc x y z = go (x .no) refl
     go (suc n) e =
         let h : x .no ≡ 0 → ⊥ = λ w. omega arith in
         rw (or-stop x y h) (or-stop x z h ∙ sym (or-stop x (y orElse z) h))
+
+-- tests that answer alike on the way answer alike as a whole
+module _ (f g : ℕ → Answer) where
+  for-same : (d i : ℕ) → ((k : ℕ) → i ≤ k → k < i + d → f k ≡ g k) → firstFor f i d ≡ firstFor g i d
+  unfolding firstFor
+  for-same zero i e = refl
+  for-same (suc d) i e =
+      let p = e i (omega arith) (omega arith) in
+      let q = for-same d (suc i) (λ k l h. e k (omega arith) (omega arith)) in
+      λ j. p j orElse q j
+
+  pub of-same : (i n : ℕ) → ((k : ℕ) → i ≤ k → k < n → f k ≡ g k) → firstOf f i n ≡ firstOf g i n
+  unfolding firstOf
+  of-same i n e = for-same (n - i) i (λ k l h. e k l (omega arith))

@@ -3,5 +3,6 @@ pub mod Incidence
 pub mod Ways
 pub mod Ascent
 pub mod Dyadic
+pub mod Tally
 pub mod Tests
 pub mod Closed

@@ -1,6 +1,7 @@
 // The tests of a cell: those of the Rust's is_valid, and the closed test, which also looks at the top.
 pub mod ascent;
 pub mod bounds;
+pub mod dyadic;
 pub mod incidence;
 
 use listing::Answer;
