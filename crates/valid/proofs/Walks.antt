@@ -13,10 +13,10 @@ use lib.Seq.{drop-cons, take-suc, take-all, split-at, getD-set-same, getD-set-ot
 use Rattle.order.specs.Lists.{occurs}
 use Rattle.listing.specs.declared.Answer.{Answer}
 use Rattle.listing.specs.Answers.{fine, on, _orElse_, firstOf}
-use Rattle.listing.specs.Listing.{entries}
-use Rattle.listing.proofs.Answers.{or-fine, or-stop, or-no, no-or, on-off, stops, of-stop, of-next}
-use Rattle.valid.specs.Dyadic.{subsOfAll, thirdTest, seenAfter, loneTest}
-use Rattle.valid.specs.Tally.{Tally, Tallied, loneIn}
+use Rattle.listing.specs.Listing.{Listing, count, entries}
+use Rattle.listing.proofs.Answers.{or-fine, or-stop, or-no, no-or, on-off, stops, then-stop, then-go, of-stop, of-next, of-end}
+use Rattle.valid.specs.Dyadic.{subsOfAll, thirdTest, seenAfter, loneTest, walk, sectionsTest, dyadicTest}
+use Rattle.valid.specs.Tally.{third, lone, Tally, Tallied, loneIn}
 use Rattle.valid.proofs.Sequences.{or-assoc, of-same}
 
 -- ---- one walk after another
@@ -155,6 +155,9 @@ module _ (ends inc : List ℕ) (b : ℕ) where
   walk-append (s ∷ l) m =
       ap (λ (t : List ℕ). subsOf s ++ t) (walk-append l m) ∙ sym (append-assoc (subsOf s) (walkOf l) (walkOf m))
 
+  pub walk-same : {c : ℕ} {l m : List ℕ} → b ≡ c → l ≡ m → subsOfAll ends inc b l ≡ subsOfAll ends inc c m
+  walk-same p q = λ j. subsOfAll ends inc (p j) (q j)
+
   walk-one : (s : ℕ) → walkOf (s ∷ []) ≡ subsOf s
   unfolding subsOfAll
   walk-one s = append-nil (subsOf s)
@@ -200,3 +203,20 @@ pub lone-same : {n : ℕ} (f : ℕ → Answer) (t seen : List ℕ) (m : ℕ) →
 unfolding loneIn loneTest
 lone-same f t seen m T h =
     of-same _ _ 0 m (λ x _ k. ap (λ (c : ℕ). on (eqb c 1) (f x)) (T .counts x (omega arith)))
+
+-- ---- an element's sections: the third occurrence, then the index met once
+
+module _ (L : Listing) (r i : ℕ) where
+  pub sections-stop : {a : Answer} → a ≡ thirdTest (third r i) [] (walk L r i) → (a .no ≡ 0 → ⊥) → a ≡ sectionsTest L r i
+  unfolding sectionsTest
+  sections-stop e h = then-stop _ e h
+
+  pub sections-go : {a c : Answer} → a ≡ thirdTest (third r i) [] (walk L r i) → a .no ≡ 0
+      → c ≡ loneTest (lone r i) (seenAfter [] (walk L r i)) (count L (r - 2)) → c ≡ sectionsTest L r i
+  unfolding sectionsTest
+  sections-go e z f = then-go e z f
+
+-- below rank 2 there are no sections
+pub dyadic-low : (L : Listing) (h : ℕ) → h < 2 → dyadicTest L h ≡ fine
+unfolding dyadicTest
+dyadic-low L h k = of-end _ _ 2 (h + 1) refl (omega arith)

@@ -1,3 +1,7 @@
+use Rattle.valid.specs.Dyadic.{sectionsTest}
+use Rattle.listing.specs.Listing.{listing}
+use Rattle.listing.specs.Answers.{firstOf}
+use Rattle.listing.proofs.Answers.{of-return, of-turn, of-done}
 use borrow.Author.Needs.{needs}
 use native.Mathlib.Omega.{arith}
 use mathlib.Core.Path.{_≡_, refl, sym, ap, _∙_}
@@ -11,10 +15,10 @@ use Rattle.listing.proofs.inner.plain.Reads as plain-reads
 use Rattle.valid.proofs.dyadic.check_sections.Reads as check-sections-reads
 
 abbrev Inv-loop : tie.InvT-loop
-Inv-loop counts ends inc b r n i₀ i = ?
+Inv-loop counts ends inc b r n i₀ i = (i ≤ n) × (firstOf (sectionsTest (listing counts ends inc) r) 0 n ≡ firstOf (sectionsTest (listing counts ends inc) r) i n)
 
 abbrev μ-loop : tie.MeasureT-loop
-μ-loop counts ends inc b r n i₀ i = ?
+μ-loop counts ends inc b r n i₀ i = n - i
 
 -- src/dyadic.rt:119:13
 mul-n : tie.Need-mul-n Inv-loop μ-loop
@@ -34,11 +38,11 @@ check-sections-requires c κs = search needs
 
 -- src/dyadic.rt:124:13
 returns : tie.Need-returns Inv-loop μ-loop
-returns c = search needs
+returns c = search of-return
 
 -- src/dyadic.rt:126:9
 add-i : tie.Need-add-i Inv-loop μ-loop
-add-i c = search needs
+add-i c = omega (arith, c .before .before .before .before .before .shared-slice-known4 .given (c .before .before .before .before .before .before .before .before .before .args .r))
 
 -- src/dyadic.rt:121:5
 loop-less : tie.Need-loop-less Inv-loop μ-loop
@@ -46,7 +50,7 @@ loop-less c = search needs
 
 -- src/dyadic.rt:121:5
 loop-again : tie.Need-loop-again Inv-loop μ-loop
-loop-again c = search needs
+loop-again c = (omega arith, of-turn _ _ _ _ _ (c .before .before .before .before .loop .inv .1) (c .before .before .check-sections .ensures) (c .before .before .before .loop-test .taken) (c .if1 .left))
 
 -- src/dyadic.rt:128:5
 plain-requires : tie.Need-plain-requires Inv-loop μ-loop
@@ -54,7 +58,7 @@ plain-requires c κs = search needs
 
 -- src/dyadic.rt:112:1
 returns-2 : tie.Need-returns-2 Inv-loop μ-loop
-returns-2 c = search needs
+returns-2 c = search of-done
 
 pub check-rank-spec : {M : Type 1} → statement M
 check-rank-spec =

@@ -1,3 +1,9 @@
+use Rattle.valid.proofs.Places.{before-step, few-before}
+use Rattle.valid.specs.Dyadic.{sectionsTest, dyadicTest}
+use Rattle.listing.specs.Listing.{listing, before}
+use Rattle.listing.specs.Answers.{firstOf}
+use Rattle.listing.proofs.Listing.{before-zero, before-next}
+use Rattle.listing.proofs.Answers.{of-return, of-turn, of-done}
 use borrow.Author.Needs.{needs}
 use native.Mathlib.Omega.{arith}
 use mathlib.Core.Path.{_≡_, refl, sym, ap, _∙_}
@@ -12,10 +18,10 @@ use Rattle.listing.proofs.inner.wide.Reads as wide-reads
 use Rattle.valid.proofs.dyadic.check_rank.Reads as check-rank-reads
 
 abbrev Inv-loop : tie.InvT-loop
-Inv-loop counts ends inc high b₀ r₀ b r = ?
+Inv-loop counts ends inc high b₀ r₀ b r = (2 ≤ r) × (b ≡ before counts (r - 1)) × (dyadicTest (listing counts ends inc) high ≡ firstOf (λ q. firstOf (sectionsTest (listing counts ends inc) q) 0 (getD counts q 0)) r (high + 1))
 
 abbrev μ-loop : tie.MeasureT-loop
-μ-loop counts ends inc high b₀ r₀ b r = ?
+μ-loop counts ends inc high b₀ r₀ b r = high + 1 - r
 
 -- src/dyadic.rt:138:29
 shared-slice-read-wide : tie.Need-shared-slice-read-wide Inv-loop μ-loop
@@ -27,15 +33,16 @@ wide-requires c κs = search needs
 
 -- src/dyadic.rt:140:5
 loop-holds : tie.Need-loop-holds Inv-loop μ-loop
-loop-holds c = search needs
+unfolding dyadicTest
+loop-holds c = let l = c .before .before .before .before .before .args .counts .now in (omega arith, omega (arith, before-next l 0, before-zero l), refl)
 
 -- src/dyadic.rt:141:13
 check-rank-requires : tie.Need-check-rank-requires Inv-loop μ-loop
-check-rank-requires c κs = search needs
+check-rank-requires c κs = let s = c .before .before .before .before .before .before .before in (s .pre .0, (s .pre .1 .0, (c .before .loop .inv .1, c .before .loop .inv .0, omega arith)))
 
 -- src/dyadic.rt:143:13
 returns : tie.Need-returns Inv-loop μ-loop
-returns c = search needs
+returns c = of-return _ _ _ _ _ (c .before .before .before .before .loop .inv .2) (c .before .before .check-rank .ensures) (omega arith) (c .if1 .taken)
 
 -- src/dyadic.rt:145:33
 sub-wide : tie.Need-sub-wide Inv-loop μ-loop
@@ -55,7 +62,7 @@ wide-requires-2 c κs = search needs
 
 -- src/dyadic.rt:145:9
 add-b : tie.Need-add-b Inv-loop μ-loop
-add-b c = search needs
+add-b c = let s = c .before .before .before .before .before .before .before .before .before .before .before .before in let r = c .before .before .before .before .before .before .loop .r in omega (arith, before-step (s .args .counts .now) r (omega arith), few-before (listing (s .args .counts .now) (s .args .ends .now) (s .args .inc .now)) (s .pre .0) r)
 
 -- src/dyadic.rt:146:9
 add-r : tie.Need-add-r Inv-loop μ-loop
@@ -67,7 +74,7 @@ loop-less c = search needs
 
 -- src/dyadic.rt:140:5
 loop-again : tie.Need-loop-again Inv-loop μ-loop
-loop-again c = search needs
+loop-again c = let l = c .before .before .before .before .before .before .before .before .before .before .before .before .args .counts .now in let r = c .before .before .before .before .before .before .loop .r in let e : r + 1 - 1 ≡ r = omega arith in (omega arith, rw e (omega (arith, before-step l r (omega arith))), of-turn _ _ _ _ _ (c .before .before .before .before .before .before .loop .inv .2) (c .before .before .before .before .check-rank .ensures) (omega arith) (c .before .before .if1 .left))
 
 -- src/dyadic.rt:148:5
 plain-requires : tie.Need-plain-requires Inv-loop μ-loop
@@ -75,7 +82,7 @@ plain-requires c κs = search needs
 
 -- src/dyadic.rt:132:1
 returns-2 : tie.Need-returns-2 Inv-loop μ-loop
-returns-2 c = search needs
+returns-2 c = of-done _ _ _ _ _ (c .before .before .loop .inv .2) (c .plain .ensures) (omega arith)
 
 pub check-to-spec : {M : Type 1} → statement M
 check-to-spec =
