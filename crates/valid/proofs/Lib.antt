@@ -4,3 +4,6 @@ pub mod BoundsExact
 pub mod IncidenceExact
 pub mod AscentExact
 pub mod Walks
+pub mod Pairs
+pub mod DyadicExact
+pub mod ClosedExact
