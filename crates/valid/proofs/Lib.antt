@@ -7,3 +7,4 @@ pub mod Walks
 pub mod Pairs
 pub mod DyadicExact
 pub mod ClosedExact
+pub mod Starred
