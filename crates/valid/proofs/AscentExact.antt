@@ -2,21 +2,21 @@
 -- listing strictly ascends.
 -- Assumes nothing.
 use mathlib.Core.Path.{_≡_, refl, sym, ap, _∙_}
-use mathlib.Core.Bool.{Bool, true, false, not, _&&_}
-use mathlib.Core.List.{List, [], _∷_}
 use mathlib.Core.Logic.{_↔_, _⊎_, inl, inr}
-use Prim.Native.Nat.{ℕ, zero, suc, _+_, _≤_, _<_}
+use mathlib.Core.Bool.{true, false, not, _&&_}
+use mathlib.Core.List.{List, [], _∷_}
+use Prim.Native.Nat.{ℕ, _+_, _≤_, _<_}
 use native.Mathlib.Numerals.{add-one}
 use native.Mathlib.Omega.{arith}
 use borrow.Author.Tests.{leb-true, le-leb, lt-leb, not-false}
 use lib.Dec.{leb}
 use lib.ListN.{length, getD, drop, drop-of-length-le}
 use lib.Seq.{drop-cons}
-use Rattle.order.specs.Lists.{In, Ascending, occurs}
 use Rattle.order.proofs.Lists.{ascending-once}
-use Rattle.listing.specs.Refusals.{notAscending}
+use Rattle.order.specs.Lists.{In, Ascending}
 use Rattle.listing.specs.Answers.{fine, refusal}
 use Rattle.listing.specs.Listing.{Listing, count, side}
+use Rattle.listing.specs.Refusals.{notAscending}
 use Rattle.listing.proofs.Answers.{or-no, no-or, on-no, on-off, of-each, of-all}
 use Rattle.listing.proofs.Listing.{rank-there}
 use Rattle.valid.specs.Ascent.{climbs, sideAscent, elementAscent, ascentTest, Ascends}

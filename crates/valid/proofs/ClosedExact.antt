@@ -8,11 +8,11 @@ use native.Mathlib.Omega.{arith}
 use Rattle.listing.specs.Listing.{Listing, Limits, rank}
 use Rattle.listing.proofs.Answers.{or-no, no-or}
 use Rattle.listing.proofs.ShapeExact.{shape-exact}
-use Rattle.valid.specs.Incidence.{Incident}
 use Rattle.valid.specs.Ascent.{Ascends}
-use Rattle.valid.specs.Dyadic.{DiamondAt, Diamond}
-use Rattle.valid.specs.Tests.{isValid, closed}
 use Rattle.valid.specs.Closed.{Closed}
+use Rattle.valid.specs.Dyadic.{DiamondAt, Diamond}
+use Rattle.valid.specs.Incidence.{Incident}
+use Rattle.valid.specs.Tests.{isValid, closed}
 use Rattle.valid.proofs.BoundsExact.{bounded-exact}
 use Rattle.valid.proofs.IncidenceExact.{incidences-exact}
 use Rattle.valid.proofs.AscentExact.{ascent-exact, ascends-distinct}

@@ -4,34 +4,20 @@
 use mathlib.Core.Path.{_≡_, refl, sym, ap, _∙_}
 use mathlib.Core.Logic.{_↔_, _⊎_, inl, inr, ⊎-elim}
 use mathlib.Core.Bool.{Bool, true, false, cond}
-use mathlib.Core.List.{List, [], _∷_, _++_}
-use Prim.Native.Nat.{ℕ, zero, suc, _+_, _-_, _*_, _≤_, _<_}
+use mathlib.Core.List.{List, [], _∷_}
+use Prim.Native.Nat.{ℕ, _+_, _-_, _≤_, _<_}
 use native.Mathlib.Omega.{arith}
-use borrow.Author.Tests.{eqb-false, eq-eqb, ne-eqb, leb-false, lt-leb}
+use borrow.Author.Tests.{eqb-false, ne-eqb, leb-false, lt-leb}
 use lib.Dec.{leb, eqb}
 use lib.ListN.{length}
-use Rattle.order.specs.Lists.{In, has, occurs}
 use Rattle.order.proofs.Lists.{in?, in-append, in-left, in-right, has-yes, has-no, occurs-none, occurs-some, occurs-append}
-use Rattle.listing.specs.declared.Answer.{Answer}
+use Rattle.order.specs.Lists.{In, has, occurs}
 use Rattle.listing.specs.Answers.{on, firstOf}
-use Rattle.listing.specs.Listing.{Listing, count, before, entries, subs}
+use Rattle.listing.specs.Listing.{Listing, count, before, subs}
+use Rattle.listing.specs.declared.Answer.{Answer}
 use Rattle.listing.proofs.Answers.{or-no, no-or, on-no, on-off, of-each, of-all}
+use Rattle.valid.specs.Dyadic.{subsOfAll, walk, thirdTest, seenAfter, loneTest, sectionsTest, dyadicTest, Between, Two, DiamondAt, Diamond, Distinct, MetTwice}
 use Rattle.valid.specs.Incidence.{Incident}
-use Rattle.valid.specs.Dyadic.{
-  subsOfAll,
-  walk,
-  thirdTest,
-  seenAfter,
-  loneTest,
-  sectionsTest,
-  dyadicTest,
-  Between,
-  Two,
-  DiamondAt,
-  Diamond,
-  Distinct,
-  MetTwice,
-}
 use Rattle.valid.specs.Tally.{third, lone}
 use Rattle.valid.proofs.Pairs.{occurs-cons, occurs-own, occurs-other, occurs-nil, same, Once, keep, in-keep, once-keep, two-exact, two-map}
 use Rattle.valid.proofs.Walks.{subsOf}

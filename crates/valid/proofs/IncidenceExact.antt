@@ -2,24 +2,24 @@
 -- Incident.
 -- Assumes nothing.
 use mathlib.Core.Path.{_≡_, refl, sym, ap, _∙_}
+use mathlib.Core.Logic.{_↔_, _⊎_, inl, inr}
 use mathlib.Core.Bool.{Bool, true, false, _&&_}
 use mathlib.Core.List.{List}
-use mathlib.Core.Logic.{_↔_, _⊎_, inl, inr}
 use Prim.Native.Nat.{ℕ, zero, suc, _+_, _-_, _*_, _≤_, _<_}
 use native.Mathlib.Omega.{arith}
-use borrow.Author.Tests.{eqb-true, eqb-false, eq-eqb, ne-eqb, lt-ltb, le-ltb, ltb-true, ltb-false}
+use borrow.Author.Tests.{eqb-false, ne-eqb, lt-ltb, le-ltb, ltb-true, ltb-false}
 use lib.Dec.{ltb, eqb}
 use lib.ListN.{length}
-use Rattle.order.specs.Lists.{In, has}
 use Rattle.order.proofs.Lists.{has-yes}
-use Rattle.listing.specs.declared.Answer.{Answer}
+use Rattle.order.specs.Lists.{In, has}
 use Rattle.listing.specs.Answers.{fine, refusal, on, _orElse_}
 use Rattle.listing.specs.Listing.{Listing, rank, count, below, entries, subs, sups}
+use Rattle.listing.specs.declared.Answer.{Answer}
 use Rattle.listing.proofs.Answers.{or-no, no-or, on-no, on-off, or-stop, or-fine, then-stop, then-go, in-each, in-all, of-each, of-all}
-use Rattle.listing.proofs.Listing.{start-more, rank-there}
-use Rattle.valid.specs.declared.incidence.Way.{Way}
+use Rattle.listing.proofs.Listing.{rank-there}
 use Rattle.valid.specs.Incidence.{entryTest, alongTest, elementTest, incidencesTest, Incident}
 use Rattle.valid.specs.Ways.{down, up, listTest}
+use Rattle.valid.specs.declared.incidence.Way.{Way}
 use Rattle.valid.proofs.Sequences.{and-off, some-in, in-some, or-assoc}
 
 -- ---- an entry

@@ -9,11 +9,11 @@ use native.Mathlib.Omega.{arith}
 use borrow.Author.Tests.{eqb-true, eqb-false, eq-eqb, ne-eqb, le-leb, lt-leb}
 use lib.Dec.{leb, eqb}
 use lib.ListN.{length, getD, take, drop, set, length-set, replicate, length-replicate, getD-replicate}
-use lib.Seq.{drop-cons, take-suc, take-all, split-at, getD-set-same, getD-set-other}
+use lib.Seq.{take-suc, take-all, split-at, getD-set-same, getD-set-other}
 use Rattle.order.specs.Lists.{occurs}
-use Rattle.listing.specs.declared.Answer.{Answer}
 use Rattle.listing.specs.Answers.{fine, on, _orElse_, firstOf}
 use Rattle.listing.specs.Listing.{Listing, count, entries}
+use Rattle.listing.specs.declared.Answer.{Answer}
 use Rattle.listing.proofs.Answers.{or-fine, or-stop, or-no, no-or, on-off, stops, then-stop, then-go, of-stop, of-next, of-end}
 use Rattle.valid.specs.Dyadic.{subsOfAll, thirdTest, seenAfter, loneTest, walk, sectionsTest, dyadicTest}
 use Rattle.valid.specs.Tally.{third, lone, Tally, Tallied, loneIn}

@@ -87,5 +87,5 @@ pub fn closed(counts: &[u16], ends: &[u16], inc: &[u16]) -> Answer
     if t.no != 0 {
         return t;
     }
-    dyadic::check_to(counts, ends, inc, counts.len() - 1)
+    dyadic::check_up_to(counts, ends, inc, counts.len() - 1)
 }
