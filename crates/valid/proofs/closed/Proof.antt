@@ -44,18 +44,21 @@ sub-check-up-to c =
 
 check-up-to-requires : tie.Need-check-up-to-requires
 check-up-to-requires c κs =
-    let d = c .before .before .before .before .before .before .before .before .before in
-    let S = shaped _ _ (no-of (d .before .before .shape .ensures) (d .if1 .left)) in
-    let I = incidences-exact _ .0 (no-of (c .before .before .before .before .before .check-all .ensures) (c .before .before .before .if3 .left)) in
+    let d = c .before .before .before in
+    let b = d .before .before .before .before .before .before in
+    let S = shaped _ _ (no-of (b .before .before .shape .ensures) (b .if1 .left)) in
+    let I = incidences-exact _ .0 (no-of (d .before .before .check-all .ensures) (d .if3 .left)) in
     (S, (I, omega (arith, S)))
 
 returns-5 : tie.Need-returns-5
 unfolding closed
 returns-5 c =
-    let d = c .before .before .before .before .before .before .before .before .before in
-    then-go (d .before .before .before .shape .ensures) (d .before .if1 .left)
-    (then-go (d .check-bounded .ensures _ _) (c .before .before .before .before .before .before .before .if2 .left)
-    (then-go (c .before .before .before .before .before .before .check-all .ensures) (c .before .before .before .before .if3 .left)
+    let i = c .before .before .before .before in
+    let b = i .before .before .before in
+    let s = b .before .before .before in
+    then-go (s .before .before .shape .ensures) (s .if1 .left)
+    (then-go (b .before .before .check-bounded .ensures _ _) (b .if2 .left)
+    (then-go (i .before .before .check-all .ensures) (i .if3 .left)
     (then-go (c .before .before .before .check-all2 .ensures) (c .before .if4 .left) (c .check-up-to .ensures))))
 
 pub closed-spec : {M : Type 1} → statement M

@@ -22,7 +22,8 @@ returns-2 c = search (then-go, then-stop)
 
 check-below-top-requires : tie.Need-check-below-top-requires
 check-below-top-requires c κs =
-    let S = shaped _ _ (no-of (c .before .before .before .before .before .shape .ensures) (c .before .before .before .if1 .left)) in
+    let d = c .before .before .before in
+    let S = shaped _ _ (no-of (d .before .before .shape .ensures) (d .if1 .left)) in
     (S, incidences-exact _ .0 (no-of (c .before .before .check-all .ensures) (c .if2 .left)))
 
 returns-3 : tie.Need-returns-3

@@ -58,9 +58,10 @@ loop-less c = search needs
 loop-again : tie.Need-loop-again Inv-loop μ-loop
 loop-again c =
     let d = c .before .before .before .before in
-    let b = before-next (c .before .before .before .before .before .before .before .before .before .before .args .counts .now) (d .before .before .loop .r) in
-    let t = of-turn _ _ _ _ _ (d .before .before .loop .inv .2) (d .check-rank .ensures) (d .before .loop-test .taken) (c .before .before .if1 .left) in
-    (omega arith, omega arith, t)
+    let l = d .before .before .before .before .before .before .args .counts .now in
+    let b = before-next l (d .before .before .loop .r) in
+    let t = of-turn _ _ _ _ _ (d .before .before .loop .inv .2) (d .check-rank .ensures) in
+    (omega arith, omega arith, t (d .before .loop-test .taken) (c .before .before .if1 .left))
 
 plain-requires : tie.Need-plain-requires Inv-loop μ-loop
 plain-requires c κs = search needs

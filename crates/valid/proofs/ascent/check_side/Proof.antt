@@ -43,11 +43,13 @@ cast-t12 c = search needs
 
 returns : tie.Need-returns
 returns c =
-    c .plain .ensures
-    ∙ sym (side-climbs _ _ _ _ (its (c .before .before .before)) (sym (c .before .before .climbs .ensures) ∙ c .before .if1 .taken))
+    let h = sym (c .before .before .climbs .ensures) ∙ c .before .if1 .taken in
+    c .plain .ensures ∙ sym (side-climbs _ _ _ _ (its (c .before .before .before)) h)
 
 returns-2 : tie.Need-returns-2
-returns-2 c = sym (side-falls _ _ _ _ (its (c .before .before)) (sym (c .before .climbs .ensures) ∙ c .if1 .left))
+returns-2 c =
+    let h = sym (c .before .climbs .ensures) ∙ c .if1 .left in
+    sym (side-falls _ _ _ _ (its (c .before .before)) h)
 
 pub check-side-spec : {M : Type 1} → statement M
 check-side-spec =

@@ -28,8 +28,9 @@ wide-requires c κs = search needs
 
 returns : tie.Need-returns Inv-loop μ-loop
 returns c =
-    let x = c .before .wide .ensures .0 in
-    sym (c .before .before .before .before .loop .inv .1 ∙ climbs-stop _ _ _ (c .before .before .before .loop-test .taken) x (c .if1 .taken))
+    let d = c .before .before .before in
+    let t = climbs-stop _ _ _ (d .loop-test .taken) (c .before .wide .ensures .0) (c .if1 .taken) in
+    sym (d .before .loop .inv .1 ∙ t)
 
 add-from : tie.Need-add-from Inv-loop μ-loop
 add-from c = search needs
@@ -42,8 +43,9 @@ loop-less c = search needs
 
 loop-again : tie.Need-loop-again Inv-loop μ-loop
 loop-again c =
-    let x = c .before .wide .ensures .0 in
-    (omega arith, c .before .before .before .before .loop .inv .1 ∙ climbs-next _ _ _ (c .before .before .before .loop-test .taken) x (c .if1 .left))
+    let d = c .before .before .before in
+    let t = climbs-next _ _ _ (d .loop-test .taken) (c .before .wide .ensures .0) (c .if1 .left) in
+    (omega arith, d .before .loop .inv .1 ∙ t)
 
 returns-2 : tie.Need-returns-2 Inv-loop μ-loop
 returns-2 c = sym (c .before .loop .inv .1 ∙ climbs-end _ _ _ (c .loop-test .left))

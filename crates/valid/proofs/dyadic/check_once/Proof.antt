@@ -33,10 +33,11 @@ sub-t11 c = search needs
 
 returns : tie.Need-returns Inv-loop μ-loop
 returns c =
-    let a = c .before .before .before .before .before .args in
-    let w = c .before .before .wide .ensures .0 in
-    lone-stop _ (lone (a .r) (a .i)) (a .tally .now) (c .before .before .before .before .loop .x) (a .n) (c .before .before .before .before .loop .inv .1)
-    (c .before .before .before .loop-test .taken) _ w (c .if1 .taken) (λ z. omega arith)
+    let d = c .before .before .before in
+    let a = d .before .before .args in
+    let x = d .before .loop .x in
+    lone-stop _ (lone (a .r) (a .i)) (a .tally .now) x (a .n) (d .before .loop .inv .1) (d .loop-test .taken)
+    _ (c .before .before .wide .ensures .0) (c .if1 .taken) (λ z. omega arith)
 
 add-x : tie.Need-add-x Inv-loop μ-loop
 add-x c = search needs
@@ -46,10 +47,11 @@ loop-less c = search needs
 
 loop-again : tie.Need-loop-again Inv-loop μ-loop
 loop-again c =
-    let a = c .before .before .before .before .before .args in
-    let w = c .before .before .wide .ensures .0 in
-    let t = lone-next _ (lone (a .r) (a .i)) (a .tally .now) (c .before .before .before .before .loop .x) (a .n) (c .before .before .before .before .loop .inv .1) in
-    (omega arith, t (c .before .before .before .loop-test .taken) _ w (c .if1 .left))
+    let d = c .before .before .before in
+    let a = d .before .before .args in
+    let x = d .before .loop .x in
+    let t = lone-next _ (lone (a .r) (a .i)) (a .tally .now) x (a .n) (d .before .loop .inv .1) (d .loop-test .taken) in
+    (omega arith, t _ (c .before .before .wide .ensures .0) (c .if1 .left))
 
 plain-requires : tie.Need-plain-requires Inv-loop μ-loop
 plain-requires c κs = search needs

@@ -42,7 +42,8 @@ check-rank-requires c κs =
 
 returns : tie.Need-returns Inv-loop μ-loop
 returns c =
-    of-return _ _ _ _ _ (c .before .before .before .before .loop .inv .2) (c .before .before .check-rank .ensures) (omega arith) (c .if1 .taken)
+    let d = c .before .before in
+    of-return _ _ _ _ _ (d .before .before .loop .inv .2) (d .check-rank .ensures) (omega arith) (c .if1 .taken)
 
 sub-wide : tie.Need-sub-wide Inv-loop μ-loop
 sub-wide c = search needs
@@ -72,12 +73,12 @@ loop-less c = search needs
 
 loop-again : tie.Need-loop-again Inv-loop μ-loop
 loop-again c =
-    let d = c .before .before .before .before .before .before in
-    let l = d .before .before .before .before .before .before .args .counts .now in
-    let r = d .loop .r in
+    let d = c .before .before .before .before in
+    let l = d .before .before .before .before .before .before .before .before .args .counts .now in
+    let r = d .before .before .loop .r in
     let e : r + 1 - 1 ≡ r = omega arith in
-    let t = of-turn _ _ _ _ _ (d .loop .inv .2) (c .before .before .before .before .check-rank .ensures) (omega arith) (c .before .before .if1 .left) in
-    (omega arith, rw e (omega (arith, before-step l r (omega arith))), t)
+    let t = of-turn _ _ _ _ _ (d .before .before .loop .inv .2) (d .check-rank .ensures) in
+    (omega arith, rw e (omega (arith, before-step l r (omega arith))), t (omega arith) (c .before .before .if1 .left))
 
 plain-requires : tie.Need-plain-requires Inv-loop μ-loop
 plain-requires c κs = search needs

@@ -74,10 +74,10 @@ tally-list-requires c κs =
 returns : tie.Need-returns Inv-loop μ-loop
 returns c =
     λ seen T.
-    let d = c .before .before .before .before .before .before .before in
-    let s = d .before .before .before .before .args in
-    let w = d .loop .inv .1 seen T in
-    walk-stop (s .ends .now) (s .inc .now) (s .b) _ seen (s .subs .now) _ w (c .before .before .before .before .before .before .loop-test .taken)
+    let d = c .before .before .before .before .before .before in
+    let s = d .before .before .before .before .before .args in
+    let w = d .before .loop .inv .1 seen T in
+    walk-stop (s .ends .now) (s .inc .now) (s .b) _ seen (s .subs .now) _ w (d .loop-test .taken)
     (one (c .before .before) seen T .answer) (c .if1 .taken)
 
 add-j : tie.Need-add-j Inv-loop μ-loop
@@ -90,10 +90,10 @@ loop-again : tie.Need-loop-again Inv-loop μ-loop
 loop-again c = (
   omega arith,
   λ seen T.
-      let d = c .before .before .before .before .before .before .before in
-      let s = d .before .before .before .before .args in
-      let w = d .loop .inv .1 seen T in
-      walk-more (s .ends .now) (s .inc .now) (s .b) _ seen (s .subs .now) _ w (c .before .before .before .before .before .before .loop-test .taken)
+      let d = c .before .before .before .before .before .before in
+      let s = d .before .before .before .before .before .args in
+      let w = d .before .loop .inv .1 seen T in
+      walk-more (s .ends .now) (s .inc .now) (s .b) _ seen (s .subs .now) _ w (d .loop-test .taken)
       (tallied-walked (one (c .before .before) seen T) (c .if1 .left)),
 )
 
@@ -105,7 +105,8 @@ returns-2 c =
     λ seen T.
     let s = c .before .before .before .before .before .before .args in
     let w = c .before .before .loop .inv .1 seen T in
-    walk-all (s .ends .now) (s .inc .now) (s .b) _ seen (s .subs .now) _ w (c .before .loop-test .left) (c .plain .ensures)
+    walk-all (s .ends .now) (s .inc .now) (s .b) _ seen (s .subs .now) _ w (c .before .loop-test .left)
+    (c .plain .ensures)
 
 pub tally-all-spec : {M : Type 1} → statement M
 tally-all-spec =

@@ -50,7 +50,8 @@ returns c =
     λ seen T.
     let d = c .before .before in
     let w = d .before .before .before .loop .inv .1 seen T in
-    list-stop _ seen _ _ w (d .before .before .loop-test .taken) _ (d .wide .ensures .0) (inside d) (c .if1 .taken) (λ z. omega arith)
+    let x = d .wide .ensures .0 in
+    list-stop _ seen _ _ w (d .before .before .loop-test .taken) _ x (inside d) (c .if1 .taken) (λ z. omega arith)
 
 element-copy-out-tally : tie.Need-element-copy-out-tally Inv-loop μ-loop
 element-copy-out-tally c = inside (c .before .before)
@@ -73,7 +74,8 @@ loop-again c = (
   λ seen T.
       let d = c .before .before .before in
       let w = d .before .before .before .loop .inv .1 seen T in
-      list-more _ seen _ _ w (d .before .before .loop-test .taken) _ (d .wide .ensures .0) (inside d) (c .before .if1 .left),
+      let x = d .wide .ensures .0 in
+      list-more _ seen _ _ w (d .before .before .loop-test .taken) _ x (inside d) (c .before .if1 .left),
 )
 
 plain-requires : tie.Need-plain-requires Inv-loop μ-loop

@@ -32,8 +32,9 @@ check-entry-requires c κs = search needs
 returns : tie.Need-returns Inv-loop μ-loop
 unfolding alongTest
 returns c =
+    let d = c .before .before .before .before in
     let e = c .before .before .check-entry .ensures in
-    e ∙ sym (in-stop _ _ _ _ (c .before .before .before .before .before .loop .inv .1) (c .before .before .before .before .loop-test .taken) (stops e (c .if1 .taken)))
+    e ∙ sym (in-stop _ _ _ _ (d .before .loop .inv .1) (d .loop-test .taken) (stops e (c .if1 .taken)))
 
 add-j : tie.Need-add-j Inv-loop μ-loop
 add-j c = search needs
@@ -44,8 +45,9 @@ loop-less c = search needs
 loop-again : tie.Need-loop-again Inv-loop μ-loop
 unfolding alongTest
 loop-again c =
+    let d = c .before .before .before .before in
     let e = c .before .before .check-entry .ensures in
-    (omega arith, in-next _ _ _ _ (c .before .before .before .before .before .loop .inv .1) (c .before .before .before .before .loop-test .taken) (no-of e (c .if1 .left)))
+    (omega arith, in-next _ _ _ _ (d .before .loop .inv .1) (d .loop-test .taken) (no-of e (c .if1 .left)))
 
 plain-requires : tie.Need-plain-requires Inv-loop μ-loop
 plain-requires c κs = search needs

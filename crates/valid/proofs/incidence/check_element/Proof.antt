@@ -6,7 +6,7 @@ use lib.ListN.{length}
 use Rattle.listing.specs.Listing.{Listing, listing}
 use Rattle.listing.proofs.Listing.{rank-there}
 use Rattle.listing.proofs.ShapeExact.{shaped-ends}
-use Rattle.valid.proofs.IncidenceExact.{list-same, lower, element-stop, element-go}
+use Rattle.valid.proofs.Entries.{list-same, lower, element-stop, element-go}
 use Rattle.valid.proofs.Places.{side-fits, down-fits, up-fits, side-at, few-before}
 use Rattle.valid.proofs.incidence.check_element.Statement.{statement}
 use Rattle.valid.proofs.incidence.check_element.Tie as tie

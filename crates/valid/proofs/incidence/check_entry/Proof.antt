@@ -1,6 +1,6 @@
 use mathlib.Core.Path.{sym, _∙_}
 use borrow.Author.Needs.{needs}
-use Rattle.valid.proofs.IncidenceExact.{entry-fine, entry-oneway, entry-missing}
+use Rattle.valid.proofs.Entries.{entry-fine, entry-oneway, entry-missing}
 use Rattle.valid.proofs.incidence.check_entry.Statement.{statement}
 use Rattle.valid.proofs.incidence.check_entry.Tie as tie
 
@@ -15,14 +15,16 @@ plain-requires c κs = search needs
 
 returns : tie.Need-returns
 returns c =
-    let h = sym (c .before .before .contains .ensures) ∙ c .before .if2 .taken in
+    let d = c .before .before in
+    let h = sym (d .contains .ensures) ∙ c .before .if2 .taken in
     c .plain .ensures
-    ∙ sym (entry-fine _ _ _ _ _ _ _ (c .before .before .before .before .if1 .taken) (rw (← c .before .before .before .side-of .ensures) h))
+    ∙ sym (entry-fine _ _ _ _ _ _ _ (d .before .before .if1 .taken) (rw (← d .before .side-of .ensures) h))
 
 returns-2 : tie.Need-returns-2
 returns-2 c =
-    let h = sym (c .before .contains .ensures) ∙ c .if2 .left in
-    sym (entry-oneway _ _ _ _ _ _ _ (c .before .before .before .if1 .taken) (rw (← c .before .before .side-of .ensures) h))
+    let d = c .before in
+    let h = sym (d .contains .ensures) ∙ c .if2 .left in
+    sym (entry-oneway _ _ _ _ _ _ _ (d .before .before .if1 .taken) (rw (← d .before .side-of .ensures) h))
 
 returns-3 : tie.Need-returns-3
 returns-3 c = sym (entry-missing _ _ _ _ _ _ _ (c .if1 .left))

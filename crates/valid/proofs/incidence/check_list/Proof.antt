@@ -1,7 +1,7 @@
 use mathlib.Core.Path.{sym, _∙_}
 use mathlib.Core.Logic.{inl, inr, ⊎-elim}
 use borrow.Author.Needs.{needs}
-use Rattle.valid.proofs.IncidenceExact.{list-none, list-some}
+use Rattle.valid.proofs.Entries.{list-none, list-some}
 use Rattle.valid.proofs.incidence.check_list.Statement.{statement}
 use Rattle.valid.proofs.incidence.check_list.Tie as tie
 

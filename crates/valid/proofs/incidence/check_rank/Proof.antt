@@ -11,8 +11,8 @@ use Rattle.valid.proofs.incidence.check_rank.Tie as tie
 
 abbrev Inv-loop : tie.InvT-loop
 Inv-loop counts ends inc here r n i₀ i =
-    (i ≤ n)
-    × (firstOf (elementTest (listing counts ends inc) r) 0 n ≡ firstOf (elementTest (listing counts ends inc) r) i n)
+    let f = elementTest (listing counts ends inc) r in
+    (i ≤ n) × (firstOf f 0 n ≡ firstOf f i n)
 
 abbrev μ-loop : tie.MeasureT-loop
 μ-loop counts ends inc here r n i₀ i = n - i
@@ -42,8 +42,9 @@ loop-less c = search needs
 
 loop-again : tie.Need-loop-again Inv-loop μ-loop
 loop-again c =
-    let t = of-turn _ _ _ _ _ (c .before .before .before .before .loop .inv .1) (c .before .before .check-element .ensures) (c .before .before .before .loop-test .taken) (c .if1 .left) in
-    (omega arith, t)
+    let d = c .before .before in
+    let t = of-turn _ _ _ _ _ (d .before .before .loop .inv .1) (d .check-element .ensures) in
+    (omega arith, t (d .before .loop-test .taken) (c .if1 .left))
 
 plain-requires : tie.Need-plain-requires Inv-loop μ-loop
 plain-requires c κs = search needs

@@ -2,7 +2,7 @@ use native.Mathlib.Omega.{arith}
 use borrow.Author.Needs.{needs}
 use Rattle.listing.proofs.Listing.{before-next}
 use Rattle.valid.specs.Ways.{up}
-use Rattle.valid.proofs.IncidenceExact.{way-same}
+use Rattle.valid.proofs.Entries.{way-same}
 use Rattle.valid.proofs.incidence.way_up.Statement.{statement}
 use Rattle.valid.proofs.incidence.way_up.Tie as tie
 
