@@ -5,7 +5,8 @@ pub mod Entries
 pub mod IncidenceExact
 pub mod AscentExact
 pub mod Walks
-pub mod Pairs
+pub mod Counting
+pub mod Twos
 pub mod DyadicExact
 pub mod ClosedExact
 pub mod Starred

@@ -1,41 +1,16 @@
--- Lists that hold each number once: what is kept of them by a test, and what it means that two are.
+-- Lists that hold each number once: what a test keeps of them, and when they hold exactly two.
 -- Assumes nothing.
 use mathlib.Core.Path.{_≡_, refl, sym, ap, _∙_}
 use mathlib.Core.Logic.{_↔_, _⊎_, inl, inr, ⊎-elim}
 use mathlib.Core.Bool.{Bool, true, false, true≢false, cond}
 use mathlib.Core.List.{List, [], _∷_}
-use Prim.Native.Nat.{ℕ, _+_, _≤_}
+use Prim.Native.Nat.{ℕ, _≤_}
 use native.Mathlib.Omega.{arith}
-use borrow.Author.Tests.{eq-eqb, ne-eqb, eqb-true, eqb-false}
-use lib.Dec.{eqb}
 use lib.ListN.{length}
-use Rattle.order.proofs.Lists.{occurs-some, occurs-append}
-use Rattle.order.specs.Lists.{In, has, occurs}
+use Rattle.order.specs.Lists.{In, occurs}
+use Rattle.order.proofs.Lists.{occurs-some}
 use Rattle.valid.specs.Dyadic.{Two}
-
--- ---- occurrences
-
-pub occurs-cons : (x y : ℕ) (l : List ℕ) → occurs x (y ∷ l) ≡ occurs x (y ∷ []) + occurs x l
-occurs-cons x y l = occurs-append x (y ∷ []) l
-
-pub occurs-own : (x : ℕ) → occurs x (x ∷ []) ≡ 1
-unfolding occurs
-occurs-own x = rw (eq-eqb x x refl)
-
-pub occurs-other : (x y : ℕ) → (y ≡ x → ⊥) → occurs x (y ∷ []) ≡ 0
-unfolding occurs
-occurs-other x y h = rw (ne-eqb y x h)
-
-pub same : (x y : ℕ) → (y ≡ x) ⊎ (y ≡ x → ⊥)
-same x y = go (eqb y x) refl
-  where
-    go : (b : Bool) → eqb y x ≡ b → (y ≡ x) ⊎ (y ≡ x → ⊥)
-    go true e = inl (eqb-true y x e)
-    go false e = inr (eqb-false y x e)
-
-pub occurs-nil : (x : ℕ) → occurs x [] ≡ 0
-unfolding occurs
-occurs-nil x = refl
+use Rattle.valid.proofs.Counting.{occurs-cons, occurs-own}
 
 -- no number more than once
 abbrev pub Once : List ℕ → Type 0
@@ -88,7 +63,9 @@ module _ (P : ℕ → Bool) where
 
 -- ---- exactly two
 
-pigeons : (p q a b c : ℕ) → (a ≡ p) ⊎ (a ≡ q) → (b ≡ p) ⊎ (b ≡ q) → (c ≡ p) ⊎ (c ≡ q) → (a ≡ b) ⊎ ((a ≡ c) ⊎ (b ≡ c))
+-- of three numbers that are one of two, two are equal
+pigeons : (p q a b c : ℕ) → (a ≡ p) ⊎ (a ≡ q) → (b ≡ p) ⊎ (b ≡ q) → (c ≡ p) ⊎ (c ≡ q)
+    → (a ≡ b) ⊎ ((a ≡ c) ⊎ (b ≡ c))
 pigeons p q a b c (inl x) (inl y) z = inl (x ∙ sym y)
 pigeons p q a b c (inl x) (inr y) (inl z) = inr (inl (x ∙ sym z))
 pigeons p q a b c (inl x) (inr y) (inr z) = inr (inr (y ∙ sym z))
@@ -126,14 +103,16 @@ of-two (a ∷ []) h t = absurd (go (t .first) (t .second))
     go (inr m) q = m
 of-two (a ∷ b ∷ []) h t = refl
 of-two (a ∷ b ∷ c ∷ l) h t =
-    absurd (go (pigeons _ _ a b c (t .no-third a (inl refl)) (t .no-third b (inr (inl refl))) (t .no-third c (inr (inr (inl refl))))))
+    let p = t .no-third a (inl refl) in
+    let q = t .no-third b (inr (inl refl)) in
+    absurd (go (pigeons _ _ a b c p q (t .no-third c (inr (inr (inl refl))))))
   where
     go : (a ≡ b) ⊎ ((a ≡ c) ⊎ (b ≡ c)) → ⊥
     go (inl e) = once-head a (b ∷ c ∷ l) h (inl e)
     go (inr (inl e)) = once-head a (b ∷ c ∷ l) h (inr (inl e))
     go (inr (inr e)) = once-head b (c ∷ l) (once-tail a (b ∷ c ∷ l) h) (inl e)
 
--- A list that holds each number once has two of them exactly if two numbers stand in it.
+-- A list that holds each number once has length two exactly if exactly two numbers stand in it.
 pub two-exact : (l : List ℕ) → Once l → length l ≡ 2 ↔ Two (λ x. In x l)
 two-exact l h = (two-of l h, of-two l h)
 
