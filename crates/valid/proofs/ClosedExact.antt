@@ -91,8 +91,8 @@ diamond-more L h I = (there, back)
         go (inl e) = rw e (p .1)
         go (inr l) = p .0 r low (omega arith)
 
--- What closed asks beyond is_valid: that the lists ascend, and the diamond at the top. This holds at every rank, with no
--- `2 ≤ rank L`: where is_valid accepts a listing of rank 0 or 1, nothing lies two ranks under its maximal element.
+-- What closed asks beyond is_valid: that the lists ascend, and the diamond at the top. This holds at every rank, with
+-- no `2 ≤ rank L`: where is_valid accepts a listing of rank 0 or 1, nothing lies two ranks under its maximal element.
 pub closed-is-valid-and : (m : Limits) (L : Listing)
     → closed m L .no ≡ 0 ↔ ((isValid m L .no ≡ 0) × Ascends L × DiamondAt L (rank L))
 closed-is-valid-and m L = (there, back)

@@ -1,5 +1,5 @@
--- Test 3 and the diamond. Where test 2 passes, test 3 answers 0 exactly if each index that a walk meets is met twice; where
--- moreover no list holds an index twice, exactly if the diamond holds at the ranks that it looks at.
+-- Test 3 and the diamond. Where test 2 passes, test 3 answers 0 exactly if each index that a walk meets is met twice;
+-- where moreover no list holds an index twice, exactly if the diamond holds at the ranks that it looks at.
 -- Assumes nothing.
 use mathlib.Core.Path.{_≡_, refl, sym, _∙_}
 use mathlib.Core.Logic.{_↔_, Iff·symm, Iff·trans, _⊎_, inl, inr}

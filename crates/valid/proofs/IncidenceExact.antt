@@ -1,5 +1,5 @@
--- Test 2 is exact: it answers 0 exactly if the listing is Incident. An entry, then a list along its way, which serves subs
--- and sups alike, then an element, then the whole.
+-- Test 2 is exact: it answers 0 exactly if the listing is Incident. An entry, then a list along its way, which serves
+-- subs and sups alike, then an element, then the whole.
 -- Assumes nothing.
 use mathlib.Core.Path.{_≡_, refl, sym, ap, _∙_}
 use mathlib.Core.Logic.{_↔_}
@@ -101,11 +101,21 @@ module _ (L : Listing) where
 
   down-exact : (r i : ℕ) → lower L r i .no ≡ 0 ↔ Down r i
   down-exact r i =
-      list-exact L (down (L .counts) r) (record { none = omega arith; missing = omega arith; oneway = omega arith }) r i _
+      let R : Refuses (down (L .counts) r) = record {
+        none = omega arith;
+        missing = omega arith;
+        oneway = omega arith;
+      } in
+      list-exact L (down (L .counts) r) R r i (subs L r i)
 
   up-exact : (r i : ℕ) → upper L r i .no ≡ 0 ↔ Up r i
   up-exact r i =
-      list-exact L (up (L .counts) r) (record { none = omega arith; missing = omega arith; oneway = omega arith }) r i _
+      let R : Refuses (up (L .counts) r) = record {
+        none = omega arith;
+        missing = omega arith;
+        oneway = omega arith;
+      } in
+      list-exact L (up (L .counts) r) R r i (sups L r i)
 
   element-exact : (r i : ℕ) → elementTest L r i .no ≡ 0 ↔ (Down r i × Up r i)
   element-exact r i = (

@@ -16,7 +16,7 @@ use Rattle.valid.specs.Cells.{answered, table}
 
 -- Computing both tests over the whole table gives the stated answers.
 pub starred : map answered table ≡ table
-unfolding has occurs sum _orElse_ firstIn firstFor firstOf before entries fills shapeTest boundedTest entryTest alongTest
-    elementTest incidencesTest climbs elementAscent ascentTest subsOfAll thirdTest seenAfter loneTest sectionsTest dyadicTest
-    isValid closed
+unfolding has occurs sum _orElse_ firstIn firstFor firstOf before entries fills shapeTest boundedTest entryTest
+    alongTest elementTest incidencesTest climbs elementAscent ascentTest subsOfAll thirdTest seenAfter loneTest
+    sectionsTest dyadicTest isValid closed
 starred = refl

@@ -113,7 +113,8 @@ fn check_rank(counts: &[u16], ends: &[u16], inc: &[u16], b: usize, r: usize) -> 
     requires { ⌜ Shaped limits (listing (now counts) (now ends) (now inc)) ⌝ }
     requires { ⌜ Incident (listing (now counts) (now ends) (now inc)) ⌝ }
     requires { ⌜ (b ≡ before (now counts) (r - 1)) × (2 ≤ r) × (r < length (now counts)) ⌝ }
-    ensures { λ a. ⌜ a ≡ firstOf (sectionsTest (listing (now (counts .entry)) (now (ends .entry)) (now (inc .entry))) r) 0
+    ensures { λ a. ⌜ a ≡ firstOf
+        (sectionsTest (listing (now (counts .entry)) (now (ends .entry)) (now (inc .entry))) r) 0
         (getD (now (counts .entry)) r 0) ⌝ }
 {
     let n = counts[r];

@@ -1,3 +1,5 @@
+-- The first refusal of shape, then of test 2.
+-- Assumes nothing.
 use borrow.Author.Needs.{needs}
 use Rattle.listing.proofs.Answers.{no-of, then-stop, then-go}
 use Rattle.listing.proofs.ShapeExact.{shaped}

@@ -1,3 +1,5 @@
+-- The first refusal of shape, of test 1, of test 2, of the ascent test, then of test 3 up to the top.
+-- Assumes nothing.
 use native.Mathlib.Omega.{arith}
 use borrow.Author.Needs.{needs}
 use Rattle.listing.proofs.Answers.{no-of, then-stop, then-go}

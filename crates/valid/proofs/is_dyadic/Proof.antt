@@ -1,3 +1,5 @@
+-- The first refusal of shape, of test 2, then of test 3 below the top. That test 2 has passed is what test 3 asks for.
+-- Assumes nothing.
 use borrow.Author.Needs.{needs}
 use Rattle.listing.proofs.Answers.{no-of, then-stop, then-go}
 use Rattle.listing.proofs.ShapeExact.{shaped}

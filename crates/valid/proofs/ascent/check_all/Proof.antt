@@ -1,3 +1,6 @@
+-- Invariant: r is at most the number of ranks, rank r begins at place here, and the answer to the whole is the answer
+-- from rank r on. Measure: the ranks left.
+-- Assumes nothing.
 use mathlib.Core.Path.{_≡_, refl, sym}
 use Prim.Native.Nat.{_+_, _-_, _≤_}
 use native.Mathlib.Omega.{arith}

@@ -1,3 +1,5 @@
+-- The first refusal of its subs, then of its sups.
+-- Assumes nothing.
 use borrow.Author.Needs.{needs}
 use Rattle.listing.proofs.Answers.{then-stop, then-go}
 use Rattle.valid.specs.Ascent.{elementAscent}

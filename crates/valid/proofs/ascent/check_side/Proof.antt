@@ -1,3 +1,5 @@
+-- The list that is looked at is the element's, and one law for each of the two answers.
+-- Assumes nothing.
 use mathlib.Core.Path.{_≡_, sym, _∙_}
 use Prim.Native.Nat.{_<_}
 use native.Mathlib.Omega.{arith}

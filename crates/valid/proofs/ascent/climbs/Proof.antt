@@ -1,3 +1,6 @@
+-- Invariant: j is at most the length, and the list climbs from 0 exactly if what is left from j on climbs from `from`.
+-- Measure: what is left of the list.
+-- Assumes nothing.
 use mathlib.Core.Path.{_≡_, sym, _∙_}
 use Prim.Native.Nat.{_-_, _≤_}
 use native.Mathlib.Omega.{arith}
@@ -29,8 +32,8 @@ wide-requires c κs = search needs
 returns : tie.Need-returns Inv-loop μ-loop
 returns c =
     let d = c .before .before .before in
-    let t = climbs-stop _ _ _ (d .loop-test .taken) (c .before .wide .ensures .0) (c .if1 .taken) in
-    sym (d .before .loop .inv .1 ∙ t)
+    let x = c .before .wide .ensures .0 in
+    sym (d .before .loop .inv .1 ∙ climbs-stop _ _ _ (d .loop-test .taken) x (c .if1 .taken))
 
 add-from : tie.Need-add-from Inv-loop μ-loop
 add-from c = search needs
@@ -44,8 +47,8 @@ loop-less c = search needs
 loop-again : tie.Need-loop-again Inv-loop μ-loop
 loop-again c =
     let d = c .before .before .before in
-    let t = climbs-next _ _ _ (d .loop-test .taken) (c .before .wide .ensures .0) (c .if1 .left) in
-    (omega arith, d .before .loop .inv .1 ∙ t)
+    let x = c .before .wide .ensures .0 in
+    (omega arith, d .before .loop .inv .1 ∙ climbs-next _ _ _ (d .loop-test .taken) x (c .if1 .left))
 
 returns-2 : tie.Need-returns-2 Inv-loop μ-loop
 returns-2 c = sym (c .before .loop .inv .1 ∙ climbs-end _ _ _ (c .loop-test .left))

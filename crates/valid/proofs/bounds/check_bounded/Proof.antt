@@ -1,3 +1,5 @@
+-- One law for each of the three ways through the two tests.
+-- Assumes nothing.
 use mathlib.Core.Path.{sym, _∙_}
 use borrow.Author.Needs.{needs}
 use Rattle.valid.proofs.BoundsExact.{bounded-yes, bounded-low, bounded-high}

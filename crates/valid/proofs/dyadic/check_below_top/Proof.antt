@@ -1,3 +1,5 @@
+-- A listing of rank 0 has no rank below the top, and below rank 2 there are no sections.
+-- Assumes nothing.
 use mathlib.Core.Path.{sym, _∙_}
 use native.Mathlib.Omega.{arith}
 use borrow.Author.Needs.{needs}

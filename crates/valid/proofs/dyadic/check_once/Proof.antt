@@ -1,3 +1,5 @@
+-- Invariant: x is at most n, and the answer to the whole is the answer from index x on. Measure: the indices left.
+-- Assumes nothing.
 use mathlib.Core.Path.{_≡_, refl}
 use Prim.Native.Nat.{_-_, _≤_}
 use native.Mathlib.Omega.{arith}

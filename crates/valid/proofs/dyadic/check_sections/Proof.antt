@@ -1,3 +1,6 @@
+-- The lists that are walked are the element's subs and theirs, the tally begins with nothing seen, and what it counts
+-- at the end is what the walk met.
+-- Assumes nothing.
 use mathlib.Core.Path.{_≡_, ap, _∙_}
 use mathlib.Core.List.{[]}
 use Prim.Native.Nat.{_+_, _-_, _<_}

@@ -1,3 +1,6 @@
+-- Invariant: r is at least 2, the rank below r begins at place b, and the answer to the whole is the answer from rank r
+-- on. Measure: the ranks left.
+-- Assumes nothing.
 use mathlib.Core.Path.{_≡_, refl}
 use Prim.Native.Nat.{_+_, _-_, _≤_}
 use native.Mathlib.Omega.{arith}

@@ -1,9 +1,12 @@
-use Rattle.listing.specs.Listing.{limits}
+-- Invariant: j is at most the length, and whatever the tally counted before, the subs of the first j have been walked
+-- without refusal and are counted on top of it. Measure: what is left of the list.
+-- Assumes nothing.
 use mathlib.Core.List.{List}
 use Prim.Native.Nat.{ℕ, _-_, _≤_}
 use native.Mathlib.Omega.{arith}
 use borrow.Author.Needs.{needs}
 use lib.ListN.{length, getD, take}
+use Rattle.listing.specs.Listing.{limits}
 use Rattle.valid.specs.Dyadic.{seenAfter, subsOfAll}
 use Rattle.valid.specs.Tally.{Tallied, third, Tally}
 use Rattle.valid.proofs.Walks.{subsOf, Walked, walked-none, walk-more, walk-stop, walk-all, tallied-walked}

@@ -1,3 +1,5 @@
+-- Below rank 0 there is nothing; else it is the count one rank lower.
+-- Assumes nothing.
 use mathlib.Core.Path.{sym, _∙_}
 use borrow.Author.Needs.{needs}
 use Rattle.listing.proofs.Listing.{start-more}

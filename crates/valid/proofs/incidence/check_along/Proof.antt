@@ -1,3 +1,6 @@
+-- Invariant: j is at most the length, and the answer to the whole list is the answer to what is left from j on.
+-- Measure: what is left of the list.
+-- Assumes nothing.
 use mathlib.Core.Path.{_≡_, sym, _∙_}
 use Prim.Native.Nat.{_-_, _≤_}
 use native.Mathlib.Omega.{arith}
@@ -10,9 +13,8 @@ use Rattle.valid.proofs.incidence.check_along.Tie as tie
 
 abbrev Inv-loop : tie.InvT-loop
 Inv-loop ends inc way r i list j₀ j =
-    (j ≤ length list)
-    × (alongTest ends inc (way .n) (way .b) (way .s) (way .missing) (way .oneway) r i list
-    ≡ alongTest ends inc (way .n) (way .b) (way .s) (way .missing) (way .oneway) r i (drop j list))
+    let f = alongTest ends inc (way .n) (way .b) (way .s) (way .missing) (way .oneway) r i in
+    (j ≤ length list) × (f list ≡ f (drop j list))
 
 abbrev μ-loop : tie.MeasureT-loop
 μ-loop ends inc way r i list j₀ j = length list - j
@@ -33,8 +35,8 @@ returns : tie.Need-returns Inv-loop μ-loop
 unfolding alongTest
 returns c =
     let d = c .before .before .before .before in
-    let e = c .before .before .check-entry .ensures in
-    e ∙ sym (in-stop _ _ _ _ (d .before .loop .inv .1) (d .loop-test .taken) (stops e (c .if1 .taken)))
+    let h = stops (c .before .before .check-entry .ensures) (c .if1 .taken) in
+    c .before .before .check-entry .ensures ∙ sym (in-stop _ _ _ _ (d .before .loop .inv .1) (d .loop-test .taken) h)
 
 add-j : tie.Need-add-j Inv-loop μ-loop
 add-j c = search needs
@@ -46,8 +48,8 @@ loop-again : tie.Need-loop-again Inv-loop μ-loop
 unfolding alongTest
 loop-again c =
     let d = c .before .before .before .before in
-    let e = c .before .before .check-entry .ensures in
-    (omega arith, in-next _ _ _ _ (d .before .loop .inv .1) (d .loop-test .taken) (no-of e (c .if1 .left)))
+    let z = no-of (c .before .before .check-entry .ensures) (c .if1 .left) in
+    (omega arith, in-next _ _ _ _ (d .before .loop .inv .1) (d .loop-test .taken) z)
 
 plain-requires : tie.Need-plain-requires Inv-loop μ-loop
 plain-requires c κs = search needs

@@ -1,3 +1,5 @@
+-- Both lists of the element are where the code looks, and so are its neighbours'. Then the first refusal of the two.
+-- Assumes nothing.
 use mathlib.Core.Path.{_≡_, _∙_}
 use Prim.Native.Nat.{ℕ, _+_, _*_, _<_}
 use native.Mathlib.Omega.{arith}

@@ -1,3 +1,5 @@
+-- One law for each of the three answers of an entry.
+-- Assumes nothing.
 use mathlib.Core.Path.{sym, _∙_}
 use borrow.Author.Needs.{needs}
 use Rattle.valid.proofs.Entries.{entry-fine, entry-oneway, entry-missing}

@@ -1,3 +1,5 @@
+-- The refusal of an empty list, and else the answer along it, whichever way the test was passed.
+-- Assumes nothing.
 use mathlib.Core.Path.{sym, _∙_}
 use mathlib.Core.Logic.{inl, inr, ⊎-elim}
 use borrow.Author.Needs.{needs}

@@ -1,3 +1,6 @@
+-- Invariant: i is at most n, and the answer for the whole rank is the answer from element i on.
+-- Measure: the elements left.
+-- Assumes nothing.
 use mathlib.Core.Path.{_≡_}
 use Prim.Native.Nat.{_-_, _≤_}
 use native.Mathlib.Omega.{arith}

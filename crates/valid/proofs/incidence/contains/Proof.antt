@@ -1,3 +1,6 @@
+-- Invariant: j is at most the length, and whether the list has x is whether what is left from j on has it.
+-- Measure: what is left of the list.
+-- Assumes nothing.
 use mathlib.Core.Path.{_≡_, sym, _∙_}
 use Prim.Native.Nat.{_-_, _≤_}
 use native.Mathlib.Omega.{arith}
@@ -26,8 +29,8 @@ shared-slice-read-if1 c = search needs
 
 returns : tie.Need-returns Inv-loop μ-loop
 returns c =
-    let h = has-step _ _ _ (c .before .before .loop-test .taken) in
-    sym (c .before .before .before .loop .inv .1 ∙ h ∙ rw (eq-eqb _ _ (c .if1 .taken)))
+    let d = c .before .before in
+    sym (d .before .loop .inv .1 ∙ has-step _ _ _ (d .loop-test .taken) ∙ rw (eq-eqb _ _ (c .if1 .taken)))
 
 add-j : tie.Need-add-j Inv-loop μ-loop
 add-j c = search needs
@@ -37,8 +40,8 @@ loop-less c = search needs
 
 loop-again : tie.Need-loop-again Inv-loop μ-loop
 loop-again c =
-    let h = has-step _ _ _ (c .before .before .loop-test .taken) in
-    (omega arith, c .before .before .before .loop .inv .1 ∙ h ∙ rw (ne-eqb _ _ (c .if1 .left)))
+    let d = c .before .before in
+    (omega arith, d .before .loop .inv .1 ∙ has-step _ _ _ (d .loop-test .taken) ∙ rw (ne-eqb _ _ (c .if1 .left)))
 
 returns-2 : tie.Need-returns-2 Inv-loop μ-loop
 returns-2 c = sym (c .before .loop .inv .1 ∙ has-end _ _ _ (c .loop-test .left))

@@ -1,3 +1,5 @@
+-- The rank below ends where the rank begins.
+-- Assumes nothing.
 use native.Mathlib.Omega.{arith}
 use borrow.Author.Needs.{needs}
 use Rattle.listing.proofs.Listing.{before-last}

@@ -1,3 +1,5 @@
+-- The rank above begins where the rank ends.
+-- Assumes nothing.
 use native.Mathlib.Omega.{arith}
 use borrow.Author.Needs.{needs}
 use Rattle.listing.proofs.Listing.{before-next}
