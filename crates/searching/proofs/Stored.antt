@@ -79,8 +79,8 @@ module _ {A : Type 0} (same : A → A → Bool) (decides : Decides same) (room :
       done : s .over ≡ false → (j : ℕ) → j < k → (y : A) → Neighbour nbrs (getD (s .found) j a) y
           → Stored a (1 - getD (s .bytes) j 0) y s
 
-    work-stored : (k : ℕ) (s : State A) → length (s .bytes) ≡ length (s .found) → work same room nbrs a k s .over ≡ false
-        → (y : A) → Neighbour nbrs (getD (s .found) k a) y
+    work-stored : (k : ℕ) (s : State A) → length (s .bytes) ≡ length (s .found)
+        → work same room nbrs a k s .over ≡ false → (y : A) → Neighbour nbrs (getD (s .found) k a) y
         → Stored a (1 - getD (s .bytes) k 0) y (work same room nbrs a k s)
     unfolding work
     work-stored k s p o y n = meets-stored a _ s _ y n p o

@@ -30,74 +30,74 @@ fn main() {
     show(b"no ranks", &[], &[], &[]);
     show(
         b"nullitope",
-        &cells::NULLITOPE_COUNTS,
-        &cells::NULLITOPE_ENDS,
-        &cells::NULLITOPE_INC,
+        &cells::nullitope::COUNTS,
+        &cells::nullitope::ENDS,
+        &cells::nullitope::INC,
     );
     show(
         b"point",
-        &cells::POINT_COUNTS,
-        &cells::POINT_ENDS,
-        &cells::POINT_INC,
+        &cells::point::COUNTS,
+        &cells::point::ENDS,
+        &cells::point::INC,
     );
     show(
         b"dyad",
-        &cells::DYAD_COUNTS,
-        &cells::DYAD_ENDS,
-        &cells::DYAD_INC,
+        &cells::dyad::COUNTS,
+        &cells::dyad::ENDS,
+        &cells::dyad::INC,
     );
     show(
         b"triangle",
-        &cells::TRIANGLE_COUNTS,
-        &cells::TRIANGLE_ENDS,
-        &cells::TRIANGLE_INC,
+        &cells::triangle::COUNTS,
+        &cells::triangle::ENDS,
+        &cells::triangle::INC,
     );
     show(
         b"two minimal elements",
-        &cells::TWO_AND_ONE_COUNTS,
-        &cells::TWO_AND_ONE_ENDS,
-        &cells::TWO_AND_ONE_INC,
+        &cells::two_minimal::COUNTS,
+        &cells::two_minimal::ENDS,
+        &cells::two_minimal::INC,
     );
     show(
         b"three vertices under the top",
-        &cells::THREE_VERTICES_COUNTS,
-        &cells::THREE_VERTICES_ENDS,
-        &cells::THREE_VERTICES_INC,
+        &cells::three_on_top::COUNTS,
+        &cells::three_on_top::ENDS,
+        &cells::three_on_top::INC,
     );
     show(
         b"one vertex under the top",
-        &cells::ONE_VERTEX_COUNTS,
-        &cells::ONE_VERTEX_ENDS,
-        &cells::ONE_VERTEX_INC,
+        &cells::one_on_top::COUNTS,
+        &cells::one_on_top::ENDS,
+        &cells::one_on_top::INC,
     );
     show(
         b"triangle, edge 1 struck from vertex 0",
-        &cells::STRUCK_COUNTS,
-        &cells::STRUCK_ENDS,
-        &cells::STRUCK_INC,
+        &cells::struck::COUNTS,
+        &cells::struck::ENDS,
+        &cells::struck::INC,
     );
     show(
         b"box",
-        &cells::BOX_COUNTS,
-        &cells::BOX_ENDS,
-        &cells::BOX_INC,
+        &cells::whole_box::COUNTS,
+        &cells::whole_box::ENDS,
+        &cells::whole_box::INC,
     );
     show(
         b"box, edge 0 doubled as edge 12",
-        &cells::LEAKING_COUNTS,
-        &cells::LEAKING_ENDS,
-        &cells::LEAKING_INC,
+        &cells::leaking_box::COUNTS,
+        &cells::leaking_box::ENDS,
+        &cells::leaking_box::INC,
     );
     show(
         b"box without a lid",
-        &cells::LIDLESS_COUNTS,
-        &cells::LIDLESS_ENDS,
-        &cells::LIDLESS_INC,
+        &cells::lidless_box::COUNTS,
+        &cells::lidless_box::ENDS,
+        &cells::lidless_box::INC,
     );
     show(
         b"hemicube",
-        &cells::HEMICUBE_COUNTS,
-        &cells::HEMICUBE_ENDS,
-        &cells::HEMICUBE_INC,
+        &cells::hemicube::COUNTS,
+        &cells::hemicube::ENDS,
+        &cells::hemicube::INC,
     );
 }
