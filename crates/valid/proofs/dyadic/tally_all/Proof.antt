@@ -51,7 +51,7 @@ one c seen T =
 
 loop-holds : tie.Need-loop-holds Inv-loop μ-loop
 unfolding subsOfAll
-loop-holds c = λ seen T. walked-none _ seen T
+loop-holds c seen T = walked-none _ seen T
 
 mul-side-of : tie.Need-mul-side-of Inv-loop μ-loop
 mul-side-of c = search needs
@@ -73,8 +73,7 @@ tally-list-requires c κs =
     (λ x k. s .pre .1 .0 .inside _ x m (rw (c .side-of .ensures) at k), s .pre .1 .1)
 
 returns : tie.Need-returns Inv-loop μ-loop
-returns c =
-    λ seen T.
+returns c seen T =
     let d = c .before .before .before .before .before .before in
     let s = d .before .before .before .before .before .args in
     let w = d .before .loop .inv seen T in
@@ -88,8 +87,7 @@ loop-less : tie.Need-loop-less Inv-loop μ-loop
 loop-less c = search needs
 
 loop-again : tie.Need-loop-again Inv-loop μ-loop
-loop-again c =
-    λ seen T.
+loop-again c seen T =
     let d = c .before .before .before .before .before .before in
     let s = d .before .before .before .before .before .args in
     let w = d .before .loop .inv seen T in
@@ -100,8 +98,7 @@ plain-requires : tie.Need-plain-requires Inv-loop μ-loop
 plain-requires c κs = search needs
 
 returns-2 : tie.Need-returns-2 Inv-loop μ-loop
-returns-2 c =
-    λ seen T.
+returns-2 c seen T =
     let s = c .before .before .before .before .before .before .args in
     let w = c .before .before .loop .inv seen T in
     walk-all (s .ends .now) (s .inc .now) (s .b) _ seen (s .subs .now) _ w (c .before .loop-test .left)

@@ -30,7 +30,7 @@ inside c =
     omega (arith, s .pre .0 (getD l j 0) (in-at l j (c .before .before .loop-test .taken)))
 
 loop-holds : tie.Need-loop-holds Inv-loop μ-loop
-loop-holds c = λ seen T. walked-none _ seen T
+loop-holds c seen T = walked-none _ seen T
 
 mul-sub-sub : tie.Need-mul-sub-sub Inv-loop μ-loop
 mul-sub-sub c = search needs
@@ -48,8 +48,7 @@ sub-t15 : tie.Need-sub-t15 Inv-loop μ-loop
 sub-t15 c = search needs
 
 returns : tie.Need-returns Inv-loop μ-loop
-returns c =
-    λ seen T.
+returns c seen T =
     let d = c .before .before in
     let w = d .before .before .before .loop .inv seen T in
     let x = d .wide .ensures .0 in
@@ -72,8 +71,7 @@ loop-less : tie.Need-loop-less Inv-loop μ-loop
 loop-less c = search needs
 
 loop-again : tie.Need-loop-again Inv-loop μ-loop
-loop-again c =
-    λ seen T.
+loop-again c seen T =
     let d = c .before .before .before in
     let w = d .before .before .before .loop .inv seen T in
     let x = d .wide .ensures .0 in
@@ -83,7 +81,7 @@ plain-requires : tie.Need-plain-requires Inv-loop μ-loop
 plain-requires c κs = search needs
 
 returns-2 : tie.Need-returns-2 Inv-loop μ-loop
-returns-2 c = λ seen T.
+returns-2 c seen T =
     list-all _ seen _ _ (c .before .before .loop .inv seen T) (c .before .loop-test .left) (c .plain .ensures)
 
 pub tally-list-spec : {M : Type 1} → statement M
