@@ -15,9 +15,9 @@ use lib.Seq.{drop-cons}
 use Rattle.order.proofs.Lists.{ascending-once}
 use Rattle.order.specs.Lists.{In, Ascending}
 use Rattle.listing.specs.Answers.{fine, refusal}
-use Rattle.listing.specs.Listing.{Listing, count, side}
+use Rattle.listing.specs.Listing.{Listing, side}
 use Rattle.listing.specs.Refusals.{notAscending}
-use Rattle.listing.proofs.Answers.{or-no, no-or, on-no, on-off, of-each, of-all}
+use Rattle.listing.proofs.Answers.{or-no, no-or, on-no, on-off}
 use Rattle.listing.proofs.Listing.{rank-there}
 use Rattle.valid.specs.Ascent.{climbs, sideAscent, elementAscent, ascentTest, Ascends}
 use Rattle.valid.specs.Dyadic.{Distinct}

@@ -10,7 +10,6 @@
 -- answered      the row with the answers that the tests give
 -- table         the rows
 use mathlib.Core.List.{List, [], _∷_}
-use Prim.Native.Nat.{ℕ}
 use Rattle.listing.specs.declared.Answer.{Answer}
 use Rattle.listing.specs.Refusals.{noRanks, notBounded, subNotBack, thirdBetween, loneBetween}
 use Rattle.listing.specs.Answers.{refusal, plain, fine}

@@ -3,7 +3,7 @@ use listing::Answer;
 use listing::inner;
 use listing::refusal;
 ghost use mathlib.Core.Path.{_≡_};
-ghost use Prim.Native.Nat.{_+_, _<_};
+ghost use Prim.Native.Nat.{_<_};
 ghost use lib.ListN.{length, getD};
 ghost use Rattle.listing.specs.Answers.{firstOf};
 ghost use Rattle.listing.specs.Listing.{listing, limits, before};

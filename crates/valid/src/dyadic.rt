@@ -9,7 +9,7 @@ ghost use Prim.Native.Nat.{ℕ, _-_, _≤_, _<_};
 ghost use lib.ListN.{length, getD};
 ghost use Rattle.order.specs.Lists.{In};
 ghost use Rattle.listing.specs.Answers.{firstOf};
-ghost use Rattle.listing.specs.Listing.{listing, limits, rank as rankOf, before, Ends};
+ghost use Rattle.listing.specs.Listing.{listing, limits, before, Ends};
 ghost use Rattle.listing.specs.Shape.{Shaped};
 ghost use Rattle.valid.specs.Incidence.{Incident};
 ghost use Rattle.valid.specs.Dyadic.{subsOfAll, sectionsTest, dyadicTest};

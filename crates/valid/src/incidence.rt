@@ -16,14 +16,14 @@ ghost use Rattle.valid.specs.Ways.{down, up, Fits, listTest};
 // Where the entries of a list lead: they may name n elements, which begin at place b and whose lists at side s lead
 // back. Whether the list must hold anything. And the refusals: of a list that holds nothing and must not, of an entry
 // that does not exist, and of one that does not lead back.
-pub struct Way {
-    pub n: u16,
-    pub b: usize,
-    pub s: usize,
-    pub asked: bool,
-    pub none: u16,
-    pub missing: u16,
-    pub oneway: u16,
+struct Way {
+    n: u16,
+    b: usize,
+    s: usize,
+    asked: bool,
+    none: u16,
+    missing: u16,
+    oneway: u16,
 }
 
 // Whether x is one of the numbers of a list.
@@ -88,7 +88,7 @@ fn check_along(ends: &[u16], inc: &[u16], way: Way, r: u16, i: u16, list: &[u16]
     inner::plain(0)
 }
 
-// A list: only some may hold nothing; then its entries.
+// A list: whether it may hold nothing, and then its entries.
 fn check_list(ends: &[u16], inc: &[u16], way: Way, r: u16, i: u16, list: &[u16]) -> Answer
     requires { ⌜ Ends (now ends) (now inc) ⌝ }
     requires { ⌜ Fits (now ends) way ⌝ }

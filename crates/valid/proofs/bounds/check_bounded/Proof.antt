@@ -22,13 +22,13 @@ plain-requires : tie.Need-plain-requires
 plain-requires c κs = search needs
 
 returns : tie.Need-returns
-returns c = λ e i. c .plain .ensures ∙ sym (bounded-yes _ (c .before .before .if1 .taken) (c .before .if2 .taken))
+returns c e i = c .plain .ensures ∙ sym (bounded-yes _ (c .before .before .if1 .taken) (c .before .if2 .taken))
 
 returns-2 : tie.Need-returns-2
-returns-2 c = λ e i. sym (bounded-high _ (c .before .if1 .taken) (c .if2 .left))
+returns-2 c e i = sym (bounded-high _ (c .before .if1 .taken) (c .if2 .left))
 
 returns-3 : tie.Need-returns-3
-returns-3 c = λ e i. sym (bounded-low _ (c .if1 .left))
+returns-3 c e i = sym (bounded-low _ (c .if1 .left))
 
 pub check-bounded-spec : {M : Type 1} → statement M
 check-bounded-spec =

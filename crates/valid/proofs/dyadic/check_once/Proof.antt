@@ -1,7 +1,7 @@
--- Invariant: x is at most n, and the answer to the whole is the answer from index x on. Measure: the indices left.
+-- Invariant: the answer to the whole is the answer from index x on. Measure: the indices left.
 -- Assumes nothing.
 use mathlib.Core.Path.{_≡_, refl}
-use Prim.Native.Nat.{_-_, _≤_}
+use Prim.Native.Nat.{_-_}
 use native.Mathlib.Omega.{arith}
 use borrow.Author.Needs.{needs}
 use lib.Dec.{eqb}
@@ -15,14 +15,14 @@ use Rattle.valid.proofs.dyadic.check_once.Tie as tie
 
 abbrev Inv-loop : tie.InvT-loop
 Inv-loop tally n r i x₀ x =
-    (x ≤ n) × (loneIn (lone r i) tally n ≡ firstOf (λ y. on (eqb (getD tally y 0) 1) (lone r i y)) x n)
+    loneIn (lone r i) tally n ≡ firstOf (λ y. on (eqb (getD tally y 0) 1) (lone r i y)) x n
 
 abbrev μ-loop : tie.MeasureT-loop
 μ-loop tally n r i x₀ x = n - x
 
 loop-holds : tie.Need-loop-holds Inv-loop μ-loop
 unfolding loneIn
-loop-holds c = (omega arith, refl)
+loop-holds c = refl
 
 wide-requires : tie.Need-wide-requires Inv-loop μ-loop
 wide-requires c κs = search needs
@@ -38,7 +38,7 @@ returns c =
     let d = c .before .before .before in
     let a = d .before .before .args in
     let x = d .before .loop .x in
-    lone-stop _ (lone (a .r) (a .i)) (a .tally .now) x (a .n) (d .before .loop .inv .1) (d .loop-test .taken)
+    lone-stop _ (lone (a .r) (a .i)) (a .tally .now) x (a .n) (d .before .loop .inv) (d .loop-test .taken)
     _ (c .before .before .wide .ensures .0) (c .if1 .taken) (λ z. omega arith)
 
 add-x : tie.Need-add-x Inv-loop μ-loop
@@ -52,14 +52,14 @@ loop-again c =
     let d = c .before .before .before in
     let a = d .before .before .args in
     let x = d .before .loop .x in
-    let t = lone-next _ (lone (a .r) (a .i)) (a .tally .now) x (a .n) (d .before .loop .inv .1) (d .loop-test .taken) in
-    (omega arith, t _ (c .before .before .wide .ensures .0) (c .if1 .left))
+    lone-next _ (lone (a .r) (a .i)) (a .tally .now) x (a .n) (d .before .loop .inv) (d .loop-test .taken)
+    _ (c .before .before .wide .ensures .0) (c .if1 .left)
 
 plain-requires : tie.Need-plain-requires Inv-loop μ-loop
 plain-requires c κs = search needs
 
 returns-2 : tie.Need-returns-2 Inv-loop μ-loop
-returns-2 c = of-done _ _ _ _ _ (c .before .before .loop .inv .1) (c .plain .ensures) (c .before .loop-test .left)
+returns-2 c = of-done _ _ _ _ _ (c .before .before .loop .inv) (c .plain .ensures) (c .before .loop-test .left)
 
 pub check-once-spec : {M : Type 1} → statement M
 check-once-spec =

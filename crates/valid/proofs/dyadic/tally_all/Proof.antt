@@ -1,9 +1,8 @@
--- Invariant: j is at most the length, and whatever the tally counted before, the subs of the first j have been walked
--- without refusal and are counted on top of it. Measure: what is left of the list.
+-- Invariant: whatever the tally counted before, the subs of the first j have been walked without refusal and are
+-- counted on top of it. Measure: what is left of the list.
 -- Assumes nothing.
 use mathlib.Core.List.{List}
-use Prim.Native.Nat.{ℕ, _-_, _≤_}
-use native.Mathlib.Omega.{arith}
+use Prim.Native.Nat.{ℕ, _-_}
 use borrow.Author.Needs.{needs}
 use lib.ListN.{length, getD, take}
 use Rattle.listing.specs.Listing.{limits}
@@ -16,9 +15,8 @@ use Rattle.valid.proofs.dyadic.tally_all.Tie as tie
 
 abbrev Inv-loop : tie.InvT-loop
 Inv-loop tally₀ ends inc b subs r i j₀ tally j =
-    (j ≤ length subs)
-    × ((seen : List ℕ) → Tally (limits .elements) tally₀ seen
-    → Walked (limits .elements) (third r i) tally seen (subsOfAll ends inc b (take j subs)))
+    (seen : List ℕ) → Tally (limits .elements) tally₀ seen
+    → Walked (limits .elements) (third r i) tally seen (subsOfAll ends inc b (take j subs))
 
 abbrev μ-loop : tie.MeasureT-loop
 μ-loop tally₀ ends inc b subs r i j₀ tally j = length subs - j
@@ -48,12 +46,12 @@ one : (c : Here) (seen : List ℕ) → Tally (limits .elements) (start c .args .
     → Tallied (limits .elements) (c .tally-list .last .0) (third (start c .args .r) (start c .args .i))
     (seenAfter seen (done c)) (list c) (c .tally-list .result)
 one c seen T =
-    let w = c .before .before .before .before .before .loop .inv .1 seen T in
+    let w = c .before .before .before .before .before .loop .inv seen T in
     rw (c .before .side-of .ensures) at (c .tally-list .ensures _ (w .tally))
 
 loop-holds : tie.Need-loop-holds Inv-loop μ-loop
 unfolding subsOfAll
-loop-holds c = (omega arith, λ seen T. walked-none _ seen T)
+loop-holds c seen T = walked-none _ seen T
 
 mul-side-of : tie.Need-mul-side-of Inv-loop μ-loop
 mul-side-of c = search needs
@@ -75,11 +73,10 @@ tally-list-requires c κs =
     (λ x k. s .pre .1 .0 .inside _ x m (rw (c .side-of .ensures) at k), s .pre .1 .1)
 
 returns : tie.Need-returns Inv-loop μ-loop
-returns c =
-    λ seen T.
+returns c seen T =
     let d = c .before .before .before .before .before .before in
     let s = d .before .before .before .before .before .args in
-    let w = d .before .loop .inv .1 seen T in
+    let w = d .before .loop .inv seen T in
     walk-stop (s .ends .now) (s .inc .now) (s .b) _ seen (s .subs .now) _ w (d .loop-test .taken)
     (one (c .before .before) seen T .answer) (c .if1 .taken)
 
@@ -90,24 +87,20 @@ loop-less : tie.Need-loop-less Inv-loop μ-loop
 loop-less c = search needs
 
 loop-again : tie.Need-loop-again Inv-loop μ-loop
-loop-again c = (
-  omega arith,
-  λ seen T.
-      let d = c .before .before .before .before .before .before in
-      let s = d .before .before .before .before .before .args in
-      let w = d .before .loop .inv .1 seen T in
-      walk-more (s .ends .now) (s .inc .now) (s .b) _ seen (s .subs .now) _ w (d .loop-test .taken)
-      (tallied-walked (one (c .before .before) seen T) (c .if1 .left)),
-)
+loop-again c seen T =
+    let d = c .before .before .before .before .before .before in
+    let s = d .before .before .before .before .before .args in
+    let w = d .before .loop .inv seen T in
+    walk-more (s .ends .now) (s .inc .now) (s .b) _ seen (s .subs .now) _ w (d .loop-test .taken)
+    (tallied-walked (one (c .before .before) seen T) (c .if1 .left))
 
 plain-requires : tie.Need-plain-requires Inv-loop μ-loop
 plain-requires c κs = search needs
 
 returns-2 : tie.Need-returns-2 Inv-loop μ-loop
-returns-2 c =
-    λ seen T.
+returns-2 c seen T =
     let s = c .before .before .before .before .before .before .args in
-    let w = c .before .before .loop .inv .1 seen T in
+    let w = c .before .before .loop .inv seen T in
     walk-all (s .ends .now) (s .inc .now) (s .b) _ seen (s .subs .now) _ w (c .before .loop-test .left)
     (c .plain .ensures)
 

@@ -1,5 +1,5 @@
--- Invariant: j is at most the length, and whatever the tally counted before, the first j indices have been walked
--- without refusal and are counted on top of it. Measure: what is left of the list.
+-- Invariant: whatever the tally counted before, the first j indices have been walked without refusal and are counted on
+-- top of it. Measure: what is left of the list.
 -- Assumes nothing.
 use mathlib.Core.List.{List}
 use Prim.Native.Nat.{ℕ, _-_, _≤_, _<_}
@@ -15,9 +15,8 @@ use Rattle.valid.proofs.dyadic.tally_list.Tie as tie
 
 abbrev Inv-loop : tie.InvT-loop
 Inv-loop tally₀ subs r i j₀ tally j =
-    (j ≤ length subs)
-    × ((seen : List ℕ) → Tally (limits .elements) tally₀ seen
-    → Walked (limits .elements) (third r i) tally seen (take j subs))
+    (seen : List ℕ) → Tally (limits .elements) tally₀ seen
+    → Walked (limits .elements) (third r i) tally seen (take j subs)
 
 abbrev μ-loop : tie.MeasureT-loop
 μ-loop tally₀ subs r i j₀ tally j = length subs - j
@@ -31,7 +30,7 @@ inside c =
     omega (arith, s .pre .0 (getD l j 0) (in-at l j (c .before .before .loop-test .taken)))
 
 loop-holds : tie.Need-loop-holds Inv-loop μ-loop
-loop-holds c = (omega arith, λ seen T. walked-none _ seen T)
+loop-holds c seen T = walked-none _ seen T
 
 mul-sub-sub : tie.Need-mul-sub-sub Inv-loop μ-loop
 mul-sub-sub c = search needs
@@ -49,12 +48,12 @@ sub-t15 : tie.Need-sub-t15 Inv-loop μ-loop
 sub-t15 c = search needs
 
 returns : tie.Need-returns Inv-loop μ-loop
-returns c =
-    λ seen T.
+returns c seen T =
     let d = c .before .before in
-    let w = d .before .before .before .loop .inv .1 seen T in
+    let w = d .before .before .before .loop .inv seen T in
     let x = d .wide .ensures .0 in
-    list-stop _ seen _ _ w (d .before .before .loop-test .taken) _ x (inside d) (c .if1 .taken) (λ z. omega arith)
+    let h : 2 ≤ getD (d .before .before .before .loop .tally) (d .wide .result) 0 = omega (arith, c .if1 .taken) in
+    list-stop _ seen _ _ w (d .before .before .loop-test .taken) _ x (inside d) h (λ z. omega arith)
 
 element-copy-out-tally : tie.Need-element-copy-out-tally Inv-loop μ-loop
 element-copy-out-tally c = inside (c .before .before)
@@ -72,21 +71,18 @@ loop-less : tie.Need-loop-less Inv-loop μ-loop
 loop-less c = search needs
 
 loop-again : tie.Need-loop-again Inv-loop μ-loop
-loop-again c = (
-  omega arith,
-  λ seen T.
-      let d = c .before .before .before in
-      let w = d .before .before .before .loop .inv .1 seen T in
-      let x = d .wide .ensures .0 in
-      list-more _ seen _ _ w (d .before .before .loop-test .taken) _ x (inside d) (c .before .if1 .left),
-)
+loop-again c seen T =
+    let d = c .before .before .before in
+    let w = d .before .before .before .loop .inv seen T in
+    let x = d .wide .ensures .0 in
+    list-more _ seen _ _ w (d .before .before .loop-test .taken) _ x (inside d) (c .before .if1 .left)
 
 plain-requires : tie.Need-plain-requires Inv-loop μ-loop
 plain-requires c κs = search needs
 
 returns-2 : tie.Need-returns-2 Inv-loop μ-loop
-returns-2 c = λ seen T.
-    list-all _ seen _ _ (c .before .before .loop .inv .1 seen T) (c .before .loop-test .left) (c .plain .ensures)
+returns-2 c seen T =
+    list-all _ seen _ _ (c .before .before .loop .inv seen T) (c .before .loop-test .left) (c .plain .ensures)
 
 pub tally-list-spec : {M : Type 1} → statement M
 tally-list-spec =

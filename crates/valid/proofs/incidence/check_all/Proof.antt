@@ -1,8 +1,8 @@
--- Invariant: r is at most the number of ranks, rank r begins at place here, and the answer to the whole is the answer
--- from rank r on. Measure: the ranks left.
+-- Invariant: rank r begins at place here, and the answer to the whole is the answer from rank r on.
+-- Measure: the ranks left.
 -- Assumes nothing.
 use mathlib.Core.Path.{_≡_, refl, sym}
-use Prim.Native.Nat.{_+_, _-_, _≤_}
+use Prim.Native.Nat.{_+_, _-_}
 use native.Mathlib.Omega.{arith}
 use borrow.Author.Needs.{needs}
 use lib.ListN.{length, getD}
@@ -17,8 +17,7 @@ use Rattle.valid.proofs.incidence.check_all.Tie as tie
 
 abbrev Inv-loop : tie.InvT-loop
 Inv-loop counts ends inc here₀ r₀ here r =
-    (r ≤ length counts)
-    × (here ≡ before counts r)
+    (here ≡ before counts r)
     × (incidencesTest (listing counts ends inc)
     ≡ firstOf (λ q. firstOf (elementTest (listing counts ends inc) q) 0 (getD counts q 0)) r (length counts))
 
@@ -27,10 +26,12 @@ abbrev μ-loop : tie.MeasureT-loop
 
 loop-holds : tie.Need-loop-holds Inv-loop μ-loop
 unfolding incidencesTest
-loop-holds c = (omega arith, sym (before-zero (c .before .before .before .args .counts .now)), refl)
+loop-holds c = (sym (before-zero (c .before .before .before .args .counts .now)), refl)
 
 check-rank-requires : tie.Need-check-rank-requires Inv-loop μ-loop
-check-rank-requires c κs = search needs
+check-rank-requires c κs =
+    let s = c .before .before .before .before .before in
+    (s .pre, (c .before .loop .inv .0, c .loop-test .taken))
 
 returns : tie.Need-returns Inv-loop μ-loop
 returns c = search of-return
@@ -63,8 +64,8 @@ loop-again c =
     let d = c .before .before .before .before in
     let l = d .before .before .before .before .before .before .args .counts .now in
     let b = before-next l (d .before .before .loop .r) in
-    let t = of-turn _ _ _ _ _ (d .before .before .loop .inv .2) (d .check-rank .ensures) in
-    (omega arith, omega arith, t (d .before .loop-test .taken) (c .before .before .if1 .left))
+    let t = of-turn _ _ _ _ _ (d .before .before .loop .inv .1) (d .check-rank .ensures) in
+    (omega arith, t (d .before .loop-test .taken) (c .before .before .if1 .left))
 
 plain-requires : tie.Need-plain-requires Inv-loop μ-loop
 plain-requires c κs = search needs

@@ -1,9 +1,7 @@
--- Invariant: j is at most the length, and the answer to the whole list is the answer to what is left from j on.
--- Measure: what is left of the list.
+-- Invariant: the answer to the whole list is the answer to what is left from j on. Measure: what is left of the list.
 -- Assumes nothing.
 use mathlib.Core.Path.{_≡_, sym, _∙_}
-use Prim.Native.Nat.{_-_, _≤_}
-use native.Mathlib.Omega.{arith}
+use Prim.Native.Nat.{_-_}
 use borrow.Author.Needs.{needs}
 use lib.ListN.{length, drop}
 use Rattle.listing.proofs.Answers.{in-next, in-stop, in-end, no-of, stops}
@@ -14,7 +12,7 @@ use Rattle.valid.proofs.incidence.check_along.Tie as tie
 abbrev Inv-loop : tie.InvT-loop
 Inv-loop ends inc way r i list j₀ j =
     let f = alongTest ends inc (way .n) (way .b) (way .s) (way .missing) (way .oneway) r i in
-    (j ≤ length list) × (f list ≡ f (drop j list))
+    f list ≡ f (drop j list)
 
 abbrev μ-loop : tie.MeasureT-loop
 μ-loop ends inc way r i list j₀ j = length list - j
@@ -36,7 +34,7 @@ unfolding alongTest
 returns c =
     let d = c .before .before .before .before in
     let h = stops (c .before .before .check-entry .ensures) (c .if1 .taken) in
-    c .before .before .check-entry .ensures ∙ sym (in-stop _ _ _ _ (d .before .loop .inv .1) (d .loop-test .taken) h)
+    c .before .before .check-entry .ensures ∙ sym (in-stop _ _ _ _ (d .before .loop .inv) (d .loop-test .taken) h)
 
 add-j : tie.Need-add-j Inv-loop μ-loop
 add-j c = search needs
@@ -49,15 +47,14 @@ unfolding alongTest
 loop-again c =
     let d = c .before .before .before .before in
     let z = no-of (c .before .before .check-entry .ensures) (c .if1 .left) in
-    (omega arith, in-next _ _ _ _ (d .before .loop .inv .1) (d .loop-test .taken) z)
+    in-next _ _ _ _ (d .before .loop .inv) (d .loop-test .taken) z
 
 plain-requires : tie.Need-plain-requires Inv-loop μ-loop
 plain-requires c κs = search needs
 
 returns-2 : tie.Need-returns-2 Inv-loop μ-loop
 unfolding alongTest
-returns-2 c =
-    c .plain .ensures ∙ sym (in-end _ _ _ _ (c .before .before .loop .inv .1) (c .before .loop-test .left))
+returns-2 c = c .plain .ensures ∙ sym (in-end _ _ _ _ (c .before .before .loop .inv) (c .before .loop-test .left))
 
 pub check-along-spec : {M : Type 1} → statement M
 check-along-spec =

@@ -1,8 +1,7 @@
--- Invariant: i is at most n, and the answer for the whole rank is the answer from element i on.
--- Measure: the elements left.
+-- Invariant: the answer for the whole rank is the answer from element i on. Measure: the elements left.
 -- Assumes nothing.
 use mathlib.Core.Path.{_≡_}
-use Prim.Native.Nat.{_-_, _≤_}
+use Prim.Native.Nat.{_-_}
 use native.Mathlib.Omega.{arith}
 use borrow.Author.Needs.{needs}
 use Rattle.listing.specs.Answers.{firstOf}
@@ -15,7 +14,7 @@ use Rattle.valid.proofs.incidence.check_rank.Tie as tie
 abbrev Inv-loop : tie.InvT-loop
 Inv-loop counts ends inc here r n i₀ i =
     let f = elementTest (listing counts ends inc) r in
-    (i ≤ n) × (firstOf f 0 n ≡ firstOf f i n)
+    firstOf f 0 n ≡ firstOf f i n
 
 abbrev μ-loop : tie.MeasureT-loop
 μ-loop counts ends inc here r n i₀ i = n - i
@@ -45,9 +44,8 @@ loop-less c = search needs
 
 loop-again : tie.Need-loop-again Inv-loop μ-loop
 loop-again c =
-    let d = c .before .before in
-    let t = of-turn _ _ _ _ _ (d .before .before .loop .inv .1) (d .check-element .ensures) in
-    (omega arith, t (d .before .loop-test .taken) (c .if1 .left))
+    let d = c .before .before .before in
+    of-turn _ _ _ _ _ (d .before .loop .inv) (c .before .before .check-element .ensures) (d .loop-test .taken) (c .if1 .left)
 
 plain-requires : tie.Need-plain-requires Inv-loop μ-loop
 plain-requires c κs = search needs
