@@ -1,0 +1,8 @@
+pub mod Bounds
+pub mod Incidence
+pub mod Ways
+pub mod Ascent
+pub mod Dyadic
+pub mod Tally
+pub mod Tests
+pub mod Closed
