@@ -1,0 +1,50 @@
+-- The change of a flag at one rank.
+--
+-- common      the numbers of one list that another has too, in their order
+-- other       the first number of a list that is not e; 0 where there is none
+-- between     the elements between those of a flag at the ranks r - 1 and r + 1
+-- changeAt    the flag with the other of those at rank r
+-- padded      a flag as a record of 16 numbers, 0 above the top
+-- changeTest  the refusals of a change: those of the closed test, 20, 21
+-- changedOf   what a change answers: on a refusal all numbers of the flag are 0
+use mathlib.Core.Bool.{Bool, not, cond, _&&_}
+use mathlib.Core.List.{List, [], _∷_, _++_}
+use Prim.Native.Nat.{ℕ, _+_, _-_}
+use lib.Dec.{ltb, eqb}
+use lib.ListN.{length, getD, set, replicate}
+use Rattle.order.specs.Lists.{has}
+use Rattle.listing.specs.declared.Answer.{Answer}
+use Rattle.listing.specs.Refusals.{notAFlag, outsideRanks}
+use Rattle.listing.specs.Answers.{plain, on, _orElse_, ifZero}
+use Rattle.listing.specs.Listing.{Listing, Limits, rank, subs, sups}
+use Rattle.valid.specs.Tests.{closed}
+use Rattle.flag.specs.declared.Changed.{Changed}
+use Rattle.flag.specs.Flags.{flagTest}
+
+unfoldable pub common : List ℕ → List ℕ → List ℕ
+common [] m = []
+common (x ∷ l) m = cond (has m x) (x ∷ common l m) (common l m)
+
+unfoldable pub other : ℕ → List ℕ → ℕ
+other e [] = 0
+other e (x ∷ l) = cond (eqb x e) (other e l) x
+
+unfoldable pub between : Listing → ℕ → List ℕ → List ℕ
+between L r f = common (sups L (r - 1) (getD f (r - 1) 0)) (subs L (r + 1) (getD f (r + 1) 0))
+
+unfoldable pub changeAt : Listing → ℕ → List ℕ → List ℕ
+changeAt L r f = set f r (other (getD f r 0) (between L r f))
+
+abbrev pub padded : List ℕ → List ℕ
+padded f = f ++ replicate (16 - length f) 0
+
+unfoldable pub changeTest : Limits → Listing → List ℕ → ℕ → Answer
+changeTest m L f r =
+    closed m L orElse
+    on (not (flagTest L f)) (plain notAFlag) orElse
+    on (not (ltb 0 r && ltb r (rank L))) (plain outsideRanks)
+
+unfoldable pub changedOf : Limits → Listing → List ℕ → ℕ → Changed
+changedOf m L f r =
+    let a = changeTest m L f r in
+    record { answer = a; flag = ifZero (a .no) (padded (changeAt L r f)) (replicate 16 0) }

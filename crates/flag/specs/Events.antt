@@ -1,0 +1,35 @@
+-- The events of a finished search, by their place in the row: the flags 0, 1, .. count - 1, with NonOrientable after the
+-- first `place` flags where place is from 1 to count, and without it otherwise.
+--
+-- within     NonOrientable is among the events
+-- eventAt    the event at a place of the row; Nothing past the last
+-- events     how many events there are
+-- nextAt     the place after a place: the same past the last
+-- saidOf     an event as two numbers: kind 0 nothing, 1 a flag, 2 not orientable; and the flag
+use Prim.Native.Nat.{ℕ, _+_, _-_}
+use mathlib.Core.Bool.{Bool, cond, _&&_}
+use lib.Dec.{ltb, leb, eqb}
+use Rattle.flag.specs.declared.Said.{Said}
+use Rattle.flag.specs.declared.Event.{Event}
+use Rattle.flag.specs.declared.Event.the-variants.{Flag, NonOrientable, Nothing}
+
+abbrev pub within : ℕ → ℕ → Bool
+within count place = leb 1 place && leb place count
+
+abbrev pub eventAt : ℕ → ℕ → ℕ → Event
+eventAt at count place =
+    cond (within count place)
+    (cond (ltb at place) (Flag at)
+    (cond (eqb at place) NonOrientable (cond (leb at count) (Flag (at - 1)) Nothing)))
+    (cond (ltb at count) (Flag at) Nothing)
+
+abbrev pub events : ℕ → ℕ → ℕ
+events count place = cond (within count place) (count + 1) count
+
+abbrev pub nextAt : ℕ → ℕ → ℕ → ℕ
+nextAt at count place = cond (ltb at (events count place)) (at + 1) at
+
+abbrev pub saidOf : Event → Said
+saidOf (Flag i) = record { kind = 1; flag = i }
+saidOf NonOrientable = record { kind = 2; flag = 0 }
+saidOf Nothing = record { kind = 0; flag = 0 }
