@@ -1,2 +1,3 @@
 pub mod FlagExact
 pub mod Merge
+pub mod EventRow

@@ -6,7 +6,7 @@
 -- changeAt    the flag with the other of those at rank r
 -- Neighbours  the numbers at the ranks r - 1 and r + 1 are elements that exist
 -- padded      a flag as a record of 16 numbers, 0 above the top
--- changeTest  the refusals of a change: those of the closed test, 20, 21
+-- changeTest  the refusals of a change: those of startTest, then 21
 -- changedOf   what a change answers: on a refusal all numbers of the flag are 0
 use mathlib.Core.Bool.{Bool, not, cond, _&&_}
 use mathlib.Core.List.{List, [], _∷_, _++_}
@@ -15,12 +15,11 @@ use lib.Dec.{ltb, eqb}
 use lib.ListN.{length, getD, set, replicate}
 use Rattle.order.specs.Lists.{has}
 use Rattle.listing.specs.declared.Answer.{Answer}
-use Rattle.listing.specs.Refusals.{notAFlag, outsideRanks}
+use Rattle.listing.specs.Refusals.{outsideRanks}
 use Rattle.listing.specs.Answers.{plain, on, _orElse_, ifZero}
 use Rattle.listing.specs.Listing.{Listing, Limits, rank, count, subs, sups}
-use Rattle.valid.specs.Tests.{closed}
 use Rattle.flag.specs.declared.Changed.{Changed}
-use Rattle.flag.specs.Flags.{flagTest}
+use Rattle.flag.specs.Flags.{startTest}
 
 unfoldable pub common : List ℕ → List ℕ → List ℕ
 common [] m = []
@@ -47,8 +46,7 @@ padded f = f ++ replicate (16 - length f) 0
 
 unfoldable pub changeTest : Limits → Listing → List ℕ → ℕ → Answer
 changeTest m L f r =
-    closed m L orElse
-    on (not (flagTest L f)) (plain notAFlag) orElse
+    startTest m L f orElse
     on (not (ltb 0 r && ltb r (rank L))) (plain outsideRanks)
 
 unfoldable pub changedOf : Limits → Listing → List ℕ → ℕ → Changed

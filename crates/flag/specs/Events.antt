@@ -16,20 +16,21 @@ use Rattle.flag.specs.declared.Event.the-variants.{Flag, NonOrientable, 
 abbrev pub within : ℕ → ℕ → Bool
 within count place = leb 1 place && leb place count
 
-abbrev pub eventAt : ℕ → ℕ → ℕ → Event
+unfoldable pub eventAt : ℕ → ℕ → ℕ → Event
 eventAt at count place =
     cond (within count place)
     (cond (ltb at place) (Flag at)
     (cond (eqb at place) NonOrientable (cond (leb at count) (Flag (at - 1)) Nothing)))
     (cond (ltb at count) (Flag at) Nothing)
 
-abbrev pub events : ℕ → ℕ → ℕ
+unfoldable pub events : ℕ → ℕ → ℕ
 events count place = cond (within count place) (count + 1) count
 
-abbrev pub nextAt : ℕ → ℕ → ℕ → ℕ
+unfoldable pub nextAt : ℕ → ℕ → ℕ → ℕ
+unfolding events
 nextAt at count place = cond (ltb at (events count place)) (at + 1) at
 
-abbrev pub saidOf : Event → Said
+unfoldable pub saidOf : Event → Said
 saidOf (Flag i) = record { kind = 1; flag = i }
 saidOf NonOrientable = record { kind = 2; flag = 0 }
 saidOf Nothing = record { kind = 0; flag = 0 }
