@@ -10,8 +10,8 @@ ghost use Rattle.order.specs.Lists.{Ascending};
 ghost use Rattle.listing.specs.Listing.{listing, limits, before};
 ghost use Rattle.listing.specs.Shape.{Shaped};
 ghost use Rattle.valid.specs.Ascent.{Ascends};
-ghost use Rattle.flag.specs.Flags.{flagAt, flagTest, startTest};
-ghost use Rattle.flag.specs.Change.{common, other, between, padded, Neighbours};
+ghost use Rattle.flag.specs.Flags.{flagAt, flagTest, startTest, IsFlag};
+ghost use Rattle.flag.specs.Change.{common, other, between, changeAt, padded, Neighbours};
 
 // Whether an index that exists stands in the flag at rank r, which begins at place here, and over what stands below it.
 fn stands_at(counts: &[u16], ends: &[u16], inc: &[u16], flag: &[u16], here: usize, r: usize) -> bool
@@ -141,4 +141,21 @@ pub fn pad(flag: &[u16]) -> [u16; 16]
         k += 1;
     }
     a
+}
+
+// The flag after the change at rank r, as a record of 16 numbers.
+pub fn changed_at(counts: &[u16], ends: &[u16], inc: &[u16], flag: &[u16], r: usize) -> [u16; 16]
+    requires { ⌜ Shaped limits (listing (now counts) (now ends) (now inc)) ⌝ }
+    requires { ⌜ Ascends (listing (now counts) (now ends) (now inc)) ⌝ }
+    requires { ⌜ IsFlag (listing (now counts) (now ends) (now inc)) (now flag) ⌝ }
+    requires { ⌜ (0 < r) × (r < length (now counts) - 1) ⌝ }
+    ensures { λ a. ⌜ a ≡ padded (changeAt (listing (now (counts .entry)) (now (ends .entry)) (now (inc .entry))) r
+        (now (flag .entry))) ⌝ }
+{
+    let low = place_of(counts, r - 1);
+    let high = place_of(counts, r + 1);
+    let x = change_index(counts, ends, inc, flag, r, low, high);
+    let mut new = pad(flag);
+    new[r] = x;
+    new
 }

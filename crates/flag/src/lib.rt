@@ -28,12 +28,13 @@ fn check_change(counts: &[u16], ends: &[u16], inc: &[u16], flag: &[u16], r: u16)
         return a;
     }
     let rank = counts.len() - 1;
-    if 0 < r {
-        if inner::wide(r) < rank {
-            return inner::plain(0);
-        }
+    if r == 0 {
+        return inner::plain(refusal::OUTSIDE_RANKS);
     }
-    inner::plain(refusal::OUTSIDE_RANKS)
+    if rank <= inner::wide(r) {
+        return inner::plain(refusal::OUTSIDE_RANKS);
+    }
+    inner::plain(0)
 }
 
 // The change of a flag at rank r: of the two elements between those at the ranks r - 1 and r + 1, the other one is put in.
@@ -42,16 +43,11 @@ pub fn change(counts: &[u16], ends: &[u16], inc: &[u16], flag: &[u16], r: u16) -
         (now (flag .entry)) r ⌝ }
 {
     let answer = check_change(counts, ends, inc, flag, r);
-    let mut new = [0u16; 16];
     if answer.no != 0 {
-        return Changed { answer, flag: new };
+        let none = [0u16; 16];
+        return Changed { answer, flag: none };
     }
-    let at = inner::wide(r);
-    let low = chain::place_of(counts, at - 1);
-    let high = low + inner::wide(counts[at - 1]) + inner::wide(counts[at]);
-    let x = chain::change_index(counts, ends, inc, flag, at, low, high);
-    new = chain::pad(flag);
-    new[at] = x;
+    let new = chain::changed_at(counts, ends, inc, flag, inner::wide(r));
     Changed { answer, flag: new }
 }
 

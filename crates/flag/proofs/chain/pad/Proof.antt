@@ -1,3 +1,4 @@
+use Rattle.flag.proofs.Padding.{filled, filled-next, filled-end}
 use borrow.Author.Needs.{needs}
 use native.Mathlib.Omega.{arith}
 use mathlib.Core.Path.{_≡_, refl, sym, ap, _∙_}
@@ -9,14 +10,14 @@ use Rattle.flag.proofs.chain.pad.Reads as reads
 use Rattle.flag.proofs.chain.pad.Lts as lts
 
 abbrev Inv-loop : tie.InvT-loop
-Inv-loop flag a₀ k₀ a k = ?
+Inv-loop flag a₀ k₀ a k = (k ≤ length flag) × (a ≡ filled flag k)
 
 abbrev μ-loop : tie.MeasureT-loop
-μ-loop flag a₀ k₀ a k = ?
+μ-loop flag a₀ k₀ a k = length flag - k
 
 -- src/chain.rt:139:5
 loop-holds : tie.Need-loop-holds Inv-loop μ-loop
-loop-holds c = search needs
+loop-holds c = (omega arith, refl)
 
 -- src/chain.rt:140:16
 mul-a : tie.Need-mul-a Inv-loop μ-loop
@@ -44,11 +45,11 @@ loop-less c = search needs
 
 -- src/chain.rt:139:5
 loop-again : tie.Need-loop-again Inv-loop μ-loop
-loop-again c = search needs
+loop-again c = (omega arith, rw (c .before .before .loop .inv .1) (filled-next _ _ (c .before .loop-test .taken) (c .before .before .before .pre)))
 
 -- src/chain.rt:133:1
 returns : tie.Need-returns Inv-loop μ-loop
-returns c = search needs
+returns c = c .before .loop .inv .1 ∙ filled-end (c .before .before .args .flag .now) (c .before .loop .k) (omega arith)
 
 pub pad-spec : {M : Type 1} → statement M
 pad-spec =

@@ -1,3 +1,5 @@
+use Rattle.listing.proofs.Listing.{before-zero, before-next, before-le}
+use Rattle.listing.specs.Listing.{before}
 use borrow.Author.Needs.{needs}
 use native.Mathlib.Omega.{arith}
 use mathlib.Core.Path.{_≡_, refl, sym, ap, _∙_}
@@ -10,14 +12,14 @@ use Rattle.flag.proofs.chain.place_of.Lts as lts
 use Rattle.listing.proofs.inner.wide.Reads as wide-reads
 
 abbrev Inv-loop : tie.InvT-loop
-Inv-loop counts r p₀ k₀ p k = ?
+Inv-loop counts r p₀ k₀ p k = (k ≤ r) × (p ≡ before counts k)
 
 abbrev μ-loop : tie.MeasureT-loop
-μ-loop counts r p₀ k₀ p k = ?
+μ-loop counts r p₀ k₀ p k = r - k
 
 -- src/chain.rt:74:5
 loop-holds : tie.Need-loop-holds Inv-loop μ-loop
-loop-holds c = search needs
+loop-holds c = (omega arith, sym (before-zero _))
 
 -- src/chain.rt:75:26
 mul-wide : tie.Need-mul-wide Inv-loop μ-loop
@@ -33,7 +35,7 @@ wide-requires c κs = search needs
 
 -- src/chain.rt:75:9
 add-p : tie.Need-add-p Inv-loop μ-loop
-add-p c = search needs
+add-p c = let s = c .before .before .before .before .before in omega (arith, before-le (s .args .counts .now) (c .before .before .before .loop .k) (s .args .r) (c .before .before .before .loop .inv .0))
 
 -- src/chain.rt:76:9
 add-k : tie.Need-add-k Inv-loop μ-loop
@@ -45,11 +47,11 @@ loop-less c = search needs
 
 -- src/chain.rt:74:5
 loop-again : tie.Need-loop-again Inv-loop μ-loop
-loop-again c = search needs
+loop-again c = (omega arith, rw (c .wide .ensures .0, c .before .before .before .loop .inv .1) (sym (before-next _ _)))
 
 -- src/chain.rt:68:1
 returns : tie.Need-returns Inv-loop μ-loop
-returns c = search needs
+returns c = let z : c .before .loop .k ≡ c .before .before .before .args .r = omega arith in rw (← z) (c .before .loop .inv .1)
 
 pub place-of-spec : {M : Type 1} → statement M
 place-of-spec =
