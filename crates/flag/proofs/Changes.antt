@@ -107,3 +107,71 @@ module _ {m : Limits} (L : Listing) (C : Closed m L) (r : ℕ) (p : 0 < r) (q : 
           second = between-is (t .two) .1 (t .second);
           no-third = λ w h. t .no-third w (between-is w .0 h);
         }
+
+    the-other : OneOther (λ x. In x (between L r f)) (getD f r 0)
+    the-other = one-other two (getD f r 0) stands
+
+    -- the number that the change puts in
+    abbrev new : ℕ
+    new = other (getD f r 0) (between L r f)
+
+    new-is : new ≡ the-other .other
+    new-is =
+        other-is (getD f r 0) (the-other .other) (between L r f) (the-other .holds) (the-other .differs) (the-other .only)
+
+    new-differs : new ≢ getD f r 0
+    new-differs = rw new-is (the-other .differs)
+
+    changed-flag : IsFlag L (changeAt L r f)
+    unfolding changeAt
+    changed-flag =
+        let e : r + 1 - 1 ≡ r = omega arith in
+        let h : In new (between L r f) = rw new-is (the-other .holds) in
+        let b : In new (subs L (r + 1) (getD f (r + 1) 0)) × In (getD f (r - 1) 0) (subs L r new)
+            = rw e at (between-is new .0 h) in
+        set-flag L f r p q F new (mid-exists new (b .0)) (b .1) (b .0)
+
+    changed-at : ChangedAt r f (changeAt L r f)
+    unfolding changeAt
+    changed-at = changed-set f r new (omega (arith, F .one-each)) (λ e. new-differs (sym e))
+
+    -- seen from the new flag, the old element is the other one
+    old-is : other new (between L r f) ≡ getD f r 0
+    old-is = other-is new (getD f r 0) (between L r f) stands (λ e. new-differs (sym e)) (λ x h. swap (the-other .only x h))
+      where
+        swap : {x : ℕ} → (x ≡ getD f r 0) ⊎ (x ≡ the-other .other) → (x ≡ new) ⊎ (x ≡ getD f r 0)
+        swap (inl e) = inr e
+        swap (inr e) = inl (e ∙ sym new-is)
+
+    changed-back : changeAt L r (changeAt L r f) ≡ f
+    unfolding changeAt
+    changed-back =
+        rw (getD-set-same f r new 0 (omega (arith, F .one-each)), between-set L f r p q new, old-is, set-set f r)
+        (set-getD f r 0)
+
+  module _ (f : List ℕ) (F : IsFlag L f) where
+    changed-only : (g : List ℕ) → IsFlag L g → ChangedAt r f g → g ≡ changeAt L r f
+    unfolding changeAt
+    changed-only g G c = changed-is c ∙ ap (set f r) (go (the-other f F .only (getD g r 0) between-g))
+      where
+        between-g : In (getD g r 0) (between L r f)
+        between-g = rw (← between-set L f r p q (getD g r 0), ← changed-is c) (stands g G)
+
+        go : (getD g r 0 ≡ getD f r 0) ⊎ (getD g r 0 ≡ the-other f F .other) → getD g r 0 ≡ new f F
+        go (inl e) = absurd (changed-apart c e)
+        go (inr e) = e ∙ sym (new-is f F)
+
+    -- A flag of a closed listing has exactly one change at each rank between the ends, and making it twice leads back.
+    pub changes : Changes L f r
+    changes = record {
+      two-between = two f F;
+      one-stands = stands f F;
+      is-flag = changed-flag f F;
+      changed = changed-at f F;
+      back = changed-back f F;
+      only = changed-only;
+    }
+
+-- A flag of a closed listing is never wider than the limit of the ranks.
+pub flag-width : {m : Limits} (L : Listing) → Closed m L → (f : List ℕ) → IsFlag L f → length f ≤ m .ranks
+flag-width L C f F = omega (arith, F .one-each, C .shaped)

@@ -5,3 +5,4 @@ pub mod ChangeAnswers
 pub mod Padding
 pub mod Places
 pub mod Changes
+pub mod EventsTaken
