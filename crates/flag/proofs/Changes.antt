@@ -19,7 +19,7 @@ use Rattle.valid.specs.Dyadic.{Between, Two, DiamondAt, Diamond}
 use Rattle.flag.specs.Flags.{IsFlag}
 use Rattle.flag.specs.Change.{other, between, changeAt, Changes}
 use Rattle.flag.proofs.Merge.{common-in, other-same, other-found}
-use Rattle.flag.proofs.Places.{changed-set, changed-is, changed-apart, between-set, set-flag}
+use Rattle.flag.proofs.Replaced.{changed-set, changed-is, changed-apart, between-set, set-flag}
 
 -- ---- the other of two
 
@@ -98,7 +98,7 @@ module _ {m : Limits} (L : Listing) (C : Closed m L) (r : ℕ) (p : 0 < r) (q : 
     unfolding Diamond DiamondAt
     two =
         let t = C .diamond (r + 1) (omega arith) (omega arith) (getD f (r + 1) 0) (getD f (r - 1) 0) (getD f r 0)
-            high-exists (between-is (getD f r 0) .0 stands) in
+        high-exists (between-is (getD f r 0) .0 stands) in
         record {
           one = t .one;
           two = t .two;
@@ -128,7 +128,7 @@ module _ {m : Limits} (L : Listing) (C : Closed m L) (r : ℕ) (p : 0 < r) (q : 
         let e : r + 1 - 1 ≡ r = omega arith in
         let h : In new (between L r f) = rw new-is (the-other .holds) in
         let b : In new (subs L (r + 1) (getD f (r + 1) 0)) × In (getD f (r - 1) 0) (subs L r new)
-            = rw e at (between-is new .0 h) in
+        = rw e at (between-is new .0 h) in
         set-flag L f r p q F new (mid-exists new (b .0)) (b .1) (b .0)
 
     changed-at : ChangedAt r f (changeAt L r f)

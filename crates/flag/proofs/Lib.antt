@@ -1,8 +1,9 @@
 pub mod FlagExact
 pub mod Merge
-pub mod EventRow
-pub mod ChangeAnswers
 pub mod Padding
-pub mod Places
+pub mod Replaced
 pub mod Changes
+pub mod ChangeAnswers
+pub mod EventRow
 pub mod EventsTaken
+pub mod Starred

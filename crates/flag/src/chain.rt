@@ -10,6 +10,7 @@ ghost use Rattle.order.specs.Lists.{Ascending};
 ghost use Rattle.listing.specs.Listing.{listing, limits, before};
 ghost use Rattle.listing.specs.Shape.{Shaped};
 ghost use Rattle.valid.specs.Ascent.{Ascends};
+ghost use Rattle.valid.specs.Closed.{Closed};
 ghost use Rattle.flag.specs.Flags.{flagAt, flagTest, startTest, IsFlag};
 ghost use Rattle.flag.specs.Change.{common, other, between, changeAt, padded, Neighbours};
 
@@ -145,8 +146,7 @@ pub fn pad(flag: &[u16]) -> [u16; 16]
 
 // The flag after the change at rank r, as a record of 16 numbers.
 pub fn changed_at(counts: &[u16], ends: &[u16], inc: &[u16], flag: &[u16], r: usize) -> [u16; 16]
-    requires { ⌜ Shaped limits (listing (now counts) (now ends) (now inc)) ⌝ }
-    requires { ⌜ Ascends (listing (now counts) (now ends) (now inc)) ⌝ }
+    requires { ⌜ Closed limits (listing (now counts) (now ends) (now inc)) ⌝ }
     requires { ⌜ IsFlag (listing (now counts) (now ends) (now inc)) (now flag) ⌝ }
     requires { ⌜ (0 < r) × (r < length (now counts) - 1) ⌝ }
     ensures { λ a. ⌜ a ≡ padded (changeAt (listing (now (counts .entry)) (now (ends .entry)) (now (inc .entry))) r

@@ -1,4 +1,4 @@
--- Flags with another number at one place.
+-- Lists that differ at one place, and flags with another number at one rank.
 -- Assumes nothing.
 use mathlib.Core.Path.{_≡_, refl, sym, ap, _∙_}
 use mathlib.Core.List.{List, [], _∷_}
