@@ -1,6 +1,6 @@
 -- The answer of a change: of the tests before it, with their exactness, and as a whole.
 -- Assumes nothing.
-use mathlib.Core.Path.{_≡_, refl, sym, ap, _∙_}
+use mathlib.Core.Path.{_≡_, refl, ap}
 use mathlib.Core.Bool.{Bool, true, false, not, _&&_}
 use mathlib.Core.List.{List}
 use mathlib.Core.Logic.{_↔_}
@@ -68,7 +68,7 @@ module _ (m : Limits) (L : Listing) (f : List ℕ) (r : ℕ) where
     unfolding changeTest
     change-highest h g = then-go e z (rw (and-off _ (le-ltb r (rank L) h)) g)
 
-  -- A change is not refused exactly if the listing is closed, the numbers are a flag of it, and r lies between the ends.
+  -- A change is not refused exactly if the listing is closed, the numbers are a flag of it and r is between the ends.
   pub change-exact : changeTest m L f r .no ≡ 0 ↔ (Closed m L × IsFlag L f × (0 < r) × (r < rank L))
   unfolding changeTest
   change-exact = (there, back)
@@ -112,7 +112,8 @@ module _ (m : Limits) (L : Listing) (f : List ℕ) (r : ℕ) where
         go (suc n) g = absurd (omega arith)
 
   -- Where a change is not refused, its flag is the one and only change there.
-  pub change-changes : changedOf m L f r .answer .no ≡ 0 → Changes L f r × (changedOf m L f r .flag ≡ padded (changeAt L r f))
+  pub change-changes : changedOf m L f r .answer .no ≡ 0
+      → Changes L f r × (changedOf m L f r .flag ≡ padded (changeAt L r f))
   unfolding changedOf
   change-changes e =
       let p = change-exact m L f r .0 e in

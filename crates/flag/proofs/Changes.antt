@@ -1,8 +1,7 @@
--- The change of a flag of a closed listing: between the neighbours of each rank lie exactly two elements, the flag's and one
--- other, and the change puts that one in.
+-- The change of a flag of a closed listing: between the neighbours of each rank lie exactly two elements, the flag's
+-- and one other, and the change puts that one in.
 -- Assumes nothing.
 use mathlib.Core.Path.{_≡_, refl, sym, ap, _∙_}
-use mathlib.Core.Bool.{Bool, true, false}
 use mathlib.Core.List.{List, [], _∷_}
 use mathlib.Core.Logic.{_↔_, _≢_, _⊎_, inl, inr}
 use Prim.Native.Nat.{ℕ, _+_, _-_, _≤_, _<_}
@@ -13,7 +12,7 @@ use lib.Seq.{getD-set-same, set-set, set-getD}
 use Rattle.order.specs.Lists.{In}
 use Rattle.order.specs.Flags.{ChangedAt}
 use Rattle.order.specs.Diamond.{OneOther}
-use Rattle.listing.specs.Listing.{Listing, Limits, count, rank, subs, sups}
+use Rattle.listing.specs.Listing.{Listing, Limits, count, rank, subs}
 use Rattle.valid.specs.Closed.{Closed}
 use Rattle.valid.specs.Dyadic.{Between, Two, DiamondAt, Diamond}
 use Rattle.flag.specs.Flags.{IsFlag}
@@ -27,7 +26,8 @@ use Rattle.flag.proofs.Replaced.{changed-set, changed-is, changed-apart
 other-is : (e o : ℕ) (l : List ℕ) → In o l → o ≢ e → ((x : ℕ) → In x l → (x ≡ e) ⊎ (x ≡ o)) → other e l ≡ o
 unfolding In
 other-is e o [] h d only = absurd h
-other-is e o (x ∷ l) h d only = go (λ k. other-is e o l k d (λ y m. only y (inr m))) h (ℕ-discrete x e) (only x (inl refl))
+other-is e o (x ∷ l) h d only =
+    go (λ k. other-is e o l k d (λ y m. only y (inr m))) h (ℕ-discrete x e) (only x (inl refl))
   where
     go : (In o l → other e l ≡ o) → (o ≡ x) ⊎ In o l → Dec (x ≡ e) → (x ≡ e) ⊎ (x ≡ o) → other e (x ∷ l) ≡ o
     go ih (inl w) (yes z) u = absurd (d (w ∙ z))
@@ -91,7 +91,8 @@ module _ {m : Limits} (L : Listing) (C : Closed m L) (r : ℕ) (p : 0 < r) (q : 
     stands =
         let e : r + 1 - 1 ≡ r = omega arith in
         let d : r - 1 + 1 ≡ r = omega arith in
-        let u : In (getD f (r - 1) 0) (subs L r (getD f r 0)) = rw d at (F .under (r - 1) (omega (arith, F .one-each))) in
+        let u : In (getD f (r - 1) 0) (subs L r (getD f r 0))
+        = rw d at (F .under (r - 1) (omega (arith, F .one-each))) in
         between-is (getD f r 0) .1 (rw e (F .under r (omega (arith, F .one-each)), u))
 
     two : Two (λ x. In x (between L r f))
@@ -117,7 +118,8 @@ module _ {m : Limits} (L : Listing) (C : Closed m L) (r : ℕ) (p : 0 < r) (q : 
 
     new-is : new ≡ the-other .other
     new-is =
-        other-is (getD f r 0) (the-other .other) (between L r f) (the-other .holds) (the-other .differs) (the-other .only)
+        other-is (getD f r 0) (the-other .other) (between L r f)
+        (the-other .holds) (the-other .differs) (the-other .only)
 
     new-differs : new ≢ getD f r 0
     new-differs = rw new-is (the-other .differs)
@@ -137,7 +139,9 @@ module _ {m : Limits} (L : Listing) (C : Closed m L) (r : ℕ) (p : 0 < r) (q : 
 
     -- seen from the new flag, the old element is the other one
     old-is : other new (between L r f) ≡ getD f r 0
-    old-is = other-is new (getD f r 0) (between L r f) stands (λ e. new-differs (sym e)) (λ x h. swap (the-other .only x h))
+    old-is =
+        other-is new (getD f r 0) (between L r f) stands (λ e. new-differs (sym e))
+        (λ x h. swap (the-other .only x h))
       where
         swap : {x : ℕ} → (x ≡ getD f r 0) ⊎ (x ≡ the-other .other) → (x ≡ new) ⊎ (x ≡ getD f r 0)
         swap (inl e) = inr e

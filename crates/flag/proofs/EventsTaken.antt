@@ -1,9 +1,9 @@
--- The events one after another: from a new cursor they are the flags in order, with NonOrientable at its place if it came,
--- and then Nothing, however often one asks.
+-- The events one after another: from a new cursor they are the flags in order, with NonOrientable at its place if it
+-- came, and then Nothing, however often one asks.
 -- Assumes nothing.
-use mathlib.Core.Path.{_≡_, refl, sym, ap, _∙_}
+use mathlib.Core.Path.{_≡_, refl, ap, _∙_}
 use mathlib.Core.Bool.{Bool, true, false}
-use mathlib.Core.List.{List, [], _∷_, _++_}
+use mathlib.Core.List.{List, _∷_, _++_}
 use Prim.Native.Nat.{ℕ, zero, suc, _+_, _-_, _≤_, _<_}
 use native.Mathlib.Nat.{zero-add}
 use native.Mathlib.Numerals.{add-one}
@@ -68,8 +68,8 @@ module _ (n p : ℕ) where
   plain-are : within n p ≡ false → upFrom at 0 n ≡ upFrom Flag 0 n
   plain-are w = up-same at Flag 0 n (λ k _ h. flag-plain k n p w (omega arith))
 
-  -- The events at the places of the row are the flags in order, with NonOrientable after the first p flags where p is from 1
-  -- to n.
+  -- The events at the places of the row are the flags in order, with NonOrientable after the first p flags where p is
+  -- from 1 to n.
   pub events-are : upFrom at 0 (events n p) ≡ eventsOf n p
   unfolding events eventsOf
   events-are = go (within n p) refl

@@ -10,7 +10,7 @@ use native.Mathlib.Numerals.{add-one}
 use native.Mathlib.Omega.{arith}
 use borrow.Author.Tests.{eq-eqb, ne-eqb, lt-ltb, le-ltb, eqb-true, ltb-true}
 use lib.ListN.{length, getD}
-use Rattle.order.specs.Lists.{In, has}
+use Rattle.order.specs.Lists.{has}
 use Rattle.order.proofs.Lists.{has-yes}
 use Rattle.listing.specs.Listing.{Listing, count, subs}
 use Rattle.valid.proofs.Sequences.{and-true}

@@ -1,16 +1,15 @@
 -- The numbers that two lists share, and the first of them that is not a given one: found by a merge of ascending lists.
 -- Assumes nothing.
-use mathlib.Core.Path.{_≡_, refl, sym, ap, _∙_}
+use mathlib.Core.Path.{_≡_, refl, ap, _∙_}
 use mathlib.Core.Bool.{Bool, true, false}
 use mathlib.Core.List.{List, [], _∷_}
-use mathlib.Core.Logic.{_↔_, _⊎_, _≢_, inl, inr}
+use mathlib.Core.Logic.{_↔_, _⊎_, inl, inr}
 use Prim.Native.Nat.{ℕ, zero, suc, _+_, _≤_, _<_}
 use native.Mathlib.Numerals.{add-one}
 use native.Mathlib.Omega.{arith}
-use borrow.Author.Tests.{eq-eqb, ne-eqb, eqb-true, eqb-false}
-use lib.Dec.{eqb}
+use borrow.Author.Tests.{eq-eqb, ne-eqb}
 use lib.ListN.{length, getD, drop, drop-of-length-le}
-use lib.Seq.{drop-cons, drop-nil}
+use lib.Seq.{drop-cons}
 use Rattle.order.specs.Lists.{In, has, Ascending}
 use Rattle.order.proofs.Lists.{has-yes, has-no}
 use Rattle.flag.specs.Change.{common, other}
@@ -49,7 +48,8 @@ common-in a (x ∷ l) m = go (common-in a l m) (has m x) refl
         → In a (common (x ∷ l) m) ↔ (In a (x ∷ l) × In a m)
     go ih true e = rw (common-take x l m e) (held (has-yes x m .0 e) ih, λ h. holds ih (h .1) (h .0))
     go ih false e =
-        rw (common-pass x l m e) (λ h. let r = ih .0 h in (inr (r .0), r .1), λ h. lacks (has-no x m .0 e) ih (h .1) (h .0))
+        rw (common-pass x l m e)
+        (λ h. let r = ih .0 h in (inr (r .0), r .1), λ h. lacks (has-no x m .0 e) ih (h .1) (h .0))
 
 -- a number that the first list lacks may go from the second
 common-without : (y : ℕ) (l m : List ℕ) → ¬ In y l → common l (y ∷ m) ≡ common l m

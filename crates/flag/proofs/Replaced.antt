@@ -47,8 +47,8 @@ module _ (L : Listing) (f : List ℕ) (r : ℕ) (p : 0 < r) (q : r < rank L) whe
       upper = F .exists (r + 1) (omega (arith, F .one-each));
     }
 
-    pub set-flag : (x : ℕ) → x < count L r → In (getD f (r - 1) 0) (subs L r x) → In x (subs L (r + 1) (getD f (r + 1) 0))
-        → IsFlag L (set f r x)
+    pub set-flag : (x : ℕ) → x < count L r → In (getD f (r - 1) 0) (subs L r x)
+        → In x (subs L (r + 1) (getD f (r + 1) 0)) → IsFlag L (set f r x)
     set-flag x e u o = record {
       one-each = length-set f r x ∙ F .one-each;
       exists = λ k h. there k (rw length-set at h) (ℕ-discrete k r);

@@ -11,7 +11,7 @@
 -- changeTest  the refusals of a change: those of startTest, then 21
 -- changedOf   what a change answers: on a refusal all numbers of the flag are 0
 use mathlib.Core.Path.{_≡_}
-use mathlib.Core.Bool.{Bool, not, cond, _&&_}
+use mathlib.Core.Bool.{not, cond, _&&_}
 use mathlib.Core.List.{List, [], _∷_, _++_}
 use Prim.Native.Nat.{ℕ, _+_, _-_, _<_}
 use lib.Dec.{ltb, eqb}

@@ -1,5 +1,5 @@
--- The events of a finished search, by their place in the row: the flags 0, 1, .. count - 1, with NonOrientable after the
--- first `place` flags where place is from 1 to count, and without it otherwise.
+-- The events of a finished search, by their place in the row: the flags 0, 1, .. count - 1, with NonOrientable after
+-- the first `place` flags where place is from 1 to count, and without it otherwise.
 --
 -- within     NonOrientable is among the events
 -- eventAt    the event at a place of the row; Nothing past the last

@@ -17,8 +17,10 @@ ghost use Rattle.flag.specs.Change.{common, other, between, changeAt, pa
 // Whether an index that exists stands in the flag at rank r, which begins at place here, and over what stands below it.
 fn stands_at(counts: &[u16], ends: &[u16], inc: &[u16], flag: &[u16], here: usize, r: usize) -> bool
     requires { ⌜ Shaped limits (listing (now counts) (now ends) (now inc)) ⌝ }
-    requires { ⌜ (here ≡ before (now counts) r) × (r < length (now counts)) × (length (now flag) ≡ length (now counts)) ⌝ }
-    ensures { λ t. ⌜ t ≡ flagAt (listing (now (counts .entry)) (now (ends .entry)) (now (inc .entry))) (now (flag .entry)) r ⌝ }
+    requires { ⌜ (here ≡ before (now counts) r) × (r < length (now counts)) ⌝ }
+    requires { ⌜ length (now flag) ≡ length (now counts) ⌝ }
+    ensures { λ t. ⌜ t ≡ flagAt (listing (now (counts .entry)) (now (ends .entry)) (now (inc .entry)))
+        (now (flag .entry)) r ⌝ }
 {
     let x = flag[r];
     if counts[r] <= x {
@@ -33,7 +35,8 @@ fn stands_at(counts: &[u16], ends: &[u16], inc: &[u16], flag: &[u16], here: usiz
 // Whether the numbers are a flag: one existing index per rank, each a sub of the next.
 pub fn is_flag(counts: &[u16], ends: &[u16], inc: &[u16], flag: &[u16]) -> bool
     requires { ⌜ Shaped limits (listing (now counts) (now ends) (now inc)) ⌝ }
-    ensures { λ t. ⌜ t ≡ flagTest (listing (now (counts .entry)) (now (ends .entry)) (now (inc .entry))) (now (flag .entry)) ⌝ }
+    ensures { λ t. ⌜ t ≡ flagTest (listing (now (counts .entry)) (now (ends .entry)) (now (inc .entry)))
+        (now (flag .entry)) ⌝ }
 {
     if flag.len() != counts.len() {
         return false;
@@ -79,8 +82,8 @@ pub fn place_of(counts: &[u16], r: usize) -> usize
     p
 }
 
-// The first number that two ascending lists share and that is not e; 0 where there is none. As in a merge, the list whose
-// number is the smaller goes on.
+// The first number that two ascending lists share and that is not e; 0 where there is none. As in a merge, the list
+// whose number is the smaller goes on.
 pub fn other_between(below: &[u16], above: &[u16], e: u16) -> u16
     requires { ⌜ Ascending (now below) ⌝ }
     requires { ⌜ Ascending (now above) ⌝ }
@@ -107,8 +110,8 @@ pub fn other_between(below: &[u16], above: &[u16], e: u16) -> u16
     0
 }
 
-// The index that the change at rank r puts in: the other of the two elements between those at the ranks r - 1, which begins
-// at place low, and r + 1, which begins at place high.
+// The index that the change at rank r puts in: the other of the two elements between those at the ranks r - 1, which
+// begins at place low, and r + 1, which begins at place high.
 pub fn change_index(
     counts: &[u16],
     ends: &[u16],

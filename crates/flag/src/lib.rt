@@ -1,5 +1,5 @@
-// Flags: chains of elements from the lowest rank to the highest. Here are the change of a flag, its orientation, and the
-// events of a finished search.
+// Flags: chains of elements from the lowest rank to the highest. Here are the change of a flag, its orientation, and
+// the events of a finished search.
 pub mod chain;
 
 use listing::Answer;
@@ -9,7 +9,7 @@ ghost use mathlib.Core.Path.{_≡_};
 ghost use Rattle.listing.specs.Listing.{listing, limits};
 ghost use Rattle.flag.specs.Change.{changeTest, changedOf};
 ghost use Rattle.flag.specs.Orientations.{byteOf, ofByte, flipOf, signOf};
-ghost use Rattle.flag.specs.Events.{within, eventAt, nextAt, saidOf};
+ghost use Rattle.flag.specs.Events.{within, eventAt, events, nextAt, saidOf};
 
 // What a change answers: a refusal or 0, and the new flag, 0 above the top.
 #[repr(C)]
@@ -37,7 +37,8 @@ fn check_change(counts: &[u16], ends: &[u16], inc: &[u16], flag: &[u16], r: u16)
     inner::plain(0)
 }
 
-// The change of a flag at rank r: of the two elements between those at the ranks r - 1 and r + 1, the other one is put in.
+// The change of a flag at rank r: of the two elements between those at the ranks r - 1 and r + 1, the other one is put
+// in. The new flag is a record of 16 numbers, 0 above the top; on a refusal all of them are 0.
 pub fn change(counts: &[u16], ends: &[u16], inc: &[u16], flag: &[u16], r: u16) -> Changed
     ensures { λ a. ⌜ a ≡ changedOf limits (listing (now (counts .entry)) (now (ends .entry)) (now (inc .entry)))
         (now (flag .entry)) r ⌝ }
@@ -153,17 +154,22 @@ pub fn event_at(at: u32, count: u16, place: u16) -> Event
     Event::Nothing
 }
 
+// How many events there are.
+pub fn events_in(count: u16, place: u16) -> u32
+    ensures { λ n. ⌜ n ≡ events count place ⌝ }
+{
+    let n = count as u32;
+    if is_within(count, place) {
+        return n + 1;
+    }
+    n
+}
+
 // The place after a place: the same past the last event.
 pub fn next_at(at: u32, count: u16, place: u16) -> u32
     ensures { λ n. ⌜ n ≡ nextAt at count place ⌝ }
 {
-    let n = count as u32;
-    if is_within(count, place) {
-        if at < n + 1 {
-            return at + 1;
-        }
-        return at;
-    }
+    let n = events_in(count, place);
     if at < n {
         return at + 1;
     }

@@ -1,6 +1,6 @@
 -- `change`: the refusal of check_change with a flag of 0s, or the changed flag.
 -- Assumes nothing.
-use mathlib.Core.Path.{_≡_, refl}
+use mathlib.Core.Path.{refl}
 use borrow.Author.Needs.{needs}
 use Rattle.listing.specs.Listing.{Listing, listing, limits}
 use Rattle.listing.proofs.Answers.{no-of}
@@ -32,7 +32,8 @@ returns-2 : tie.Need-returns-2
 returns-2 c =
     let d = c .before .before in
     let s = d .before .before .before .before .before .before .before in
-    changed-some limits (L s) (s .args .flag .now) (s .args .r) (d .before .before .check-change .ensures) (d .if1 .left)
+    let e = d .before .before .check-change .ensures in
+    changed-some limits (L s) (s .args .flag .now) (s .args .r) e (d .if1 .left)
     (rw (← c .before .wide .ensures .0) (c .changed-at .ensures))
 
 pub change-spec : {M : Type 1} → statement M

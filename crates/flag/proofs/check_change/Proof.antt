@@ -1,6 +1,5 @@
 -- `check_change`: the refusals of check_flag, then 21 on either side of the ranks that can be changed.
 -- Assumes nothing.
-use mathlib.Core.Path.{_≡_}
 use native.Mathlib.Omega.{arith}
 use borrow.Author.Needs.{needs}
 use Rattle.listing.proofs.Answers.{then-stop, no-of}
@@ -25,7 +24,8 @@ plain-requires c κs = search needs
 returns-2 : tie.Need-returns-2
 returns-2 c =
     let d = c .before .before in
-    change-lowest _ _ _ _ (d .before .before .check-flag .ensures) (d .if1 .left) (c .before .if2 .taken) (c .plain .ensures)
+    let e = d .before .before .check-flag .ensures in
+    change-lowest _ _ _ _ e (d .if1 .left) (c .before .if2 .taken) (c .plain .ensures)
 
 wide-requires : tie.Need-wide-requires
 wide-requires c κs = search needs
@@ -36,7 +36,8 @@ plain-requires-2 c κs = search needs
 returns-3 : tie.Need-returns-3
 returns-3 c =
     let d = c .before .before .before .before in
-    change-highest _ _ _ _ (d .before .before .check-flag .ensures) (d .if1 .left) (omega arith) (c .plain2 .ensures)
+    let e = d .before .before .check-flag .ensures in
+    change-highest _ _ _ _ e (d .if1 .left) (omega arith) (c .plain2 .ensures)
 
 plain-requires-3 : tie.Need-plain-requires-3
 plain-requires-3 c κs = search needs

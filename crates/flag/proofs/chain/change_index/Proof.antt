@@ -1,6 +1,6 @@
 -- `change_index`: the two lists are the sups of the lower neighbour and the subs of the upper one, and both ascend.
 -- Assumes nothing.
-use mathlib.Core.Path.{_≡_, _∙_}
+use mathlib.Core.Path.{_∙_}
 use native.Mathlib.Omega.{arith}
 use borrow.Author.Needs.{needs}
 use Rattle.listing.specs.Listing.{Listing, listing}

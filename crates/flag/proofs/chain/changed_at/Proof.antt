@@ -1,6 +1,5 @@
 -- `changed_at`: the flag as a record, with the number that change_index gives at rank r.
 -- Assumes nothing.
-use mathlib.Core.Path.{_≡_}
 use Prim.Native.Nat.{_+_, _-_}
 use native.Mathlib.Omega.{arith}
 use borrow.Author.Needs.{needs}

@@ -1,6 +1,6 @@
 -- `check_flag`: the closed test's refusal, else what is_flag says.
 -- Assumes nothing.
-use mathlib.Core.Path.{_≡_, sym, _∙_}
+use mathlib.Core.Path.{sym, _∙_}
 use borrow.Author.Needs.{needs}
 use Rattle.listing.proofs.Answers.{then-stop, no-of}
 use Rattle.valid.proofs.ClosedExact.{closed-exact}

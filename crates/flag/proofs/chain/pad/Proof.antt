@@ -1,4 +1,4 @@
--- `pad`: the invariant: the record holds the first k numbers, and 0 after them. The measure is the number of numbers left.
+-- `pad`: the invariant: the record holds the first k numbers, and 0 after them. The measure is how many are left.
 -- Assumes nothing.
 use mathlib.Core.Path.{_≡_, refl, _∙_}
 use Prim.Native.Nat.{_-_, _≤_}

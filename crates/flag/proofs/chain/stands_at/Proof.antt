@@ -1,6 +1,6 @@
 -- `stands_at`: the index exists or does not; at the lowest rank that is all, and above it the subs are looked through.
 -- Assumes nothing.
-use mathlib.Core.Path.{_≡_, sym, ap, _∙_}
+use mathlib.Core.Path.{sym, ap, _∙_}
 use mathlib.Core.List.{List}
 use Prim.Native.Nat.{ℕ, _-_}
 use native.Mathlib.Omega.{arith}
@@ -39,7 +39,7 @@ side-of-requires : tie.Need-side-of-requires
 side-of-requires c κs =
     let s = c .before .before .before .before .before .before .before .before in (
       shaped-ends (L s) (s .pre .0),
-      rw (s .pre .1 .0) (side-fits (L s) (s .pre .0) (s .args .r) _ 0 (c .before .if1 .left) (omega arith)),
+      rw (s .pre .1 .0 .0) (side-fits (L s) (s .pre .0) (s .args .r) _ 0 (c .before .if1 .left) (omega arith)),
     )
 
 sub-contains : tie.Need-sub-contains
@@ -58,7 +58,7 @@ returns-3 : tie.Need-returns-3
 returns-3 c =
     let d = c .before .before .before .before in
     let s = d .before .before .before .before .before .before .before in
-    let l = c .before .before .side-of .ensures ∙ side-at (L s) _ _ _ _ (s .pre .1 .0) in
+    let l = c .before .before .side-of .ensures ∙ side-at (L s) _ _ _ _ (s .pre .1 .0 .0) in
     c .contains .ensures
     ∙ ap (λ (l : List ℕ). has l (getD (s .args .flag .now) (s .args .r - 1) 0)) l
     ∙ sym (higher-at (L s) _ _ (d .if1 .left) (c .before .before .before .if2 .left))
