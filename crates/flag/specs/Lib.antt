@@ -1,0 +1,4 @@
+pub mod Flags
+pub mod Change
+pub mod Orientations
+pub mod Events
