@@ -1,0 +1,111 @@
+-- Invariant: j is at most the length, and whatever the tally counted before, the first j indices have been walked
+-- without refusal and are counted on top of it. Measure: what is left of the list.
+-- Assumes nothing.
+use mathlib.Core.List.{List}
+use Prim.Native.Nat.{ℕ, _-_, _≤_, _<_}
+use native.Mathlib.Omega.{arith}
+use borrow.Author.Needs.{needs}
+use lib.ListN.{length, getD, take}
+use Rattle.listing.specs.Listing.{limits}
+use Rattle.valid.specs.Tally.{third, Tally}
+use Rattle.valid.proofs.Sequences.{in-at}
+use Rattle.valid.proofs.Walks.{Walked, walked-none, list-more, list-stop, list-all}
+use Rattle.valid.proofs.dyadic.tally_list.Statement.{statement}
+use Rattle.valid.proofs.dyadic.tally_list.Tie as tie
+
+abbrev Inv-loop : tie.InvT-loop
+Inv-loop tally₀ subs r i j₀ tally j =
+    (j ≤ length subs)
+    × ((seen : List ℕ) → Tally (limits .elements) tally₀ seen
+    → Walked (limits .elements) (third r i) tally seen (take j subs))
+
+abbrev μ-loop : tie.MeasureT-loop
+μ-loop tally₀ subs r i j₀ tally j = length subs - j
+
+-- the index has a place in the tally
+inside : (c : tie.After-wide Inv-loop μ-loop) → c .wide .result < limits .elements
+inside c =
+    let s = c .before .before .before .before .before in
+    let l = s .args .subs .now in
+    let j = c .before .before .before .loop .j in
+    omega (arith, s .pre .0 (getD l j 0) (in-at l j (c .before .before .loop-test .taken)))
+
+loop-holds : tie.Need-loop-holds Inv-loop μ-loop
+loop-holds c = (omega arith, λ seen T. walked-none _ seen T)
+
+mul-sub-sub : tie.Need-mul-sub-sub Inv-loop μ-loop
+mul-sub-sub c = search needs
+
+shared-slice-read-sub-sub : tie.Need-shared-slice-read-sub-sub Inv-loop μ-loop
+shared-slice-read-sub-sub c = search needs
+
+wide-requires : tie.Need-wide-requires Inv-loop μ-loop
+wide-requires c κs = search needs
+
+element-copy-out-if1 : tie.Need-element-copy-out-if1 Inv-loop μ-loop
+element-copy-out-if1 c = inside c
+
+sub-t15 : tie.Need-sub-t15 Inv-loop μ-loop
+sub-t15 c = search needs
+
+returns : tie.Need-returns Inv-loop μ-loop
+returns c =
+    λ seen T.
+    let d = c .before .before in
+    let w = d .before .before .before .loop .inv .1 seen T in
+    let x = d .wide .ensures .0 in
+    list-stop _ seen _ _ w (d .before .before .loop-test .taken) _ x (inside d) (c .if1 .taken) (λ z. omega arith)
+
+element-copy-out-tally : tie.Need-element-copy-out-tally Inv-loop μ-loop
+element-copy-out-tally c = inside (c .before .before)
+
+add-tally : tie.Need-add-tally Inv-loop μ-loop
+add-tally c = search needs
+
+element-write-tally : tie.Need-element-write-tally Inv-loop μ-loop
+element-write-tally c = inside (c .before .before .before)
+
+add-j : tie.Need-add-j Inv-loop μ-loop
+add-j c = search needs
+
+loop-less : tie.Need-loop-less Inv-loop μ-loop
+loop-less c = search needs
+
+loop-again : tie.Need-loop-again Inv-loop μ-loop
+loop-again c = (
+  omega arith,
+  λ seen T.
+      let d = c .before .before .before in
+      let w = d .before .before .before .loop .inv .1 seen T in
+      let x = d .wide .ensures .0 in
+      list-more _ seen _ _ w (d .before .before .loop-test .taken) _ x (inside d) (c .before .if1 .left),
+)
+
+plain-requires : tie.Need-plain-requires Inv-loop μ-loop
+plain-requires c κs = search needs
+
+returns-2 : tie.Need-returns-2 Inv-loop μ-loop
+returns-2 c = λ seen T.
+    list-all _ seen _ _ (c .before .before .loop .inv .1 seen T) (c .before .loop-test .left) (c .plain .ensures)
+
+pub tally-list-spec : {M : Type 1} → statement M
+tally-list-spec =
+    tie.close
+    (tie.spec
+    Inv-loop
+    μ-loop
+    loop-holds
+    mul-sub-sub
+    shared-slice-read-sub-sub
+    wide-requires
+    element-copy-out-if1
+    sub-t15
+    returns
+    element-copy-out-tally
+    add-tally
+    element-write-tally
+    add-j
+    loop-less
+    loop-again
+    plain-requires
+    returns-2)

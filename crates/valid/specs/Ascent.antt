@@ -1,0 +1,31 @@
+-- The ascent test, 19: every list strictly ascends.
+--
+-- climbs       the numbers strictly ascend, the first of them not below `from`
+-- ascentTest   refusal 19 at the first list, by rank, index, subs before sups, that does not strictly ascend
+-- Ascends      each list of each element strictly ascends
+use mathlib.Core.Bool.{Bool, true, not, _&&_}
+use mathlib.Core.List.{List, [], _∷_}
+use Prim.Native.Nat.{ℕ, _+_, _<_}
+use lib.Dec.{leb}
+use lib.ListN.{length}
+use Rattle.order.specs.Lists.{Ascending}
+use Rattle.listing.specs.declared.Answer.{Answer}
+use Rattle.listing.specs.Refusals.{notAscending}
+use Rattle.listing.specs.Answers.{refusal, on, _orElse_, firstOf}
+use Rattle.listing.specs.Listing.{Listing, count, side}
+
+unfoldable pub climbs : ℕ → List ℕ → Bool
+climbs from [] = true
+climbs from (x ∷ l) = leb from x && climbs (x + 1) l
+
+abbrev pub sideAscent : Listing → ℕ → ℕ → ℕ → Answer
+sideAscent L r i s = on (not (climbs 0 (side L s r i))) (refusal notAscending r i s 0)
+
+unfoldable pub elementAscent : Listing → ℕ → ℕ → Answer
+elementAscent L r i = sideAscent L r i 0 orElse sideAscent L r i 1
+
+unfoldable pub ascentTest : Listing → Answer
+ascentTest L = firstOf (λ r. firstOf (elementAscent L r) 0 (count L r)) 0 (length (L .counts))
+
+unfoldable pub Ascends : Listing → Type 0
+Ascends L = (s r i : ℕ) → s < 2 → i < count L r → Ascending (side L s r i)

@@ -1,0 +1,16 @@
+-- What a closed listing is, by the book and 01: four rules over a good shape.
+--
+-- Closed   shaped, bounded, incident, every list strictly ascending, and the diamond up to the maximal element
+use Rattle.listing.specs.Listing.{Listing, Limits, rank}
+use Rattle.listing.specs.Shape.{Shaped}
+use Rattle.valid.specs.Bounds.{Bounded}
+use Rattle.valid.specs.Incidence.{Incident}
+use Rattle.valid.specs.Ascent.{Ascends}
+use Rattle.valid.specs.Dyadic.{Diamond}
+
+pub record Closed (m : Limits) (L : Listing) : Type 0 where
+  pub shaped : Shaped m L
+  pub bounded : Bounded L
+  pub incident : Incident L
+  pub ascends : Ascends L
+  pub diamond : Diamond L (rank L)
