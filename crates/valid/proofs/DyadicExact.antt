@@ -9,7 +9,7 @@ use Prim.Native.Nat.{ℕ, _+_, _-_, _≤_, _<_}
 use native.Mathlib.Omega.{arith}
 use lib.ListN.{length}
 use Rattle.order.specs.Lists.{In, has, occurs}
-use Rattle.order.proofs.Lists.{in-append, in-left, in-right, has-yes, has-no}
+use Rattle.order.proofs.Lists.{append-in, in-left, in-right, has-yes, has-no}
 use Rattle.order.proofs.Lists.{occurs-none, occurs-some, occurs-append}
 use Rattle.listing.specs.Listing.{Listing, count, before, subs}
 use Rattle.valid.specs.Incidence.{Incident}
@@ -32,7 +32,7 @@ module _ (ends inc : List ℕ) (b x : ℕ) where
   in-walk : (l : List ℕ) → In x (walkOf l) → (s : ℕ) × In s l × In x (of s)
   unfolding subsOfAll In
   in-walk [] m = absurd m
-  in-walk (s ∷ l) m = go (in-walk l) (in-append x (of s) (walkOf l) m)
+  in-walk (s ∷ l) m = go (in-walk l) (append-in x (of s) (walkOf l) m)
     where
       go : (In x (walkOf l) → (t : ℕ) × In t l × In x (of t)) → In x (of s) ⊎ In x (walkOf l)
           → (t : ℕ) × ((t ≡ s) ⊎ In t l) × In x (of t)
