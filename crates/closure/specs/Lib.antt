@@ -1,1 +1,2 @@
+pub mod Derived
 pub mod Result
