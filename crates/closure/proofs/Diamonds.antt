@@ -1,4 +1,4 @@
--- The diamond of a listing, which speaks of indices, and the diamond of its order, which speaks of elements, are one rule.
+-- The diamond of a listing, said of indices, and the diamond of its order, said of elements, are one rule.
 -- Assumes nothing.
 use mathlib.Core.Path.{_≡_, refl, sym, ap, _∙_}
 use mathlib.Core.Logic.{_↔_, _⊎_, inl, inr, ⊎-swap}
@@ -70,8 +70,8 @@ module _ (L : Listing) (s : Sound (layers L)) (x z : ℕ × ℕ) (ex : x .1 < co
   index-other y b o =
       let k = element-index y b in
       OneOther·map ByIndex ByElement (λ w. (suc (x .0), w)) (y .1) y index-element
-      (λ w q. let l = element-index w q in (w .1, l .0, pair-path (l .1) refl)) (λ v w p q e. ap (λ (i : ℕ × ℕ). i .1) e)
-      (k .0) (pair-path (sym (k .1)) refl) o
+      (λ w q. let l = element-index w q in (w .1, l .0, pair-path (l .1) refl))
+      (λ v w p q e. ap (λ (i : ℕ × ℕ). i .1) e) (k .0) (pair-path (sym (k .1)) refl) o
 
   element-other : (y : ℕ) → ByIndex y → OneOther ByElement (suc (x .0), y) → OneOther ByIndex y
   element-other y b o =

@@ -1,12 +1,14 @@
 -- Which product of two listings each of the four is. min and max tell them apart: duopyramid neither, duoprism min,
 -- duotegum max, duocomb both. A is the left factor, B the right one.
 --
--- first, second   the factor that gives the first, the second members of the pairs: the left one first where min is set,
---                 else the right one
+-- first, second   the factor that gives the first, the second members of the pairs: the left one first where min is
+--                 set, else the right one
 -- nullCase        a factor of rank 0, for all but the duopyramid
 -- combCase        the duocomb with a factor of rank 1, and none of rank 0
 -- resultOf        the product: the nullitope in the null case, else that of the pairs
+-- HighEnough      the ranks of two closed factors at which the product is closed
 use mathlib.Core.Bool.{Bool, true, false, not, _&&_, _||_}
+use Prim.Native.Nat.{ℕ, _+_, _≤_}
 use lib.Dec.{eqb}
 use Rattle.listing.specs.Listing.{Listing, rank}
 use Rattle.pairing.specs.Product.{productOf, nullitope}
@@ -31,3 +33,9 @@ resultOf min max A B =
       | true ↦ nullitope
       | false ↦ productOf min max (first min A B) (second min A B)
     ]
+
+unfoldable pub HighEnough : Bool → Bool → ℕ → ℕ → Type 0
+HighEnough false false p q = Unit {0}
+HighEnough true false p q = (1 ≤ p) × (1 ≤ q)
+HighEnough false true p q = (1 ≤ p) × (1 ≤ q)
+HighEnough true true p q = (2 ≤ p) × (2 ≤ q) × (5 ≤ p + q)

@@ -1,0 +1,67 @@
+-- Which product a result is: the nullitope where a factor of rank 0 makes it one, and else that of the pairs.
+-- Assumes nothing.
+use mathlib.Core.Path.{_≡_, refl}
+use mathlib.Core.Logic.{_≢_, _↔_}
+use mathlib.Core.Bool.{Bool, true, false, true≢false, _||_}
+use Prim.Native.Nat.{ℕ, _+_, _≤_}
+use native.Mathlib.Omega.{arith}
+use borrow.Author.Tests.{eqb-false, ne-eqb}
+use lib.Dec.{eqb}
+use Rattle.order.specs.Ends.{need}
+use Rattle.listing.specs.Listing.{Listing, rank}
+use Rattle.pairing.specs.Product.{productOf, nullitope}
+use Rattle.closure.specs.Result.{first, second, nullCase, combCase, resultOf}
+
+module _ (min max : Bool) (A B : Listing) where
+  pub result-product : nullCase min max A B ≡ false
+      → resultOf min max A B ≡ productOf min max (first min A B) (second min A B)
+  unfolding resultOf
+  result-product e = rw (e, resultOf)
+
+  pub result-null : nullCase min max A B ≡ true → resultOf min max A B ≡ nullitope
+  unfolding resultOf
+  result-null e = rw (e, resultOf)
+
+-- ---- ranks
+
+none : (a b : Bool) → a || b ≡ false → (a ≡ false) × (b ≡ false)
+none true b e = absurd (true≢false e)
+none false b e = (refl, e)
+
+-- neither factor has rank n
+neither : (n : ℕ) (A B : Listing) → (eqb (rank A) n || eqb (rank B) n ≡ false) ↔ ((rank A ≢ n) × (rank B ≢ n))
+neither n A B = (
+  λ e. let p = none _ _ e in (eqb-false (rank A) n (p .0), eqb-false (rank B) n (p .1)),
+  λ p. rw (ne-eqb (rank A) n (p .0), ne-eqb (rank B) n (p .1)),
+)
+
+-- factors that are high enough make no null case, and no case of the duocomb that is refused; and back
+pub not-null : (min max : Bool) (A B : Listing) → need min max ≤ rank A → need min max ≤ rank B
+    → nullCase min max A B ≡ false
+unfolding nullCase
+not-null true true A B p q = neither 0 A B .1 (omega arith, omega arith)
+not-null true false A B p q = neither 0 A B .1 (omega arith, omega arith)
+not-null false true A B p q = neither 0 A B .1 (omega arith, omega arith)
+not-null false false A B p q = refl
+
+pub needed : (min max : Bool) (A B : Listing) → nullCase min max A B ≡ false → combCase min max A B ≡ false
+    → (need min max ≤ rank A) × (need min max ≤ rank B)
+unfolding nullCase combCase
+needed true true A B n c =
+    let p = neither 0 A B .0 n in
+    let q = neither 1 A B .0 (rw n at c) in
+    (omega arith, omega arith)
+needed true false A B n c = let p = neither 0 A B .0 n in (omega arith, omega arith)
+needed false true A B n c = let p = neither 0 A B .0 n in (omega arith, omega arith)
+needed false false A B n c = (omega arith, omega arith)
+
+-- ---- the first and the second factor
+
+-- what both factors have, the first and the second have
+pub both : (P : Listing → Type 0) (min : Bool) (A B : Listing) → P A → P B → P (first min A B) × P (second min A B)
+both P true A B a b = (a, b)
+both P false A B a b = (b, a)
+
+pub both-ranks : (min : Bool) (A B : Listing) → rank (first min A B) + rank (second min A B) ≡ rank A + rank B
+both-ranks true A B = refl
+both-ranks false A B = omega arith
