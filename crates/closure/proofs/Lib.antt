@@ -4,3 +4,6 @@ pub mod Alike
 pub mod Results
 pub mod Products
 pub mod Valid
+pub mod Sums
+pub mod Sizes
+pub mod Starred

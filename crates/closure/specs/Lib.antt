@@ -1,2 +1,4 @@
 pub mod Derived
 pub mod Result
+pub mod Sizes
+pub mod Starred
