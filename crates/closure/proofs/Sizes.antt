@@ -1,10 +1,9 @@
 -- How large a product is, by the sizes of its factors; and that it has a good shape exactly within the limits.
 -- Assumes nothing.
-use mathlib.Core.Path.{_≡_, sym, ap, _∙_}
+use mathlib.Core.Path.{_≡_, ap, _∙_}
 use mathlib.Core.Logic.{_↔_}
 use mathlib.Core.Bool.{Bool}
-use Prim.Native.Nat.{ℕ, suc, _+_, _-_, _*_}
-use native.Mathlib.Omega.{arith}
+use Prim.Native.Nat.{suc, _+_, _*_}
 use lib.ListN.{length}
 use Rattle.order.specs.Sums.{sum}
 use Rattle.order.proofs.Sums.{sum-same}
@@ -23,8 +22,8 @@ use Rattle.pairing.proofs.Grown.{grown-top}
 use Rattle.pairing.proofs.Product.{product-topped}
 use Rattle.pairing.proofs.Lengths.{rankSubs-above}
 use Rattle.pairing.proofs.ProductLengths.{product-count, product-total}
-use Rattle.pairing.proofs.Listings.{productLayers, productOf-shaped}
-use Rattle.closure.specs.Sizes.{allElements, Sizes, sizesOf, Within}
+use Rattle.pairing.proofs.Listings.{productOf-shaped}
+use Rattle.closure.specs.Sizes.{allElements, sizesOf, Within}
 use Rattle.closure.proofs.Sums.{sum-product}
 
 -- ---- pairs
@@ -46,22 +45,19 @@ module _ (A B : Layers) (tA : Topped A) (tB : Topped B) where
 -- ---- the product of layers
 
 module _ (min max : Bool) (A B : Layers) where
-  abbrev sizes : Sizes
-  sizes = sizesOf min max (trimmed min max A) (trimmed min max B)
-
-  product-ranks : suc (product min max A B .top) ≡ sizes .ranks
-  unfolding product
+  product-ranks : suc (product min max A B .top) ≡ sizesOf min max A B .ranks
+  unfolding product sizesOf
   product-ranks = ap suc (grown-top min max (usedPairs min max A B))
 
-  product-elements : sum (product min max A B .size) (suc (product min max A B .top)) ≡ sizes .elements
-  unfolding allElements
+  product-elements : sum (product min max A B .size) (suc (product min max A B .top)) ≡ sizesOf min max A B .elements
+  unfolding allElements sizesOf
   product-elements =
       product-count min max A B
       ∙ ap (λ n. n + bit min + bit max) (paired-elements _ _ (trimmed-topped min max A) (trimmed-topped min max B))
 
   product-incidences : Sound A → Sound B
-      → total (product min max A B) (derived (product min max A B)) ≡ sizes .incidences
-  unfolding productSubs
+      → total (product min max A B) (derived (product min max A B)) ≡ sizesOf min max A B .incidences
+  unfolding productSubs sizesOf
   product-incidences sA sB =
       let n = paired-subs _ _ (trimmed-topped min max A) (trimmed-topped min max B) in
       product-total min max A B sA sB ∙ rw n
@@ -69,41 +65,35 @@ module _ (min max : Bool) (A B : Layers) where
 -- ---- the product of listings
 
 module _ (min max : Bool) (A B : Listing) where
-  -- The sizes of the product of two listings.
-  abbrev pub productSizes : Sizes
-  productSizes = sizesOf min max (trimmed min max (layers A)) (trimmed min max (layers B))
-
-  pub productOf-ranks : length (productOf min max A B .counts) ≡ productSizes .ranks
+  pub productOf-ranks : length (productOf min max A B .counts) ≡ sizesOf min max (layers A) (layers B) .ranks
   unfolding productOf
   productOf-ranks = written-counts-length _ _ ∙ product-ranks min max (layers A) (layers B)
 
-  pub productOf-elements : elements (productOf min max A B) ≡ productSizes .elements
+  pub productOf-elements : elements (productOf min max A B) ≡ sizesOf min max (layers A) (layers B) .elements
   unfolding productOf
   productOf-elements =
       written-elements _ _ (product-topped min max (layers A) (layers B)) ∙ product-elements min max (layers A) (layers B)
 
-  pub productOf-ends : length (productOf min max A B .ends) ≡ 2 * productSizes .elements
+  pub productOf-ends : length (productOf min max A B .ends) ≡ 2 * sizesOf min max (layers A) (layers B) .elements
   unfolding productOf
   productOf-ends = written-ends-length _ _ ∙ ap (λ n. 2 * n) (product-elements min max (layers A) (layers B))
 
-  module _ (sA : Sound (layers A)) (sB : Sound (layers B)) where
-    pub productOf-incidences : length (productOf min max A B .inc) ≡ productSizes .incidences
-    unfolding productOf
-    productOf-incidences = written-inc-length _ _ ∙ product-incidences min max (layers A) (layers B) sA sB
+module _ (min max : Bool) (A B : Listing) (sA : Sound (layers A)) (sB : Sound (layers B)) where
+  pub productOf-incidences : length (productOf min max A B .inc) ≡ sizesOf min max (layers A) (layers B) .incidences
+  unfolding productOf
+  productOf-incidences = written-inc-length _ _ ∙ product-incidences min max (layers A) (layers B) sA sB
 
-    -- The product has a good shape exactly if its sizes are within the limits.
-    pub productOf-within : (m : Limits) → Shaped m (productOf min max A B) ↔ Within m productSizes
-    productOf-within m = (there, back)
-      where
-        there : Shaped m (productOf min max A B) → Within m productSizes
-        there h = record {
-          few-ranks = rw productOf-ranks at (h .few-ranks);
-          few-elements = rw productOf-elements at (h .few-elements);
-          few-incidences = rw productOf-incidences at (h .few-incidences);
-        }
-
-        back : Within m productSizes → Shaped m (productOf min max A B)
-        back w =
-            productOf-shaped min max A B m (rw (product-ranks min max (layers A) (layers B)) (w .few-ranks))
-            (rw (product-elements min max (layers A) (layers B)) (w .few-elements))
-            (rw (product-incidences min max (layers A) (layers B) sA sB) (w .few-incidences))
+  -- The product has a good shape exactly if its sizes are within the limits.
+  pub productOf-within : (m : Limits)
+      → Shaped m (productOf min max A B) ↔ Within m (sizesOf min max (layers A) (layers B))
+  productOf-within m = (
+    λ h. record {
+      few-ranks = rw (productOf-ranks min max A B) at (h .few-ranks);
+      few-elements = rw (productOf-elements min max A B) at (h .few-elements);
+      few-incidences = rw productOf-incidences at (h .few-incidences);
+    },
+    λ w.
+        productOf-shaped min max A B m (rw (product-ranks min max (layers A) (layers B)) (w .few-ranks))
+        (rw (product-elements min max (layers A) (layers B)) (w .few-elements))
+        (rw (product-incidences min max (layers A) (layers B) sA sB) (w .few-incidences)),
+  )
