@@ -6,4 +6,5 @@ pub mod Products
 pub mod Valid
 pub mod Sums
 pub mod Sizes
+pub mod Pairs
 pub mod Starred
