@@ -1,5 +1,5 @@
--- The elements of a product of two listings are the pairs of elements in use and the added ends. What lies directly under
--- what; and that exchanging the factors only swaps the pairs.
+-- The elements of a product of two listings are the pairs of elements in use, and the added ends: which lies directly
+-- under which, and that exchanging the factors only swaps the pairs.
 -- Assumes nothing.
 use mathlib.Core.Path.{_≡_, ap, _∙_}
 use mathlib.Core.Logic.{Iff·trans}
@@ -16,19 +16,19 @@ use Rattle.pairing.specs.Paired.{El}
 use Rattle.pairing.specs.Product.{productOf}
 use Rattle.pairing.proofs.Listings.{productLayers}
 use Rattle.pairing.proofs.ProductPairs.{at-used, at-one, at-onto, at-under}
-use Rattle.pairing.proofs.ProductEnds.{product-min-size, product-min, product-min-only, product-kinds}
+use Rattle.pairing.proofs.ProductEnds.{at-rank, product-min-size, product-min, product-min-only, product-kinds}
 use Rattle.pairing.proofs.ProductEnds.{product-max-size, product-max, product-max-only}
 use Rattle.pairing.proofs.ProductSwap.{product-swap, product-swap-pair, product-swap-min, product-swap-max}
 use Rattle.closure.specs.Result.{first, second, nullCase, resultOf}
-use Rattle.closure.specs.Pairs.{InUse, placeOf, Matched, LowEnd, HighEnd, Swapped}
+use Rattle.closure.specs.Pairs.{InnerPair, placeOf, Matched, LowEnd, HighEnd, Swapped}
 use Rattle.closure.proofs.Alike.{alike-exists, alike-used, alike-listed, alike-renumbered, productOf-alike}
-use Rattle.closure.proofs.Results.{result-product, both}
+use Rattle.closure.proofs.Results.{result-product, null-exchanged, both}
 
 -- ---- the product of two listings
 
 module _ (min max : Bool) (A B : Listing) (sA : Sound (layers A)) (sB : Sound (layers B)) where
   -- where a pair in use stands there is an element
-  used : (x : El × El) → InUse min max A B x → Used min max (productLayers min max A B) (placeOf min max A B x)
+  used : (x : El × El) → InnerPair min max A B x → Used min max (productLayers min max A B) (placeOf min max A B x)
   used = at-used min max (layers A) (layers B) (layers-topped A) (layers-topped B) sA sB
 
   productOf-matched : Matched min max A B (productOf min max A B)
@@ -40,6 +40,7 @@ module _ (min max : Bool) (A B : Listing) (sA : Sound (layers A)) (sB : Sound (l
         there = λ x u. alike-used k min max _ .1 (used x u);
         once = at-one min max (layers A) (layers B) tA tB sA sB;
         all = λ y i. at-onto min max (layers A) (layers B) tA tB sA sB y (alike-used k min max y .0 i);
+        ranks = at-rank min max (layers A) (layers B);
         others = λ y e.
             rw (k .same-size (y .0), k .same-top)
             (product-kinds min max (layers A) (layers B) y (alike-exists k y .0 e));
@@ -108,11 +109,42 @@ productOf-swapped min max A B sA sB =
       maximal = λ t. rw (k .same-top, l .same-top) (swap-max min max A B sA sB t);
     }
 
--- ---- the results
+-- ---- the four products
+
+-- what holds of the second and the first factor holds of the first and the second of the exchanged ones
+exchanged : (P : Listing → Listing → Type 0) (min : Bool) (A B : Listing) → P (second min A B) (first min A B)
+    → P (first min B A) (second min B A)
+exchanged P true A B p = p
+exchanged P false A B p = p
 
 module _ (min max : Bool) (A B : Listing) (sA : Sound (layers A)) (sB : Sound (layers B))
     (n : nullCase min max A B ≡ false) where
+  sound : Sound (layers (first min A B)) × Sound (layers (second min A B))
+  sound = both (λ L. Sound (layers L)) min A B sA sB
+
+  -- Apart from the added ends the elements are the pairs in use, and directly under is a step of one member.
   pub result-matched : Matched min max (first min A B) (second min A B) (resultOf min max A B)
   result-matched =
-      let s = both (λ L. Sound (layers L)) min A B sA sB in
-      rw (result-product min max A B n) (productOf-matched min max (first min A B) (second min A B) (s .0) (s .1))
+      rw (result-product min max A B n)
+      (productOf-matched min max (first min A B) (second min A B) (sound .0) (sound .1))
+
+  -- Exchanging the factors only swaps the pairs.
+  pub result-swapped : Swapped min max (first min A B) (second min A B) (resultOf min max A B) (resultOf min max B A)
+  result-swapped =
+      let F = first min A B in
+      let S = second min A B in
+      rw (result-product min max A B n, result-product min max B A (null-exchanged min max B A ∙ n))
+      (exchanged (λ C D. Swapped min max F S (productOf min max F S) (productOf min max C D)) min A B
+      (productOf-swapped min max F S (sound .0) (sound .1)))
+
+-- The added minimal element of duoprism and duocomb lies directly under the pairs of two elements of rank 1.
+pub result-low : (max : Bool) (A B : Listing) → Sound (layers A) → Sound (layers B) → nullCase true max A B ≡ false
+    → LowEnd max A B (resultOf true max A B)
+result-low max A B sA sB n = rw (result-product true max A B n) (productOf-low max A B sA sB)
+
+-- The added maximal element of duotegum and duocomb lies directly over the pairs of two facets.
+pub result-high : (min : Bool) (A B : Listing) → Sound (layers A) → Sound (layers B) → nullCase min true A B ≡ false
+    → HighEnd min (first min A B) (second min A B) (resultOf min true A B)
+result-high min A B sA sB n =
+    let s = both (λ L. Sound (layers L)) min A B sA sB in
+    rw (result-product min true A B n) (productOf-high min (first min A B) (second min A B) (s .0) (s .1))

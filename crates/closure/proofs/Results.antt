@@ -1,16 +1,21 @@
 -- Which product a result is: the nullitope where a factor of rank 0 makes it one, and else that of the pairs.
 -- Assumes nothing.
-use mathlib.Core.Path.{_≡_, refl}
+use mathlib.Core.Path.{_≡_, refl, ap}
 use mathlib.Core.Logic.{_≢_, _↔_}
-use mathlib.Core.Bool.{Bool, true, false, true≢false, _||_}
-use Prim.Native.Nat.{ℕ, _+_, _≤_}
+use mathlib.Core.Bool.{Bool, true, false, true≢false, _&&_, _||_, or-comm}
+use Prim.Native.Nat.{ℕ, _+_, _-_, _≤_}
 use native.Mathlib.Omega.{arith}
 use borrow.Author.Tests.{eqb-false, ne-eqb}
 use lib.Dec.{eqb}
 use Rattle.order.specs.Ends.{need}
-use Rattle.listing.specs.Listing.{Listing, rank}
+use Rattle.listing.specs.Listing.{Listing, limits, rank}
+use Rattle.valid.specs.Closed.{Closed}
+use Rattle.valid.proofs.ClosedExact.{closed-exact}
+use Rattle.pairing.specs.Trimmed.{bit}
 use Rattle.pairing.specs.Product.{productOf, nullitope}
+use Rattle.pairing.proofs.Listings.{productOf-rank}
 use Rattle.closure.specs.Result.{first, second, nullCase, combCase, resultOf}
+use Rattle.closure.specs.Starred.{answered}
 
 module _ (min max : Bool) (A B : Listing) where
   pub result-product : nullCase min max A B ≡ false
@@ -21,6 +26,16 @@ module _ (min max : Bool) (A B : Listing) where
   pub result-null : nullCase min max A B ≡ true → resultOf min max A B ≡ nullitope
   unfolding resultOf
   result-null e = rw (e, resultOf)
+
+-- the nullitope is closed, by computing (`answered` opens all that the tests are computed with)
+pub nullitope-closed : Closed limits nullitope
+unfolding answered
+nullitope-closed = closed-exact limits nullitope .0 refl
+
+-- exchanging the factors does not change the case
+pub null-exchanged : (min max : Bool) (A B : Listing) → nullCase min max A B ≡ nullCase min max B A
+unfolding nullCase
+null-exchanged min max A B = ap (λ t. (min || max) && t) (or-comm (eqb (rank A) 0) (eqb (rank B) 0))
 
 -- ---- ranks
 
@@ -65,3 +80,11 @@ both P false A B a b = (b, a)
 pub both-ranks : (min : Bool) (A B : Listing) → rank (first min A B) + rank (second min A B) ≡ rank A + rank B
 both-ranks true A B = refl
 both-ranks false A B = omega arith
+
+-- The rank of a product: the ranks add up, less one for each end that was left out of the pairs.
+pub result-rank : (min max : Bool) (A B : Listing) → need min max ≤ rank A → need min max ≤ rank B
+    → rank (resultOf min max A B) ≡ rank A + rank B - bit min - bit max
+result-rank min max A B p q =
+    let r = both (λ L. need min max ≤ rank L) min A B p q in
+    rw (result-product min max A B (not-null min max A B p q), ← both-ranks min A B)
+    (productOf-rank min max (first min A B) (second min A B) (r .0) (r .1))

@@ -10,9 +10,10 @@ use Rattle.order.proofs.Sums.{sum-same}
 use Rattle.listing.specs.Listing.{Listing, Limits}
 use Rattle.listing.specs.Shape.{elements, Shaped}
 use Rattle.listing.specs.Layers.{Layers, Topped, layers, derived}
-use Rattle.listing.proofs.Written.{total, written-counts-length, written-ends-length, written-elements, written-inc-length}
+use Rattle.listing.proofs.Written.{total, written-counts-length, written-ends-length}
+use Rattle.listing.proofs.Written.{written-elements, written-inc-length}
 use Rattle.pairing.specs.Sound.{Sound}
-use Rattle.pairing.specs.Trimmed.{bit, trimmed}
+use Rattle.pairing.specs.Trimmed.{bit}
 use Rattle.pairing.specs.Paired.{block, paired}
 use Rattle.pairing.specs.Product.{usedPairs, product, productOf}
 use Rattle.pairing.specs.Lengths.{rankSubs, allSubs, pairedSubs, productSubs}
@@ -72,7 +73,8 @@ module _ (min max : Bool) (A B : Listing) where
   pub productOf-elements : elements (productOf min max A B) ≡ sizesOf min max (layers A) (layers B) .elements
   unfolding productOf
   productOf-elements =
-      written-elements _ _ (product-topped min max (layers A) (layers B)) ∙ product-elements min max (layers A) (layers B)
+      written-elements _ _ (product-topped min max (layers A) (layers B))
+      ∙ product-elements min max (layers A) (layers B)
 
   pub productOf-ends : length (productOf min max A B .ends) ≡ 2 * sizesOf min max (layers A) (layers B) .elements
   unfolding productOf

@@ -6,6 +6,7 @@ use Prim.Native.Nat.{_≤_}
 use Rattle.order.specs.Ends.{need}
 use Rattle.listing.specs.Refusals.{thirdBetween}
 use Rattle.listing.specs.Listing.{Listing, Limits, limits, rank}
+use Rattle.listing.specs.Layers.{layers}
 use Rattle.valid.specs.Bounds.{boundedTest, Bounded}
 use Rattle.valid.specs.Incidence.{incidencesTest, Incident}
 use Rattle.valid.specs.Tests.{isValid}
@@ -13,22 +14,22 @@ use Rattle.valid.specs.Cells.{point, threeOnTop}
 use Rattle.valid.proofs.BoundsExact.{bounded-exact}
 use Rattle.valid.proofs.IncidenceExact.{incidences-exact}
 use Rattle.valid.proofs.ClosedExact.{valid-exact}
-use Rattle.pairing.specs.Product.{productOf, nullitope}
+use Rattle.pairing.specs.Sound.{Sound}
+use Rattle.pairing.specs.Product.{productOf}
 use Rattle.pairing.proofs.Listings.{productOf-sound, productOf-frame}
 use Rattle.closure.specs.Result.{first, second, nullCase, combCase, resultOf, duopyramidOf}
 use Rattle.closure.specs.Starred.{answered}
 use Rattle.closure.proofs.Cells.{incident-sound, framed, frame-bounded, frame-incident}
 use Rattle.closure.proofs.Alike.{productOf-derived}
-use Rattle.closure.proofs.Results.{result-product, result-null, needed, both}
+use Rattle.closure.proofs.Results.{result-product, result-null, nullitope-closed, needed, both}
 
 -- What tests 1 and 2 accept.
-abbrev pub Framed : Listing → Type 0
+abbrev Framed : Listing → Type 0
 Framed L = Bounded L × Incident L
 
--- computed: `answered` opens all that the tests are computed with
-null-framed : Framed nullitope
-unfolding answered
-null-framed = (record { one-minimal = refl; one-maximal = refl }, incidences-exact nullitope .0 refl)
+-- what is_valid accepts has its subs one rank lower
+pub valid-sound : (m : Limits) (L : Listing) → isValid m L .no ≡ 0 → Sound (layers L)
+valid-sound m L v = incident-sound L (valid-exact m L .0 v .2)
 
 productOf-framed : (min max : Bool) (A B : Listing) → Framed A → Framed B → need min max ≤ rank A
     → need min max ≤ rank B → Framed (productOf min max A B)
@@ -36,8 +37,7 @@ productOf-framed min max A B gA gB p q =
     let sA = incident-sound A (gA .1) in
     let sB = incident-sound B (gB .1) in
     let f =
-        productOf-frame min max A B sA sB p q (framed A (gA .0) (gA .1)) (framed B (gB .0) (gB .1)) in
-    (
+    productOf-frame min max A B sA sB p q (framed A (gA .0) (gA .1)) (framed B (gB .0) (gB .1)) in (
       frame-bounded (productOf min max A B) f,
       frame-incident (productOf min max A B) f (productOf-sound min max A B sA sB) (productOf-derived min max A B),
     )
@@ -47,7 +47,7 @@ result-framed : (min max : Bool) (A B : Listing) → Framed A → Framed B → c
 result-framed min max A B gA gB c = go (nullCase min max A B) refl
   where
     go : (n : Bool) → nullCase min max A B ≡ n → Framed (resultOf min max A B)
-    go true e = rw (result-null min max A B e) null-framed
+    go true e = rw (result-null min max A B e) (nullitope-closed .bounded, nullitope-closed .incident)
     go false e =
         let p = needed min max A B e c in
         let g = both Framed min A B gA gB in
