@@ -45,7 +45,8 @@ loop-less c = search needs
 loop-again : tie.Need-loop-again Inv-loop μ-loop
 loop-again c =
     let d = c .before .before .before in
-    of-turn _ _ _ _ _ (d .before .loop .inv) (c .before .before .check-sections .ensures) (d .loop-test .taken) (c .if1 .left)
+    of-turn _ _ _ _ _ (d .before .loop .inv) (c .before .before .check-sections .ensures) (d .loop-test .taken)
+    (c .if1 .left)
 
 plain-requires : tie.Need-plain-requires Inv-loop μ-loop
 plain-requires c κs = search needs
