@@ -58,9 +58,7 @@ unfoldable pub padded : List ℕ → List ℕ
 padded f = f ++ replicate (16 - length f) 0
 
 unfoldable pub changeTest : Limits → Listing → List ℕ → ℕ → Answer
-changeTest m L f r =
-    startTest m L f orElse
-    on (not (ltb 0 r && ltb r (rank L))) (plain outsideRanks)
+changeTest m L f r = startTest m L f orElse on (not (ltb 0 r && ltb r (rank L))) (plain outsideRanks)
 
 unfoldable pub changedOf : Limits → Listing → List ℕ → ℕ → Changed
 changedOf m L f r =

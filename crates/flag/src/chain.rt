@@ -1,4 +1,5 @@
-// Chains of elements, on a listing that is known to be shaped.
+// What the entries, and the crates above, call to test a chain of elements and to change it at one rank. Most of these
+// functions ask that the listing is known to be shaped or closed.
 use listing::Answer;
 use listing::inner;
 use listing::refusal;

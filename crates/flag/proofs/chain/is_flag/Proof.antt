@@ -27,7 +27,7 @@ abbrev L : tie.Start Inv-loop μ-loop → Listing
 L s = listing (s .args .counts .now) (s .args .ends .now) (s .args .inc .now)
 
 returns : tie.Need-returns Inv-loop μ-loop
-returns c = sym (other-length (L (c .before .before .before .before .before)) _ (c .if1 .taken))
+returns c = sym (other-length (L (c .before .before .before .before .before)) _ (λ e. omega arith))
 
 loop-holds : tie.Need-loop-holds Inv-loop μ-loop
 unfolding every

@@ -30,7 +30,7 @@ shared-slice-read-if1 : tie.Need-shared-slice-read-if1
 shared-slice-read-if1 c = search needs
 
 returns : tie.Need-returns
-returns c = sym (missing-at _ _ _ (c .if1 .taken))
+returns c = sym (missing-at _ _ _ (omega arith))
 
 returns-2 : tie.Need-returns-2
 returns-2 c = sym (lowest-at _ _ _ (c .before .if1 .left) (c .if2 .taken))
