@@ -1,0 +1,26 @@
+-- Sups derived from subs: how many each element has, and which.
+--
+-- upCount    how often element x of rank i is listed one rank higher, among the subs in use
+-- UpCounts   a list that has this number for each element in use, by rank and then index
+-- Derives    lists in which the sups of each element are the elements above that list it, in order, once per occurrence
+use mathlib.Core.Path.{_≡_}
+use mathlib.Core.List.{List}
+use Prim.Native.Nat.{ℕ, _+_, _*_, _<_}
+use lib.ListN.{getD}
+use Rattle.order.specs.Lists.{occurs}
+use Rattle.order.specs.Sums.{sum}
+use Rattle.listing.specs.Listing.{before}
+use Rattle.listing.specs.Layers.{gather}
+use Rattle.building.specs.Pairs.{Factor, used}
+
+unfoldable pub upCount : Factor → ℕ → ℕ → ℕ
+upCount P i x = sum (λ a. occurs x (used P (i + 1) a)) (getD (P .counts) (i + 1) 0)
+
+unfoldable pub UpCounts : Factor → List ℕ → Type 0
+UpCounts P up = (i x : ℕ) → x < getD (P .counts) i 0 → getD up (before (P .counts) i + x) 0 ≡ upCount P i x
+
+unfoldable pub Derives : List ℕ → (ℕ → List ℕ) → Type 0
+Derives counts lists =
+    (r x : ℕ) → x < getD counts r 0
+    → lists (2 * (before counts r + x) + 1)
+    ≡ gather (λ k. lists (2 * (before counts (r + 1) + k))) x (getD counts (r + 1) 0)

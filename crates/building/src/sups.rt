@@ -1,0 +1,4 @@
+// Sups derived from subs.
+pub fn nothing(n: usize) -> usize {
+    n
+}
