@@ -8,6 +8,7 @@
 -- offsetIn       how many pairs of the same rank come before those of the ranks i and j
 -- pairsTo        how many pairs there are of the ranks below R
 -- number         the number of a pair among all elements of the product
+-- subsOf         a 0 where it is asked for, then the numbers of one list scaled and moved, then those of another moved
 -- underPair      what a pair has under it: the added minimal element alone where it is a lowest pair and that is added;
 --                else the pairs with a member replaced by one of its subs in use
 -- overPair       how many lie over a pair, where up tells how many lie over each element of a factor
@@ -61,11 +62,16 @@ pairsTo p q R = sum (λ r. sum (λ k. getD p k 0 * getD q (r - k) 0) (suc r)) R
 unfoldable pub number : Bool → List ℕ → List ℕ → ℕ → ℕ → ℕ → ℕ → ℕ
 number min p q i a j b = bit min + pairsTo p q (i + j) + offsetIn p q i j + a * getD q j 0 + b
 
+unfoldable pub subsOf : Bool → List ℕ → ℕ → ℕ → List ℕ → ℕ → List ℕ
+subsOf low left loff scale right roff =
+    cond low (0 ∷ []) [] ++ (map (λ x. loff + x * scale) left ++ map (λ y. roff + y * 1) right)
+
 unfoldable pub underPair : Bool → Factor → Factor → ℕ → ℕ → ℕ → ℕ → List ℕ
+unfolding subsOf
 underPair min P Q i a j b =
-    cond (min && eqb (i + j) 0) (0 ∷ []) []
-    ++ (map (λ x. offsetIn (P .counts) (Q .counts) (pred i) j + b + x * getD (Q .counts) j 0) (used P i a)
-    ++ map (λ y. offsetIn (P .counts) (Q .counts) i (pred j) + a * getD (Q .counts) (pred j) 0 + y * 1) (used Q j b))
+    subsOf (min && eqb (i + j) 0)
+    (used P i a) (offsetIn (P .counts) (Q .counts) (pred i) j + b) (getD (Q .counts) j 0)
+    (used Q j b) (offsetIn (P .counts) (Q .counts) i (pred j) + a * getD (Q .counts) (pred j) 0)
 
 unfoldable pub overPair : Bool → Factor → Factor → List ℕ → List ℕ → ℕ → ℕ → ℕ → ℕ → ℕ
 overPair max P Q upP upQ i a j b =

@@ -1,57 +1,54 @@
 // Numbers written at a place of a slice.
 use listing::inner;
 ghost use mathlib.Core.Path.{_≡_};
-ghost use mathlib.Core.Bool.{cond};
-ghost use mathlib.Core.List.{List, [], _∷_, _++_, map};
 ghost use Prim.Native.Nat.{ℕ, _+_, _*_, _≤_, _<_};
-ghost use lib.ListN.{length};
-ghost use lib.Seq.{paste};
+ghost use lib.ListN.{length, getD, set};
 ghost use Rattle.order.specs.Lists.{In};
-ghost use Rattle.pairing.specs.Grown.{upTo};
 ghost use Rattle.pairing.specs.Trimmed.{bit};
-ghost use Rattle.building.specs.Filling.{Row};
+ghost use Rattle.building.specs.Filling.{Laid, Holds};
+ghost use Rattle.building.specs.Pairs.{subsOf};
+
+// Writes a number at place `at` where it is asked for. Returns the place after it.
+pub fn put_if(d: &mut [u16], at: usize, asked: bool, x: u16) -> usize
+    requires { ⌜ at + bit asked ≤ length (now d) ⌝ }
+    ensures { λ r. ⌜ r ≡ at + bit asked ⌝ }
+    ensures { λ r. ⌜ Laid at (λ j. x) (bit asked) (now (d .entry)) (now (d .exit)) ⌝ }
+{
+    if asked {
+        d[at] = x;
+        return at + 1;
+    }
+    at
+}
 
 // Writes off + x * scale for each x of a list, from place `at` on. Returns the place after the last.
-pub fn put_scaled(inc: &mut [u16], at: usize, list: &[u16], off: usize, scale: usize) -> usize
-    requires { ⌜ at + length (now list) ≤ length (now inc) ⌝ }
-    requires { ⌜ ((x : ℕ) → In x (now list) → off + x * scale < 65536) ⌝ }
+pub fn put_scaled(d: &mut [u16], at: usize, list: &[u16], off: usize, scale: usize) -> usize
+    requires { ⌜ at + length (now list) ≤ length (now d) ⌝ }
+    requires { ⌜ ((j : ℕ) → j < length (now list) → off + getD (now list) j 0 * scale < 65536) ⌝ }
     ensures { λ r. ⌜ r ≡ at + length (now (list .entry)) ⌝ }
-    ensures { λ r. ⌜ now (inc .exit) ≡ paste (now (inc .entry)) at (map (λ x. off + x * scale) (now (list .entry)))
-        (length (now (list .entry))) ⌝ }
+    ensures { λ r. ⌜ Laid at (λ j. off + getD (now (list .entry)) j 0 * scale) (length (now (list .entry)))
+        (now (d .entry)) (now (d .exit)) ⌝ }
 {
     let mut j: usize = 0;
     while j < list.len() {
-        inc[at + j] = (off + inner::wide(list[j]) * scale) as u16;
+        d[at + j] = (off + inner::wide(list[j]) * scale) as u16;
         j += 1;
     }
     at + j
 }
 
 // Writes 0, 1, .. n - 1 from place `at` on. Returns the place after the last.
-pub fn put_up_to(inc: &mut [u16], at: usize, n: usize) -> usize
-    requires { ⌜ (at + n ≤ length (now inc)) × (n ≤ 65535) ⌝ }
+pub fn put_up_to(d: &mut [u16], at: usize, n: usize) -> usize
+    requires { ⌜ (at + n ≤ length (now d)) × (n ≤ 65536) ⌝ }
     ensures { λ r. ⌜ r ≡ at + n ⌝ }
-    ensures { λ r. ⌜ now (inc .exit) ≡ paste (now (inc .entry)) at (upTo n) n ⌝ }
+    ensures { λ r. ⌜ Laid at (λ j. j) n (now (d .entry)) (now (d .exit)) ⌝ }
 {
     let mut j: usize = 0;
     while j < n {
-        inc[at + j] = j as u16;
+        d[at + j] = j as u16;
         j += 1;
     }
     at + j
-}
-
-// Writes a 0 at place `at` where it is asked for. Returns the place after it.
-fn put_low(inc: &mut [u16], at: usize, low: bool) -> usize
-    requires { ⌜ at + bit low ≤ length (now inc) ⌝ }
-    ensures { λ r. ⌜ r ≡ at + bit low ⌝ }
-    ensures { λ r. ⌜ now (inc .exit) ≡ paste (now (inc .entry)) at (cond low (0 ∷ []) []) (bit low) ⌝ }
-{
-    if low {
-        inc[at] = 0;
-        return at + 1;
-    }
-    at
 }
 
 // Writes one element, by its number e, from place `at` on: what it has under it, and its two ends, with room left for its
@@ -69,20 +66,17 @@ pub fn put_element(
     roff: usize,
     sups: usize,
 ) -> usize
-    requires { ⌜ at + bit low + length (now left) + length (now right) + sups ≤ 32768 ⌝ }
-    requires { ⌜ at + bit low + length (now left) + length (now right) + sups ≤ length (now inc) ⌝ }
+    requires { ⌜ at + length (subsOf low (now left) loff scale (now right) roff) + sups < 65536 ⌝ }
+    requires { ⌜ at + length (subsOf low (now left) loff scale (now right) roff) + sups ≤ length (now inc) ⌝ }
     requires { ⌜ 2 * e + 1 < length (now ends) ⌝ }
-    requires { ⌜ ((x : ℕ) → In x (now left) → loff + x * scale < 65536) ⌝ }
-    requires { ⌜ ((x : ℕ) → In x (now right) → roff + x * 1 < 65536) ⌝ }
-    ensures { λ r. ⌜ r ≡ at + bit low + length (now (left .entry)) + length (now (right .entry)) + sups ⌝ }
-    ensures { λ r. ⌜ ((lists : ℕ → List ℕ) (ends₀ inc₀ : List ℕ)
-        → lists (2 * e) ≡ cond low (0 ∷ []) [] ++ (map (λ x. loff + x * scale) (now (left .entry))
-        ++ map (λ x. roff + x * 1) (now (right .entry)))
-        → length (lists (2 * e + 1)) ≡ sups
-        → Row lists e at ends₀ inc₀ (now (ends .entry)) (now (inc .entry))
-        → Row lists (e + 1) r ends₀ inc₀ (now (ends .exit)) (now (inc .exit))) ⌝ }
+    requires { ⌜ ((x : ℕ) → In x (subsOf low (now left) loff scale (now right) roff) → x < 65536) ⌝ }
+    ensures { λ r. ⌜ r ≡ at + length (subsOf low (now (left .entry)) loff scale (now (right .entry)) roff) + sups ⌝ }
+    ensures { λ r. ⌜ Holds at (subsOf low (now (left .entry)) loff scale (now (right .entry)) roff)
+        (now (inc .entry)) (now (inc .exit)) ⌝ }
+    ensures { λ r. ⌜ now (ends .exit) ≡ set (set (now (ends .entry)) (2 * e)
+        (at + length (subsOf low (now (left .entry)) loff scale (now (right .entry)) roff))) (2 * e + 1) r ⌝ }
 {
-    let a = put_low(&mut *inc, at, low);
+    let a = put_if(&mut *inc, at, low, 0);
     let b = put_scaled(&mut *inc, a, left, loff, scale);
     let c = put_scaled(&mut *inc, b, right, roff, 1);
     let d = c + sups;
