@@ -1,2 +1,4 @@
 pub mod Laying
 pub mod Parts
+pub mod Rows
+pub mod Numbers

@@ -5,7 +5,7 @@
 -- Laid     d′ is d with the numbers f 0 .. f (n - 1) written from place `at` on
 -- Holds    the same of a list of numbers
 -- Row      the ends of the first e elements and their subs are written, and nothing past them has changed
--- Adds     what was written for the first e elements is there for the first e′
+-- Put      what has been written for the first e elements is there for the first e′, which end at place `at`
 use mathlib.Core.Path.{_≡_}
 use mathlib.Core.List.{List, _++_}
 use Prim.Native.Nat.{ℕ, suc, _+_, _*_, _≤_, _<_}
@@ -37,6 +37,8 @@ pub record Row (lists : ℕ → List ℕ) (e : ℕ) (ends₀ inc₀ ends inc : L
       → getD inc (starts lists (2 * k) + j) 0 ≡ getD (lists (2 * k)) j 0
   pub inc-rest : (p : ℕ) → starts lists (2 * e) ≤ p → getD inc p 0 ≡ getD inc₀ p 0
 
-abbrev pub Adds : (ℕ → List ℕ) → ℕ → ℕ → List ℕ → List ℕ → List ℕ → List ℕ → Type 0
-Adds lists e e′ ends inc ends′ inc′ =
-    (ends₀ inc₀ : List ℕ) → Row lists e ends₀ inc₀ ends inc → Row lists e′ ends₀ inc₀ ends′ inc′
+pub record Put (lists : ℕ → List ℕ) (e e′ at : ℕ) (ends inc ends′ inc′ : List ℕ) : Type 0 where
+  pub place : at ≡ starts lists (2 * e′)
+  pub ends-length : length ends′ ≡ length ends
+  pub inc-length : length inc′ ≡ length inc
+  pub row : (ends₀ inc₀ : List ℕ) → Row lists e ends₀ inc₀ ends inc → Row lists e′ ends₀ inc₀ ends′ inc′

@@ -5,8 +5,10 @@
 -- factorLayers   what a factor says, as layers
 -- target         the layers of the product of two factors, with the ends added that min and max ask for
 -- listsOf        the lists of the product, by their numbers: the subs and the derived sups of each element in turn
+-- pairsIn        how many pairs of rank R have a first member of a rank below i
 -- offsetIn       how many pairs of the same rank come before those of the ranks i and j
 -- pairsTo        how many pairs there are of the ranks below R
+-- firstAt        the number of the first pair of rank R whose first member is of rank i or higher, among all elements
 -- number         the number of a pair among all elements of the product
 -- subsOf         a 0 where it is asked for, then the numbers of one list scaled and moved, then those of another moved
 -- underPair      what a pair has under it: the added minimal element alone where it is a lowest pair and that is added;
@@ -14,6 +16,8 @@
 -- overPair       how many lie over a pair, where up tells how many lie over each element of a factor
 -- sizeOf         how many elements the product has
 -- part           a factor as the builder is given it, its minimal element left out where min is set
+-- listed         listsOf of two factors as the builder is given them
+-- Ready          Plan of the same, with the slices that are to be written
 -- Plan           what the builder stands on: the factors' lists are there, what they name exists, the lists of the
 --                product are those of the pairs, and there is room for all
 use mathlib.Core.Path.{_≡_}
@@ -53,11 +57,17 @@ target min max P Q = grown min max (paired (factorLayers P) (factorLayers Q))
 unfoldable pub listsOf : Bool → Bool → Factor → Factor → ℕ → List ℕ
 listsOf min max P Q = nth (target min max P Q) (derived (target min max P Q))
 
+abbrev pub pairsIn : List ℕ → List ℕ → ℕ → ℕ → ℕ
+pairsIn p q R i = sum (λ k. getD p k 0 * getD q (R - k) 0) i
+
 unfoldable pub offsetIn : List ℕ → List ℕ → ℕ → ℕ → ℕ
-offsetIn p q i j = sum (λ k. getD p k 0 * getD q (i + j - k) 0) i
+offsetIn p q i j = pairsIn p q (i + j) i
 
 unfoldable pub pairsTo : List ℕ → List ℕ → ℕ → ℕ
-pairsTo p q R = sum (λ r. sum (λ k. getD p k 0 * getD q (r - k) 0) (suc r)) R
+pairsTo p q R = sum (λ r. pairsIn p q r (suc r)) R
+
+abbrev pub firstAt : Bool → List ℕ → List ℕ → ℕ → ℕ → ℕ
+firstAt min p q R i = bit min + pairsTo p q R + pairsIn p q R i
 
 unfoldable pub number : Bool → List ℕ → List ℕ → ℕ → ℕ → ℕ → ℕ → ℕ
 number min p q i a j b = bit min + pairsTo p q (i + j) + offsetIn p q i j + a * getD q j 0 + b
@@ -103,3 +113,11 @@ pub record Plan (min max : Bool) (P Q : Factor) (upP upQ : List ℕ) (room-ends 
 
 abbrev pub part : Bool → List ℕ → List ℕ → List ℕ → Factor
 part min counts ends inc = factor counts (bit min) ends inc
+
+abbrev pub listed : Bool → Bool → List ℕ → List ℕ → List ℕ → List ℕ → List ℕ → List ℕ → ℕ → List ℕ
+listed min max p pends pinc q qends qinc = listsOf min max (part min p pends pinc) (part min q qends qinc)
+
+abbrev pub Ready : Bool → Bool → List ℕ → List ℕ → List ℕ → List ℕ → List ℕ → List ℕ → List ℕ → List ℕ → List ℕ
+    → List ℕ → Type 0
+Ready min max p pends pinc q qends qinc upp upq ends inc =
+    Plan min max (part min p pends pinc) (part min q qends qinc) upp upq (length ends) (length inc)
