@@ -2,3 +2,4 @@ pub mod Laying
 pub mod Parts
 pub mod Rows
 pub mod Numbers
+pub mod Fits

@@ -90,8 +90,10 @@ module _ (lists : ℕ → List ℕ) where
 
   -- ---- runs of elements
 
-  pub put-none : (e : ℕ) (ends inc : List ℕ) → Put lists e e (starts lists (2 * e)) ends inc ends inc
-  put-none e ends inc = record { place = refl; ends-length = refl; inc-length = refl; row = λ ends₀ inc₀ r. r }
+  pub put-none : (e e′ at : ℕ) (ends inc : List ℕ) → at ≡ starts lists (2 * e) → e ≡ e′
+      → Put lists e e′ at ends inc ends inc
+  put-none e e′ at ends inc h s =
+      rw (← s) (record { place = h; ends-length = refl; inc-length = refl; row = λ ends₀ inc₀ r. r })
 
   pub put-then : (e e₁ e₂ at₁ at₂ : ℕ) (ends inc ends₁ inc₁ ends₂ inc₂ : List ℕ)
       → Put lists e e₁ at₁ ends inc ends₁ inc₁ → Put lists e₁ e₂ at₂ ends₁ inc₁ ends₂ inc₂
