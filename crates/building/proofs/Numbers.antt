@@ -45,6 +45,10 @@ before-lt counts r x h = omega (arith, before-next counts r, before-all counts (
 product-lt : (a b m n : ℕ) → a < m → b < n → a * n + b < m * n
 product-lt a b m n h k = omega (arith, mul-le-mul-right n h)
 
+pub pairs-none : (p q : List ℕ) → pairsTo p q 0 ≡ 0
+unfolding pairsTo
+pairs-none p q = sum-none (λ r. pairsIn p q r (suc r))
+
 module _ (min : Bool) (p q : List ℕ) where
   pub number-at : (i a j b : ℕ) → number min p q i a j b ≡ firstAt min p q (i + j) i + a * getD q j 0 + b
   unfolding number offsetIn
