@@ -7,7 +7,7 @@ use Prim.Native.Nat.{ℕ, suc, _+_, _-_, _*_, _≤_, _<_}
 use native.Mathlib.Decide.{decLt}
 use native.Mathlib.Omega.{arith}
 use lib.ListN.{length, getD, set, length-append, length-set, length-map, List·getD-append}
-use lib.Seq.{getD-set-same, getD-set-other, getD-append-add}
+use lib.Seq.{ext-getD, getD-set-same, getD-set-other}
 use Rattle.pairing.specs.Trimmed.{bit}
 use Rattle.building.specs.Filling.{Laid, Holds}
 use Rattle.building.specs.Pairs.{subsOf}
@@ -45,6 +45,14 @@ pub laid-one : (at x : ℕ) (d : List ℕ) → at < length d → Laid at (λ j. 
 laid-one at x d h =
     let e : at + 0 ≡ at = omega arith in
     rw e at (laid-next at (λ j. x) 0 x d d (laid-none at (λ j. x) d) (omega arith) refl)
+
+-- where nothing was written all is as it was
+pub laid-same : (at : ℕ) (f : ℕ → ℕ) (d d′ : List ℕ) → Laid at f 0 d d′ → d′ ≡ d
+laid-same at f d d′ l = ext-getD 0 d′ d (l .same-length) (λ i h. go i (decLt i at))
+  where
+    go : (i : ℕ) → Dec (i < at) → getD d′ i 0 ≡ getD d i 0
+    go i (yes b) = l .before i b
+    go i (no b) = l .after i (omega arith)
 
 -- a part, and another behind it
 module _ (at n m : ℕ) (f g h : ℕ → ℕ) (d d′ d″ : List ℕ) (l : Laid at f n d d′) (k : Laid (at + n) g m d′ d″)

@@ -3,3 +3,6 @@ pub mod Parts
 pub mod Rows
 pub mod Numbers
 pub mod Fits
+pub mod Sizes
+pub mod Target
+pub mod Extremes

@@ -49,6 +49,17 @@ pub pairs-none : (p q : List ℕ) → pairsTo p q 0 ≡ 0
 unfolding pairsTo
 pairs-none p q = sum-none (λ r. pairsIn p q r (suc r))
 
+pub pairs-next : (p q : List ℕ) (R : ℕ) → pairsTo p q (R + 1) ≡ pairsTo p q R + pairsIn p q R (R + 1)
+unfolding pairsTo
+pairs-next p q R =
+    let e : R + 1 ≡ suc R = omega arith in
+    let t : pairsIn p q R (R + 1) ≡ pairsIn p q R (suc R) = ap (pairsIn p q R) e in
+    omega (arith, sum-next (λ r. pairsIn p q r (suc r)) R)
+
+pub pairs-le : (p q : List ℕ) (R n : ℕ) → R ≤ n → pairsTo p q R ≤ pairsTo p q n
+unfolding pairsTo
+pairs-le p q R n h = sum-le (λ r. pairsIn p q r (suc r)) R n h
+
 module _ (min : Bool) (p q : List ℕ) where
   pub number-at : (i a j b : ℕ) → number min p q i a j b ≡ firstAt min p q (i + j) i + a * getD q j 0 + b
   unfolding number offsetIn
@@ -76,12 +87,7 @@ module _ (min : Bool) (p q : List ℕ) where
 
   -- behind the last block of a rank begins the next rank
   pub first-next : (R : ℕ) → firstAt min p q R (R + 1) ≡ firstAt min p q (R + 1) 0
-  unfolding pairsTo
-  first-next R =
-      let e : R + 1 ≡ suc R = omega arith in
-      let s = sum-next (λ r. pairsIn p q r (suc r)) R in
-      let t : pairsIn p q R (R + 1) ≡ pairsIn p q R (suc R) = ap (pairsIn p q R) e in
-      omega (arith, sum-none (λ k. getD p k 0 * getD q (R + 1 - k) 0))
+  first-next R = omega (arith, pairs-next p q R, sum-none (λ k. getD p k 0 * getD q (R + 1 - k) 0))
 
   -- a block of a rank without elements has no pairs
   pub first-same : (i j : ℕ) → getD q j 0 ≡ 0 → firstAt min p q (i + j) i ≡ firstAt min p q (i + j) (i + 1)
@@ -89,18 +95,10 @@ module _ (min : Bool) (p q : List ℕ) where
       let m : getD p i 0 * getD q j 0 ≡ getD p i 0 * 0 = ap (λ (n : ℕ). getD p i 0 * n) h in
       omega (arith, number-last i j, number-at i (getD p i 0) j 0)
 
-  pub pairs-next : (R : ℕ) → pairsTo p q R + pairsIn p q R (R + 1) ≡ pairsTo p q (R + 1)
-  pairs-next R = omega (arith, first-next R, sum-none (λ k. getD p k 0 * getD q (R + 1 - k) 0))
-
   pub first-le : (R n i : ℕ) → i ≤ R + 1 → R < n → firstAt min p q R i ≤ bit min + pairsTo p q n
-  unfolding pairsTo
   first-le R n i h k =
-      omega (
-        arith,
-        sum-le (λ r. getD p r 0 * getD q (R - r) 0) i (suc R) (omega arith),
-        sum-next (λ r. pairsIn p q r (suc r)) R,
-        sum-le (λ r. pairsIn p q r (suc r)) (R + 1) n (omega arith),
-      )
+      let f = sum-le (λ r. getD p r 0 * getD q (R - r) 0) i (R + 1) h in
+      omega (arith, pairs-next p q R, pairs-le p q (R + 1) n (omega arith))
 
   pub number-lt : (i a j b : ℕ) → a < getD p i 0 → b < getD q j 0
       → number min p q i a j b < bit min + pairsTo p q (length p + length q - 1)

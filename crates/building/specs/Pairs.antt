@@ -15,6 +15,7 @@
 --                else the pairs with a member replaced by one of its subs in use
 -- overPair       how many lie over a pair, where up tells how many lie over each element of a factor
 -- sizeOf         how many elements the product has
+-- countsOf       how many elements the product has of each rank
 -- part           a factor as the builder is given it, its minimal element left out where min is set
 -- listed         listsOf of two factors as the builder is given them
 -- Ready          Plan of the same, with the slices that are to be written
@@ -30,7 +31,7 @@ use Rattle.order.specs.Lists.{In}
 use Rattle.order.specs.Sums.{sum}
 use Rattle.listing.specs.Listing.{before, entries, Ends, limits}
 use Rattle.listing.specs.Layers.{Layers, derived}
-use Rattle.listing.specs.Written.{nth}
+use Rattle.listing.specs.Written.{table, nth}
 use Rattle.pairing.specs.Trimmed.{bit}
 use Rattle.pairing.specs.Paired.{paired}
 use Rattle.pairing.specs.Grown.{grown}
@@ -90,6 +91,10 @@ overPair max P Q upP upQ i a j b =
 
 unfoldable pub sizeOf : Bool → Bool → List ℕ → List ℕ → ℕ
 sizeOf min max p q = bit min + pairsTo p q (length p + length q - 1) + bit max
+
+unfoldable pub countsOf : Bool → Bool → List ℕ → List ℕ → List ℕ
+countsOf min max p q =
+    cond min (1 ∷ []) [] ++ (table (λ r. pairsIn p q r (suc r)) (length p + length q - 1) ++ cond max (1 ∷ []) [])
 
 pub record Plan (min max : Bool) (P Q : Factor) (upP upQ : List ℕ) (room-ends room-inc : ℕ) : Type 0 where
   pub lists-P : Ends (P .ends) (P .inc)

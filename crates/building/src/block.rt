@@ -76,6 +76,20 @@ pub fn pairs_in(p: &[u16], q: &[u16], rank: usize, i: usize) -> usize
     n
 }
 
+// The number of pairs of all ranks below a rank.
+pub fn pairs_to(p: &[u16], q: &[u16], rank: usize) -> usize
+    requires { ⌜ (rank ≤ 64) × (pairsTo (now p) (now q) rank ≤ 65536) ⌝ }
+    ensures { λ r. ⌜ r ≡ pairsTo (now (p .entry)) (now (q .entry)) rank ⌝ }
+{
+    let mut n: usize = 0;
+    let mut k: usize = 0;
+    while k < rank {
+        n += pairs_in(p, q, k, k + 1);
+        k += 1;
+    }
+    n
+}
+
 // The number of pairs of the same rank that come before those of the ranks i and j.
 pub fn offset(p: &[u16], q: &[u16], i: usize, j: usize) -> usize
     requires { ⌜ i + j ≤ 64 ⌝ }

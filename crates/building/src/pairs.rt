@@ -12,7 +12,7 @@ ghost use lib.ListN.{length, getD};
 ghost use Rattle.listing.specs.Listing.{entries, Ends};
 ghost use Rattle.pairing.specs.Trimmed.{bit};
 ghost use Rattle.building.specs.Filling.{starts, Put};
-ghost use Rattle.building.specs.Pairs.{part, used, listed, pairsTo, firstAt, number, Ready};
+ghost use Rattle.building.specs.Pairs.{part, used, listed, pairsTo, firstAt, number, sizeOf, Ready};
 ghost use Rattle.building.specs.Blocks.{BlockOf};
 
 // The subs in use of the element at a place of the lists, of rank i: none at the lowest rank in use.
@@ -215,7 +215,7 @@ fn put_rank(
 }
 
 // All pairs, from place `at` on. Returns the place after them.
-pub fn put_ranks(
+fn put_ranks(
     min: bool,
     max: bool,
     p: &[u16],
@@ -248,4 +248,35 @@ pub fn put_ranks(
         rank += 1;
     }
     to
+}
+
+// All elements: the added minimal one, the pairs, the added maximal one, as they are asked for. Returns the place after
+// them.
+pub fn put_elements(
+    min: bool,
+    max: bool,
+    p: &[u16],
+    pends: &[u16],
+    pinc: &[u16],
+    q: &[u16],
+    qends: &[u16],
+    qinc: &[u16],
+    upp: &[u16],
+    upq: &[u16],
+    ends: &mut [u16],
+    inc: &mut [u16],
+) -> usize
+    requires { ⌜ Ready min max (now p) (now pends) (now pinc) (now q) (now qends) (now qinc) (now upp) (now upq)
+        (now ends) (now inc) ⌝ }
+    ensures { λ r. ⌜ Put (listed min max (now (p .entry)) (now (pends .entry)) (now (pinc .entry)) (now (q .entry))
+        (now (qends .entry)) (now (qinc .entry))) (0) (sizeOf min max (now (p .entry)) (now (q .entry))) r
+        (now (ends .entry)) (now (inc .entry)) (now (ends .exit)) (now (inc .exit)) ⌝ }
+{
+    let lowest = block::pairs_in(p, q, 0, 1);
+    let at = put::put_min(&mut *ends, min, lowest);
+    let to = put_ranks(min, max, p, pends, pinc, q, qends, qinc, upp, upq, &mut *ends, &mut *inc, at);
+    let ranks = p.len() + q.len() - 1;
+    let e = block::bit_of(min) + block::pairs_to(p, q, ranks);
+    let highest = block::pairs_in(p, q, ranks - 1, ranks);
+    put::put_max(&mut *ends, &mut *inc, max, e, to, highest)
 }

@@ -1,6 +1,7 @@
 // Numbers written at a place of a slice.
 use listing::inner;
 ghost use mathlib.Core.Path.{_≡_};
+ghost use mathlib.Core.Bool.{cond};
 ghost use Prim.Native.Nat.{ℕ, _+_, _*_, _≤_, _<_};
 ghost use lib.ListN.{length, getD, set};
 ghost use Rattle.order.specs.Lists.{In};
@@ -49,6 +50,40 @@ pub fn put_up_to(d: &mut [u16], at: usize, n: usize) -> usize
         j += 1;
     }
     at + j
+}
+
+// Writes the added minimal element where it is asked for: nothing under it, and room for its sups. Returns the place after
+// those.
+pub fn put_min(ends: &mut [u16], min: bool, sups: usize) -> usize
+    requires { ⌜ (2 * bit min ≤ length (now ends)) × (sups < 65536) ⌝ }
+    ensures { λ r. ⌜ r ≡ cond min sups 0 ⌝ }
+    ensures { λ r. ⌜ now (ends .exit) ≡ cond min (set (set (now (ends .entry)) 0 0) 1 sups) (now (ends .entry)) ⌝ }
+{
+    if min {
+        ends[0] = 0;
+        ends[1] = sups as u16;
+        return sups;
+    }
+    0
+}
+
+// Writes the added maximal element where it is asked for, by its number e, from place `at` on: the n elements under it,
+// and nothing over it. Returns the place after those.
+pub fn put_max(ends: &mut [u16], inc: &mut [u16], max: bool, e: usize, at: usize, n: usize) -> usize
+    requires { ⌜ 2 * (e + bit max) ≤ length (now ends) ⌝ }
+    requires { ⌜ (at + cond max n 0 ≤ length (now inc)) × (at + cond max n 0 < 65536) ⌝ }
+    ensures { λ r. ⌜ r ≡ at + cond max n 0 ⌝ }
+    ensures { λ r. ⌜ Laid at (λ j. j) (cond max n 0) (now (inc .entry)) (now (inc .exit)) ⌝ }
+    ensures { λ r. ⌜ now (ends .exit) ≡ cond max (set (set (now (ends .entry)) (2 * e) r) (2 * e + 1) r)
+        (now (ends .entry)) ⌝ }
+{
+    if max {
+        let to = put_up_to(&mut *inc, at, n);
+        ends[2 * e] = to as u16;
+        ends[2 * e + 1] = to as u16;
+        return to;
+    }
+    at
 }
 
 // Writes one element, by its number e, from place `at` on: what it has under it, and its two ends, with room left for its

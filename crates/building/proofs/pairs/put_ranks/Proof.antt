@@ -86,7 +86,7 @@ loop-again c = let s = c .before .before .before .before .before .before .before
     let v = c .before .before .before .before .before .before .before .before .before .loop .inv in
     (
       omega arith,
-      omega (arith, v .1, c .pairs-in .ensures, pairs-next (s .min) (s .p .now) (s .q .now) (c .before .before .before .before .before .before .before .before .before .loop .rank)),
+      omega (arith, v .1, c .pairs-in .ensures, pairs-next (s .p .now) (s .q .now) (c .before .before .before .before .before .before .before .before .before .loop .rank)),
       put-then _ _ _ _ _ _ _ _ _ _ _ _ (v .2) (c .before .before .before .before .before .put-rank .ensures),
     )
 
