@@ -6,3 +6,5 @@ pub mod Fits
 pub mod Sizes
 pub mod Target
 pub mod Extremes
+pub mod Raising
+pub mod Counting
