@@ -8,3 +8,5 @@ pub mod Target
 pub mod Extremes
 pub mod Raising
 pub mod Counting
+pub mod Strewing
+pub mod Gathering
