@@ -99,13 +99,29 @@ module _ (first n from to k t : ℕ) (inc next inc′ next′ : List ℕ) (ht : 
 
 -- ---- the lists of one rank
 
--- a part stays where nothing from its beginning on has changed
-between-same : (from to : ℕ) (inc inc′ : List ℕ) → length inc′ ≡ length inc
-    → ((p : ℕ) → from ≤ p → getD inc′ p 0 ≡ getD inc p 0) → between inc′ from to ≡ between inc from to
-between-same from to inc inc′ e same =
-    ap (take (to - from))
-    (ext-getD 0 (drop from inc′) (drop from inc) (omega (arith, length-drop from inc′, length-drop from inc))
-    (λ i h. getD-drop from inc′ i 0 ∙ same (from + i) (omega arith) ∙ sym (getD-drop from inc i 0)))
+-- a part stays where nothing in it has changed
+pub between-same : (from to : ℕ) (inc inc′ : List ℕ) → length inc′ ≡ length inc
+    → ((p : ℕ) → from ≤ p → p < to → getD inc′ p 0 ≡ getD inc p 0) → between inc′ from to ≡ between inc from to
+between-same from to inc inc′ e same = ext-getD 0 _ _ sizes (λ i h. go i (omega (arith, size inc′)))
+  where
+    size : (l : List ℕ) → (length (between l from to) ≤ to - from) × (length (between l from to) ≤ length l - from)
+    size l = omega (arith, length-take (to - from) (drop from l), length-drop from l)
+
+    sizes : length (between inc′ from to) ≡ length (between inc from to)
+    sizes =
+        omega (
+          arith,
+          length-take (to - from) (drop from inc′),
+          length-drop from inc′,
+          length-take (to - from) (drop from inc),
+          length-drop from inc,
+        )
+
+    at : (l : List ℕ) (i : ℕ) → i < to - from → getD (between l from to) i 0 ≡ getD l (from + i) 0
+    at l i h = getD-take (to - from) (drop from l) i 0 h ∙ getD-drop from l i 0
+
+    go : (i : ℕ) → i < to - from → getD (between inc′ from to) i 0 ≡ getD (between inc from to) i 0
+    go i h = at inc′ i h ∙ same (from + i) (omega arith) (omega arith) ∙ sym (at inc i h)
 
 module _ (f : ℕ → List ℕ) (x : ℕ) where
   pub gather-none : length (gather f x 0) ≡ 0
@@ -157,7 +173,7 @@ module _ (first n here m k : ℕ) (ends inc next inc′ next′ : List ℕ) (goo
       let z : 2 * (here + k) + 0 ≡ 2 * (here + k) = omega arith in
       rw z
       (between-same from′ to′ inc inc′ (s .same-length)
-      (λ p h. s .rest p (λ x j hx hj e.
+      (λ p h _. s .rest p (λ x j hx hj e.
         omega (arith, apart .below x hx, gather-le f x k m (omega arith), rise))))
 
   at-cursor : (x : ℕ) → x < n → getD next′ (first + x) 0 + occurs x (between inc′ from′ to′)

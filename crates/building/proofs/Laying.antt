@@ -40,6 +40,12 @@ module _ (at : ℕ) (f : ℕ → ℕ) where
       after = λ p k. getD-set-other d′ (at + n) p v 0 (omega arith) ∙ l .after p (omega arith);
     }
 
+-- a number written from the very beginning on
+pub laid-at : (f : ℕ → ℕ) (n : ℕ) (d d′ : List ℕ) → Laid 0 f n d d′ → (j : ℕ) → j < n → getD d′ j 0 ≡ f j
+laid-at f n d d′ l j h =
+    let e : 0 + j ≡ j = omega arith in
+    rw e at (l .inside j h)
+
 -- one number alone
 pub laid-one : (at x : ℕ) (d : List ℕ) → at < length d → Laid at (λ j. x) 1 d (set d at x)
 laid-one at x d h =

@@ -10,3 +10,4 @@ pub mod Raising
 pub mod Counting
 pub mod Strewing
 pub mod Gathering
+pub mod SupsFilled

@@ -7,6 +7,7 @@
 -- Apart      room for g x numbers at the cursor of each x of n: each part ends before the next begins, all before `top`
 -- between    the numbers from one place of a list up to another
 -- gathered   the sups of element x of rank r, gathered from the lists that stand one rank higher
+-- Fillable   the lists are there, all subs are written, and there is room for the sups of each element
 -- Filled     the sups of the ranks below r written, each where its element's subs end, and nothing else
 -- Derives    lists in which the sups of each element are the elements above that list it, in order, once per occurrence
 use mathlib.Core.Path.{_≡_}
@@ -15,7 +16,7 @@ use Prim.Native.Nat.{ℕ, _+_, _-_, _*_, _≤_, _<_}
 use lib.ListN.{length, getD, take, drop}
 use Rattle.order.specs.Lists.{occurs}
 use Rattle.order.specs.Sums.{sum}
-use Rattle.listing.specs.Listing.{before, entries}
+use Rattle.listing.specs.Listing.{before, entries, Ends, limits}
 use Rattle.listing.specs.Layers.{gather}
 use Rattle.building.specs.Pairs.{Factor, used}
 
@@ -47,6 +48,15 @@ between l from to = take (to - from) (drop from l)
 unfoldable pub gathered : List ℕ → List ℕ → List ℕ → ℕ → ℕ → List ℕ
 gathered counts ends inc r x =
     gather (λ k. entries ends inc (2 * (before counts (r + 1) + k) + 0)) x (getD counts (r + 1) 0)
+
+pub record Fillable (counts ends inc : List ℕ) : Type 0 where
+  pub ranks : (0 < length counts) × (length counts ≤ 64)
+  pub lists : Ends ends inc
+  pub two-each : 2 * before counts (length counts) ≤ length ends
+  pub few : before counts (length counts) ≤ limits .elements
+  pub room : (r x : ℕ) → x < getD counts r 0
+      → getD ends (2 * (before counts r + x)) 0 + length (gathered counts ends inc r x)
+      ≤ getD ends (2 * (before counts r + x) + 1) 0
 
 pub record Filled (counts ends inc : List ℕ) (r : ℕ) (inc′ : List ℕ) : Type 0 where
   pub same-length : length inc′ ≡ length inc

@@ -1,4 +1,5 @@
 // Sups derived from subs: counted, and filled in.
+use crate::block;
 use listing::inner;
 ghost use mathlib.Core.Path.{_≡_};
 ghost use mathlib.Core.List.{[], _∷_};
@@ -10,7 +11,7 @@ ghost use Rattle.listing.specs.Listing.{before, start, entries, Ends};
 ghost use Rattle.listing.specs.Layers.{gather};
 ghost use Rattle.building.specs.Filling.{Laid};
 ghost use Rattle.building.specs.Pairs.{factor};
-ghost use Rattle.building.specs.Sups.{Raised, UpCounts, Strewn, Apart, between};
+ghost use Rattle.building.specs.Sups.{Raised, UpCounts, Strewn, Apart, between, Fillable, Filled};
 
 // Counts one entry x for the element that it names, of n elements that are counted from place `first` on. An entry that
 // names none is passed over.
@@ -147,4 +148,36 @@ fn set_cursors(next: &mut [u16], ends: &[u16], n: usize)
         next[e] = ends[2 * e];
         e += 1;
     }
+}
+
+// Fills in the sups of all ranks, with a cursor for each element.
+fn fill_ranks(counts: &[u16], ends: &[u16], inc: &mut [u16], next: &mut [u16])
+    requires { ⌜ Fillable (now counts) (now ends) (now inc) ⌝ }
+    requires { ⌜ before (now counts) (length (now counts)) ≤ length (now next) ⌝ }
+    requires { ⌜ ((e : ℕ) → e < before (now counts) (length (now counts))
+        → getD (now next) e 0 ≡ getD (now ends) (2 * e) 0) ⌝ }
+    ensures { λ r. ⌜ Filled (now (counts .entry)) (now (ends .entry)) (now (inc .entry)) (length (now (counts .entry)))
+        (now (inc .exit)) ⌝ }
+{
+    let mut first: usize = 0;
+    let mut rank: usize = 0;
+    while rank + 1 < counts.len() {
+        let n = inner::wide(counts[rank]);
+        let m = inner::wide(counts[rank + 1]);
+        fill_rank(ends, &mut *inc, &mut *next, first, n, first + n, m);
+        first += n;
+        rank += 1;
+    }
+}
+
+// Fills in the sups of all elements, from their subs.
+pub fn fill(counts: &[u16], ends: &[u16], inc: &mut [u16])
+    requires { ⌜ Fillable (now counts) (now ends) (now inc) ⌝ }
+    ensures { λ r. ⌜ Filled (now (counts .entry)) (now (ends .entry)) (now (inc .entry)) (length (now (counts .entry)))
+        (now (inc .exit)) ⌝ }
+{
+    let mut next = [0u16; 4096];
+    let n = block::elements_before(counts, counts.len());
+    set_cursors(&mut next, ends, n);
+    fill_ranks(counts, ends, &mut *inc, &mut next);
 }
