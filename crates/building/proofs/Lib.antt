@@ -11,3 +11,6 @@ pub mod Counting
 pub mod Strewing
 pub mod Gathering
 pub mod SupsFilled
+pub mod CountsLaid
+pub mod Whole
+pub mod Built

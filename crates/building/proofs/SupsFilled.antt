@@ -13,7 +13,7 @@ use Rattle.building.specs.Sups.{Strewn, Apart, gathered, Fillable, Fille
 use Rattle.building.proofs.Numbers.{some-rank, before-lt}
 use Rattle.building.proofs.Gathering.{gather-none, between-same, start-le}
 
-gather-same : (f g : ℕ → List ℕ) (x n : ℕ) → ((k : ℕ) → k < n → f k ≡ g k) → gather f x n ≡ gather g x n
+pub gather-same : (f g : ℕ → List ℕ) (x n : ℕ) → ((k : ℕ) → k < n → f k ≡ g k) → gather f x n ≡ gather g x n
 unfolding gather
 gather-same f g x zero h = refl
 gather-same f g x (suc n) h = rw (gather-same f g x n (λ k l. h k (omega arith)), h n (omega arith))
