@@ -19,10 +19,14 @@ fn main() {
     let archive = folder.join("libflumedrac.a");
     if found(&archive) {
         println!("cargo::rustc-cfg=linked");
+        println!("cargo::rustc-env=FLUMEDRAC_ARCHIVE={}", archive.display());
         println!("cargo::rustc-link-search=native={}", folder.display());
         println!("cargo::rustc-link-lib=static=flumedrac");
     } else if wanted {
-        panic!("there is no archive {}: make it by 'rt staticlib flumedrac'", archive.display());
+        panic!(
+            "there is no archive {}: make it by 'rt staticlib flumedrac'",
+            archive.display()
+        );
     }
 
     let oracle = here.join("target/oracle");

@@ -3,6 +3,9 @@
 use crate::ffi::Built;
 use crate::{raw, Listing, Refusal, Slices, MAX_ELEMENTS, MAX_INCIDENCES, MAX_RANKS};
 
+/// A product in [`raw`]: two factors and the three slices to write.
+type Product = fn(Slices<'_>, Slices<'_>, &mut [u16], &mut [u16], &mut [u16]) -> Built;
+
 impl Listing {
     /// Whether there are one minimal and one maximal element.
     pub fn bounded(&self) -> Result<(), Refusal> {
@@ -48,11 +51,7 @@ impl Listing {
     }
 
     /// The product that a function of [`raw`] writes.
-    fn built(
-        product: fn(Slices<'_>, Slices<'_>, &mut [u16], &mut [u16], &mut [u16]) -> Built,
-        p: &Listing,
-        q: &Listing,
-    ) -> Result<Listing, Refusal> {
+    fn built(product: Product, p: &Listing, q: &Listing) -> Result<Listing, Refusal> {
         let mut counts = vec![0; MAX_RANKS];
         let mut ends = vec![0; 2 * MAX_ELEMENTS];
         let mut inc = vec![0; MAX_INCIDENCES];

@@ -156,7 +156,12 @@ impl Listing {
         Refusal::check(searched.answer)?;
         table.truncate(searched.count as usize * width);
         orientations.truncate(searched.count as usize);
-        Ok(Search { width, table, orientations, place: searched.place })
+        Ok(Search {
+            width,
+            table,
+            orientations,
+            place: searched.place,
+        })
     }
 }
 
@@ -198,7 +203,10 @@ impl Search {
     /// # Ok::<(), flumedrac::Refusal>(())
     /// ```
     pub fn events(&self) -> Events<'_> {
-        Events { search: self, cursor: ffi::Cursor::default() }
+        Events {
+            search: self,
+            cursor: ffi::Cursor::default(),
+        }
     }
 }
 

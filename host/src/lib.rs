@@ -41,8 +41,8 @@ pub mod trial;
 
 #[cfg(linked)]
 pub use cell::{duocomb, duoprism, duopyramid, duotegum};
+pub use flags::{Event, Flag, Orientation};
 #[cfg(linked)]
 pub use flags::{Events, Search};
-pub use flags::{Event, Flag, Orientation};
 pub use listing::{Listing, Slices, MAX_ELEMENTS, MAX_FLAGS, MAX_INCIDENCES, MAX_RANKS};
 pub use refusal::{Class, Refusal, Section, Side};

@@ -2,11 +2,13 @@
 
 pub mod cells;
 pub mod library;
+pub mod limit;
 pub mod model;
 pub mod question;
 pub mod random;
 
 pub use library::{Kind, Library, Test};
+pub use limit::limit_memory;
 pub use model::{Break, Model};
 pub use question::{Question, Reply};
 pub use random::Random;
@@ -23,7 +25,11 @@ pub struct Raw {
 
 impl Raw {
     pub fn slices(&self) -> Slices<'_> {
-        Slices { counts: &self.counts, ends: &self.ends, inc: &self.inc }
+        Slices {
+            counts: &self.counts,
+            ends: &self.ends,
+            inc: &self.inc,
+        }
     }
 }
 

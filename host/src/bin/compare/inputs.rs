@@ -7,8 +7,8 @@ use flumedrac::{Listing, MAX_ELEMENTS, MAX_FLAGS, MAX_INCIDENCES, MAX_RANKS};
 
 use crate::damage::{damaged, written, Lists};
 use crate::judge::Subject;
-use crate::plain;
 use crate::run::{Go, Run};
+use crate::{oracle, plain};
 
 /// How much is asked.
 #[derive(Clone, Copy)]
@@ -22,13 +22,24 @@ pub struct Scale {
 }
 
 impl Scale {
-    pub const FULL: Scale = Scale { incidences: 6, elements: 3, rounds: 60_000 };
-    pub const SMALL: Scale = Scale { incidences: 4, elements: 2, rounds: 1_500 };
+    pub const FULL: Scale = Scale {
+        incidences: 6,
+        elements: 3,
+        rounds: 200_000,
+    };
+    pub const SMALL: Scale = Scale {
+        incidences: 4,
+        elements: 2,
+        rounds: 2_000,
+    };
 }
 
 /// Everything, one part after another.
 pub fn all(run: &mut Run<'_>, scale: Scale, seed: u64) -> Go {
     let random = &mut Random::new(seed);
+    run.choose(true);
+    run.part("listings to try", listings_to_try)?;
+    run.choose(false);
     run.part("numbers, classes, events", numbers)?;
     run.part("counts", |run| counts(run, random))?;
     run.part("slices of every length around the limits", shapes)?;
@@ -37,12 +48,97 @@ pub fn all(run: &mut Run<'_>, scale: Scale, seed: u64) -> Go {
     run.part("all small relations", |run| small_relations(run, scale.elements))?;
     run.part("damaged cells", |run| damaged_cells(run, random, scale.rounds))?;
     run.part("random slices", |run| random_slices(run, random, scale.rounds))?;
-    run.part("closed cells: tests, changes, searches", |run| closed_cells(run, random))?;
+    run.part("closed cells: tests, changes, searches", |run| {
+        closed_cells(run, random)
+    })?;
     run.part("products of cells", |run| products(run, random))?;
+    run.part("products of random valid listings", |run| {
+        random_products(run, random, scale.rounds / 4)
+    })?;
     run.part("products and searches at the limits", limits)
 }
 
-/// The listings whose answers are given in the request, and others that have one thing about them.
+/// The listings to try of the request.
+fn listings_to_try(run: &mut Run<'_>) -> Go {
+    let [nullitope, point, dyad] = &[Listing::nullitope(), Listing::point(), Listing::dyad()].map(Subject::from);
+    let triangle = &Subject::from(cells::polygon(3));
+    let hemicube = &Subject::from(cells::hemicube());
+    for cell in [nullitope, point, dyad, triangle, hemicube] {
+        tests(run, cell)?;
+    }
+    tests(run, &Raw::default().into())?;
+    tests(
+        run,
+        &Raw {
+            counts: vec![2, 1],
+            ends: vec![0; 6],
+            inc: vec![],
+        }
+        .into(),
+    )?;
+    for cell in special() {
+        tests(run, &cell.into())?;
+    }
+    let mut struck = cells::polygon(3).into();
+    strike(&mut struck, 5);
+    tests(run, &struck.into())?;
+    for (kind, p, q) in [
+        (Kind::Duoprism, dyad, dyad),
+        (Kind::Duopyramid, dyad, point),
+        (Kind::Duoprism, nullitope, triangle),
+        (Kind::Duotegum, dyad, dyad),
+        (Kind::Duocomb, dyad, dyad),
+        (Kind::Duocomb, point, point),
+        (Kind::Duocomb, triangle, triangle),
+        (Kind::Duopyramid, point, triangle),
+        (Kind::Duoprism, dyad, triangle),
+        (Kind::Duotegum, triangle, dyad),
+    ] {
+        room_for_product(run, kind, p, q)?;
+    }
+    for r in [1, 2] {
+        run.ask(Question::Change {
+            cell: triangle,
+            flag: vec![0; 4],
+            r,
+        })?;
+    }
+    for (table, orientations) in [(24, 6), (20, 5), (25, 6)] {
+        run.ask(Question::Search {
+            cell: triangle,
+            first: vec![0; 4],
+            mask: 6,
+            table,
+            orientations,
+        })?;
+    }
+    // Not orientable; the event comes after all flags of the hemicube, and earlier on the Klein bottles.
+    let kleins = &[cells::grid(2, 2, true), cells::grid(2, 3, true)].map(Subject::from);
+    for cell in [hemicube, &kleins[0], &kleins[1]] {
+        let first = first_flag(cell.as_ref());
+        let orientations = reached(cell, &first, 14);
+        run.ask(Question::Search {
+            cell,
+            first: first.clone(),
+            mask: 14,
+            table: 5 * orientations,
+            orientations,
+        })?;
+        run.ask(Question::Events { cell, first, mask: 14 })?;
+    }
+    Ok(())
+}
+
+/// Takes one number out of inc.
+fn strike(cell: &mut Raw, at: usize) {
+    cell.inc.remove(at);
+    cell.ends
+        .iter_mut()
+        .filter(|end| usize::from(**end) > at)
+        .for_each(|end| *end -= 1);
+}
+
+/// Listings that have one thing about them.
 pub fn special() -> Vec<Listing> {
     let subs = cells::listing;
     vec![
@@ -55,7 +151,12 @@ pub fn special() -> Vec<Listing> {
         subs(vec![vec![vec![]], vec![vec![0, 0]], vec![vec![0]]]),
         // The dyad and the triangle with a list not in order.
         subs(vec![vec![vec![]], vec![vec![0]; 2], vec![vec![1, 0]]]),
-        subs(vec![vec![vec![]], vec![vec![0]; 3], vec![vec![0, 1], vec![0, 2], vec![2, 1]], vec![vec![0, 1, 2]]]),
+        subs(vec![
+            vec![vec![]],
+            vec![vec![0]; 3],
+            vec![vec![0, 1], vec![0, 2], vec![2, 1]],
+            vec![vec![0, 1, 2]],
+        ]),
         // An edge listed twice by the one face.
         subs(vec![vec![vec![]], vec![vec![0]; 2], vec![vec![0, 1]], vec![vec![0, 0]]]),
         // Two minimal elements; no maximal one; nothing at all.
@@ -83,7 +184,11 @@ pub fn catalogue() -> Vec<Listing> {
         list.extend([cells::grid(n, m, false), cells::grid(n, m, true)]);
     }
     let kinds = Kind::ALL.iter();
-    list.extend(kinds.clone().filter_map(|kind| cells::try_product(*kind, &hemicube, &point)));
+    list.extend(
+        kinds
+            .clone()
+            .filter_map(|kind| cells::try_product(*kind, &hemicube, &point)),
+    );
     list.extend(kinds.filter_map(|kind| cells::try_product(*kind, &hemicube, &dyad)));
     list.push(cells::product(Kind::Duocomb, &cells::polygon(3), &cells::polygon(4)));
     list.push(cells::product(Kind::Duoprism, &cells::polygon(3), &cells::polygon(5)));
@@ -97,7 +202,9 @@ pub fn catalogue() -> Vec<Listing> {
 const ALL_ROOM: [usize; 3] = [MAX_RANKS, 2 * MAX_ELEMENTS, MAX_INCIDENCES];
 
 fn tests(run: &mut Run<'_>, cell: &Subject) -> Go {
-    Test::ALL.iter().try_for_each(|&test| run.ask(Question::Test(test, cell)))
+    Test::ALL
+        .iter()
+        .try_for_each(|&test| run.ask(Question::Test(test, cell)))
 }
 
 fn numbers(run: &mut Run<'_>) -> Go {
@@ -124,7 +231,20 @@ fn counts(run: &mut Run<'_>, random: &mut Random) -> Go {
     let large = [vec![65535; 3], vec![65535], vec![0, 65535], vec![65535, 0]];
     for counts in iter::once(vec![]).chain(small).chain(large).chain(long) {
         let n = counts.len();
-        for rank in [0, 1, 2, 15, 16, n.wrapping_sub(2), n.wrapping_sub(1), n, n + 1, 65535, 65536, usize::MAX] {
+        for rank in [
+            0,
+            1,
+            2,
+            15,
+            16,
+            n.wrapping_sub(2),
+            n.wrapping_sub(1),
+            n,
+            n + 1,
+            65535,
+            65536,
+            usize::MAX,
+        ] {
             run.ask(Question::ElCount(counts.clone(), rank))?;
         }
         run.ask(Question::Rank(counts.clone()))?;
@@ -141,7 +261,11 @@ fn padded(counts: Vec<u16>, incidences: usize) -> Raw {
     if let Some(last) = ends.last_mut() {
         *last = incidences as u16;
     }
-    Raw { counts, ends, inc: vec![0; incidences] }
+    Raw {
+        counts,
+        ends,
+        inc: vec![0; incidences],
+    }
 }
 
 /// A listing whose shape is at a limit, or past it: all that can be asked of it.
@@ -149,11 +273,31 @@ fn everything(run: &mut Run<'_>, raw: Raw) -> Go {
     let cell = &Subject::from(raw);
     let nullitope = &Subject::from(Listing::nullitope());
     tests(run, cell)?;
-    run.ask(Question::Change { cell, flag: vec![0; cell.as_ref().counts.len()], r: 1 })?;
-    run.ask(Question::Search { cell, first: vec![0; cell.as_ref().counts.len()], mask: 2, table: 40, orientations: 9 })?;
+    run.ask(Question::Change {
+        cell,
+        flag: vec![0; cell.as_ref().counts.len()],
+        r: 1,
+    })?;
+    run.ask(Question::Search {
+        cell,
+        first: vec![0; cell.as_ref().counts.len()],
+        mask: 2,
+        table: 40,
+        orientations: 9,
+    })?;
     for kind in Kind::ALL {
-        run.ask(Question::Product { kind, p: cell, q: nullitope, room: ALL_ROOM })?;
-        run.ask(Question::Product { kind, p: nullitope, q: cell, room: ALL_ROOM })?;
+        run.ask(Question::Product {
+            kind,
+            p: cell,
+            q: nullitope,
+            room: ALL_ROOM,
+        })?;
+        run.ask(Question::Product {
+            kind,
+            p: nullitope,
+            q: cell,
+            room: ALL_ROOM,
+        })?;
     }
     Ok(())
 }
@@ -177,7 +321,11 @@ fn shapes(run: &mut Run<'_>) -> Go {
     ];
     let elements = elements.map(|counts| match counts.iter().map(|&n| u32::from(n)).sum::<u32>() {
         ..=5000 => padded(counts, 0),
-        wrapped => Raw { counts, ends: vec![0; 2 * (wrapped % 65536) as usize], inc: vec![] },
+        wrapped => Raw {
+            counts,
+            ends: vec![0; 2 * (wrapped % 65536) as usize],
+            inc: vec![],
+        },
     });
     let incidences = [32_767, 32_768, 32_769, 40_000, 65_535, 65_536, 65_537, 70_000];
     let incidences = incidences.map(|n| padded(vec![1, 1], n));
@@ -199,19 +347,34 @@ fn shapes(run: &mut Run<'_>) -> Go {
         }
     }
     // The last end and the length of inc apart from each other.
-    everything(run, Raw { counts: vec![1], ends: vec![0, 40_000], inc: vec![0; 10] })?;
-    everything(run, Raw { counts: vec![1], ends: vec![0, 10], inc: vec![0; 40_000] })
+    everything(
+        run,
+        Raw {
+            counts: vec![1],
+            ends: vec![0, 40_000],
+            inc: vec![0; 10],
+        },
+    )?;
+    everything(
+        run,
+        Raw {
+            counts: vec![1],
+            ends: vec![0, 10],
+            inc: vec![0; 40_000],
+        },
+    )
 }
 
-/// All sequences of up to so many numbers below `values`.
+/// All sequences of up to so many numbers below `values`, the shortest first.
 fn sequences(longest: usize, values: u16) -> Vec<Vec<u16>> {
     let mut all = vec![vec![]];
-    let mut last = 0;
+    let mut last: Vec<Vec<u16>> = all.clone();
     for _ in 0..longest {
-        for at in last..all.len() {
-            last = at + 1;
-            all.extend((0..values).map(|x| [all[at].as_slice(), &[x]].concat()).collect::<Vec<_>>());
-        }
+        last = last
+            .iter()
+            .flat_map(|start| (0..values).map(|x| [start.as_slice(), &[x]].concat()))
+            .collect();
+        all.extend_from_slice(&last);
     }
     all
 }
@@ -220,7 +383,15 @@ fn small_slices(run: &mut Run<'_>) -> Go {
     for counts in sequences(2, 3) {
         for ends in sequences(5, 3) {
             for inc in sequences(2, 2) {
-                tests(run, &Raw { counts: counts.clone(), ends: ends.clone(), inc }.into())?;
+                tests(
+                    run,
+                    &Raw {
+                        counts: counts.clone(),
+                        ends: ends.clone(),
+                        inc,
+                    }
+                    .into(),
+                )?;
             }
         }
     }
@@ -229,7 +400,9 @@ fn small_slices(run: &mut Run<'_>) -> Go {
 
 /// Every listing of the right shape with at most three elements in at most four ranks and so many incidences.
 fn small_listings(run: &mut Run<'_>, incidences: usize) -> Go {
-    let counts = sequences(4, 4).into_iter().filter(|counts| !counts.is_empty() && counts.iter().sum::<u16>() <= 3);
+    let counts = sequences(4, 4)
+        .into_iter()
+        .filter(|counts| !counts.is_empty() && counts.iter().sum::<u16>() <= 3);
     let ends = sequences(6, incidences as u16 + 1);
     let values = |n: usize| if n <= 4 { 3 } else { 2 };
     for counts in counts {
@@ -241,7 +414,15 @@ fn small_listings(run: &mut Run<'_>, incidences: usize) -> Go {
                 continue;
             }
             for inc in sequences(n, values(n)).into_iter().filter(|inc| inc.len() == n) {
-                tests(run, &Raw { counts: counts.clone(), ends: ends.clone(), inc }.into())?;
+                tests(
+                    run,
+                    &Raw {
+                        counts: counts.clone(),
+                        ends: ends.clone(),
+                        inc,
+                    }
+                    .into(),
+                )?;
             }
         }
     }
@@ -250,7 +431,11 @@ fn small_listings(run: &mut Run<'_>, incidences: usize) -> Go {
 
 /// Every incidence of so many vertices, edges and faces, sups as they follow from subs; the ends have all there is.
 fn small_relations(run: &mut Run<'_>, most: usize) -> Go {
-    let sizes = |depth: usize| sequences(depth, most as u16 + 1).into_iter().filter(|sizes| !sizes.contains(&0));
+    let sizes = |depth: usize| {
+        sequences(depth, most as u16 + 1)
+            .into_iter()
+            .filter(|sizes| !sizes.contains(&0))
+    };
     let factors = [Listing::nullitope(), Listing::point(), Listing::dyad()].map(Subject::from);
     for sizes in sizes(3) {
         let bits: u16 = sizes.windows(2).map(|two| two[0] * two[1]).sum();
@@ -261,17 +446,34 @@ fn small_relations(run: &mut Run<'_>, most: usize) -> Go {
             let cell = Subject::from(related(&sizes, relation));
             tests(run, &cell)?;
             if cell.is_valid().is_ok_and(|(valid, _)| valid) {
-                for (kind, factor) in Kind::ALL.iter().flat_map(|&kind| factors.iter().map(move |q| (kind, q))) {
+                for (kind, factor) in Kind::ALL
+                    .iter()
+                    .flat_map(|&kind| factors.iter().map(move |q| (kind, q)))
+                {
                     let room = [16, 200, 2000];
-                    run.ask(Question::Product { kind, p: &cell, q: factor, room })?;
-                    run.ask(Question::Product { kind, p: factor, q: &cell, room })?;
+                    run.ask(Question::Product {
+                        kind,
+                        p: &cell,
+                        q: factor,
+                        room,
+                    })?;
+                    run.ask(Question::Product {
+                        kind,
+                        p: factor,
+                        q: &cell,
+                        room,
+                    })?;
                 }
             }
             if cell.is_closed().is_ok_and(|(closed, _)| closed) {
                 let known = related(&sizes, relation);
                 for first in cells::flags(&known, 20) {
                     for mask in 0..1 << cell.rank() {
-                        run.ask(Question::Events { cell: &cell, first: first.clone(), mask })?;
+                        run.ask(Question::Events {
+                            cell: &cell,
+                            first: first.clone(),
+                            mask,
+                        })?;
                     }
                 }
             }
@@ -301,8 +503,18 @@ fn closed_cells(run: &mut Run<'_>, random: &mut Random) -> Go {
         let cell = &Subject::from(listing);
         tests(run, cell)?;
         let first = vec![0; cell.as_ref().counts.len()];
-        run.ask(Question::Change { cell, flag: first.clone(), r: 1 })?;
-        run.ask(Question::Search { cell, first, mask: 2, table: 40, orientations: 10 })?;
+        run.ask(Question::Change {
+            cell,
+            flag: first.clone(),
+            r: 1,
+        })?;
+        run.ask(Question::Search {
+            cell,
+            first,
+            mask: 2,
+            table: 40,
+            orientations: 10,
+        })?;
     }
     for listing in catalogue() {
         let flags = cells::flags(&listing, 400);
@@ -310,7 +522,11 @@ fn closed_cells(run: &mut Run<'_>, random: &mut Random) -> Go {
         tests(run, cell)?;
         for flag in &flags {
             for r in (0..=cell.rank() as u16 + 1).chain([15, 16, 65535]) {
-                run.ask(Question::Change { cell, flag: flag.clone(), r })?;
+                run.ask(Question::Change {
+                    cell,
+                    flag: flag.clone(),
+                    r,
+                })?;
             }
         }
         for _ in 0..12 {
@@ -330,12 +546,30 @@ fn no_flags(run: &mut Run<'_>, cell: &Subject, flag: &[u16], random: &mut Random
     let mut missing = flag.to_vec();
     missing[at] = *random.pick(&[cell.as_ref().counts[at], 65535]);
     let longer = |n: usize| [flag, &vec![0; n]].concat();
-    for flag in [other, missing, flag[1..].to_vec(), flag[..at].to_vec(), longer(1), longer(17), longer(70_000)] {
+    for flag in [
+        other,
+        missing,
+        flag[1..].to_vec(),
+        flag[..at].to_vec(),
+        longer(1),
+        longer(17),
+        longer(70_000),
+    ] {
         for r in [0, 1, 2, 16] {
-            run.ask(Question::Change { cell, flag: flag.clone(), r })?;
+            run.ask(Question::Change {
+                cell,
+                flag: flag.clone(),
+                r,
+            })?;
         }
         for mask in [0, 1, 2, 6, 1 << 15] {
-            run.ask(Question::Search { cell, first: flag.clone(), mask, table: 300, orientations: 30 })?;
+            run.ask(Question::Search {
+                cell,
+                first: flag.clone(),
+                mask,
+                table: 300,
+                orientations: 30,
+            })?;
         }
     }
     Ok(())
@@ -347,8 +581,15 @@ fn searches(run: &mut Run<'_>, cell: &Subject, first: &[u16], random: &mut Rando
     let all: u16 = (1..cell.rank()).map(|r| 1 << r).sum();
     let masks = if width <= 5 { 0..1 << width } else { 0..0 };
     let drawn: Vec<u16> = (0..12).map(|_| all & random.below(65536) as u16).collect();
-    for mask in masks.chain(drawn).chain([all, all | 1, all | 1 << cell.rank(), 1 << 15, 65535]) {
-        run.ask(Question::Events { cell, first: first.to_vec(), mask })?;
+    for mask in masks
+        .chain(drawn)
+        .chain([all, all | 1, all | 1 << cell.rank(), 1 << 15, 65535])
+    {
+        run.ask(Question::Events {
+            cell,
+            first: first.to_vec(),
+            mask,
+        })?;
         let found = reached(cell, first, mask);
         let whole = found * width;
         let rooms = [
@@ -363,7 +604,13 @@ fn searches(run: &mut Run<'_>, cell: &Subject, first: &[u16], random: &mut Rando
             (whole, 0),
         ];
         for (table, orientations) in rooms {
-            run.ask(Question::Search { cell, first: first.to_vec(), mask, table, orientations })?;
+            run.ask(Question::Search {
+                cell,
+                first: first.to_vec(),
+                mask,
+                table,
+                orientations,
+            })?;
         }
     }
     Ok(())
@@ -371,9 +618,15 @@ fn searches(run: &mut Run<'_>, cell: &Subject, first: &[u16], random: &mut Rando
 
 /// How many flags a search finds, if nothing refuses it; else some number.
 fn reached(cell: &Subject, first: &[u16], mask: u16) -> usize {
-    let question = Question::Events { cell, first: first.to_vec(), mask };
+    let question = Question::Events {
+        cell,
+        first: first.to_vec(),
+        mask,
+    };
     let flags = |reply: flumedrac::trial::Reply| reply.slices.iter().filter(|event| !event.is_empty()).count();
-    crate::judge::judge(&question).map_or(0, |(reply, _)| flags(reply)).max(3)
+    crate::judge::judge(&question)
+        .map_or(0, |(reply, _)| flags(reply))
+        .max(3)
 }
 
 /// Factors: closed cells, valid ones that are not closed, and some that are not valid.
@@ -406,7 +659,11 @@ fn products(run: &mut Run<'_>, random: &mut Random) -> Go {
             let first = first_flag(cell.as_ref());
             let all = (1..cell.rank()).map(|r| 1 << r).sum();
             for mask in [all, all & random.below(65536) as u16] {
-                run.ask(Question::Events { cell, first: first.clone(), mask })?;
+                run.ask(Question::Events {
+                    cell,
+                    first: first.clone(),
+                    mask,
+                })?;
             }
         }
     }
@@ -423,10 +680,17 @@ fn first_flag(cell: &Raw) -> Vec<u16> {
 }
 
 /// A product with all room, and if it is answered with exactly its room, one number less of each, none, and one more.
-fn room_for_product(run: &mut Run<'_>, kind: Kind, p: &Subject, q: &Subject) -> Result<Option<Raw>, crate::run::Caught> {
+fn room_for_product(
+    run: &mut Run<'_>,
+    kind: Kind,
+    p: &Subject,
+    q: &Subject,
+) -> Result<Option<Raw>, crate::run::Caught> {
     let ask = |room| Question::Product { kind, p, q, room };
     run.ask(ask(ALL_ROOM))?;
-    let Ok((reply, _)) = crate::judge::judge(&ask(ALL_ROOM)) else { return Ok(None) };
+    let Ok((reply, _)) = crate::judge::judge(&ask(ALL_ROOM)) else {
+        return Ok(None);
+    };
     if reply.numbers[0] != 0 {
         run.ask(ask([0, 0, 0]))?;
         return Ok(None);
@@ -497,7 +761,13 @@ fn limits(run: &mut Run<'_>) -> Go {
         }
     }
     let prism = |n, m| cells::product(Kind::Duoprism, &cells::polygon(n), &cells::polygon(m));
-    let large = [cells::digonal(15), prism(22, 31), prism(22, 32), cells::polygon(2047), cells::simplex(7)];
+    let large = [
+        cells::digonal(15),
+        prism(22, 31),
+        prism(22, 32),
+        cells::polygon(2047),
+        cells::simplex(7),
+    ];
     for listing in large {
         let cell = &Subject::from(listing);
         let first = first_flag(cell.as_ref());
@@ -505,11 +775,21 @@ fn limits(run: &mut Run<'_>) -> Go {
         let all: u16 = (1..cell.rank()).map(|r| 1 << r).sum();
         tests(run, cell)?;
         for mask in [all, all & !2, all & 0x5555] {
-            run.ask(Question::Events { cell, first: first.clone(), mask })?;
+            run.ask(Question::Events {
+                cell,
+                first: first.clone(),
+                mask,
+            })?;
         }
         for flags in [MAX_FLAGS + 5, MAX_FLAGS, MAX_FLAGS - 1, 16_368, 16_367, 5039, 5040] {
             let (table, orientations) = (flags * width, flags);
-            run.ask(Question::Search { cell, first: first.clone(), mask: all, table, orientations })?;
+            run.ask(Question::Search {
+                cell,
+                first: first.clone(),
+                mask: all,
+                table,
+                orientations,
+            })?;
         }
     }
     Ok(())
@@ -518,7 +798,13 @@ fn limits(run: &mut Run<'_>) -> Go {
 fn damaged_cells(run: &mut Run<'_>, random: &mut Random, rounds: usize) -> Go {
     let mut bases: Vec<Listing> = catalogue().into_iter().chain(special()).collect();
     bases.retain(|cell| cell.slices().inc.len() < 500);
-    let partners = [Listing::nullitope(), Listing::point(), Listing::dyad(), cells::polygon(3)].map(Subject::from);
+    let partners = [
+        Listing::nullitope(),
+        Listing::point(),
+        Listing::dyad(),
+        cells::polygon(3),
+    ]
+    .map(Subject::from);
     for _ in 0..rounds {
         let base: Raw = random.pick(&bases).clone().into();
         let mut raw = base.clone();
@@ -527,18 +813,41 @@ fn damaged_cells(run: &mut Run<'_>, random: &mut Random, rounds: usize) -> Go {
         }
         let cell = &Subject::from(raw);
         tests(run, cell)?;
-        let flag: Vec<u16> = base.counts.iter().map(|&count| random.below(count.into()) as u16).collect();
+        let flag: Vec<u16> = base
+            .counts
+            .iter()
+            .map(|&count| random.below(count.into()) as u16)
+            .collect();
         if random.once_in(4) {
             let r = random.below(6) as u16;
-            run.ask(Question::Change { cell, flag: flag.clone(), r })?;
+            run.ask(Question::Change {
+                cell,
+                flag: flag.clone(),
+                r,
+            })?;
             let (mask, table) = (random.below(16) as u16 * 2, random.below(200));
-            run.ask(Question::Search { cell, first: flag, mask, table, orientations: random.below(40) })?;
+            run.ask(Question::Search {
+                cell,
+                first: flag,
+                mask,
+                table,
+                orientations: random.below(40),
+            })?;
         }
         if random.once_in(4) {
             let partner = random.pick(&partners);
-            let (p, q) = if random.once_in(2) { (cell, partner) } else { (partner, cell) };
+            let (p, q) = if random.once_in(2) {
+                (cell, partner)
+            } else {
+                (partner, cell)
+            };
             let room = [random.below(8) + 1, 600, 3000];
-            run.ask(Question::Product { kind: *random.pick(&Kind::ALL), p, q, room })?;
+            run.ask(Question::Product {
+                kind: *random.pick(&Kind::ALL),
+                p,
+                q,
+                room,
+            })?;
         }
     }
     Ok(())
@@ -561,18 +870,51 @@ fn random_slices(run: &mut Run<'_>, random: &mut Random, rounds: usize) -> Go {
         }
         ask(run, raw)?;
 
-        // Random lists that are listed back, with repeats and in any order.
-        let counts: Vec<usize> = (0..=random.below(4)).map(|_| random.below(3) + 1).collect();
-        let mut lists: Lists = counts.iter().map(|&count| vec![[vec![], vec![]]; count]).collect();
-        for _ in 0..random.below(30) {
-            let r = random.below(counts.len());
-            if r > 0 {
-                let (i, x) = (random.below(counts[r]), random.below(counts[r - 1]));
-                lists[r][i][0].push(x as u16);
-                lists[r - 1][x][1].push(i as u16);
-            }
+        ask(run, listed_back(random))?;
+    }
+    Ok(())
+}
+
+/// Random lists that are listed back, with repeats and in any order.
+fn listed_back(random: &mut Random) -> Raw {
+    let counts: Vec<usize> = (0..=random.below(4)).map(|_| random.below(3) + 1).collect();
+    let mut lists: Lists = counts.iter().map(|&count| vec![[vec![], vec![]]; count]).collect();
+    for _ in 0..random.below(30) {
+        let r = random.below(counts.len());
+        if r > 0 {
+            let (i, x) = (random.below(counts[r]), random.below(counts[r - 1]));
+            lists[r][i][0].push(x as u16);
+            lists[r - 1][x][1].push(i as u16);
         }
-        ask(run, written(&lists))?;
+    }
+    written(&lists)
+}
+
+/// Valid listings of all sorts, most of them not closed, and their products.
+fn random_products(run: &mut Run<'_>, random: &mut Random, rounds: usize) -> Go {
+    let bases = catalogue();
+    let mut valid = vec![];
+    while oracle::PRESENT && valid.len() < 400 {
+        let base = random.pick(&bases[..18]).clone();
+        let raw = if random.once_in(3) {
+            listed_back(random)
+        } else {
+            damaged(&base.into(), random)
+        };
+        let cell = Subject::from(raw);
+        if cell.is_valid().is_ok_and(|(valid, _)| valid) && cell.as_ref().inc.len() < 100 {
+            valid.push(cell);
+        }
+    }
+    for _ in 0..if valid.is_empty() { 0 } else { rounds } {
+        let (p, q) = (random.pick(&valid), random.pick(&valid));
+        let room = *random.pick(&[[8, 400, 2000], [12, 900, 8000], [4, 60, 300]]);
+        run.ask(Question::Product {
+            kind: *random.pick(&Kind::ALL),
+            p,
+            q,
+            room,
+        })?;
     }
     Ok(())
 }

@@ -13,14 +13,16 @@ mod inputs;
 mod judge;
 mod oracle;
 mod plain;
+mod replay;
 mod run;
 mod tally;
 
 use std::process::ExitCode;
 
-use flumedrac::trial::{Break, Library, Model};
+use flumedrac::trial::{limit_memory, Break, Library, Model};
 
 use inputs::Scale;
+use replay::Replay;
 use run::Run;
 
 struct Options {
@@ -29,10 +31,18 @@ struct Options {
     breaks: bool,
     seed: u64,
     scale: Scale,
+    replay: Option<String>,
 }
 
 fn options() -> Result<Options, String> {
-    let mut options = Options { model: false, fault: None, breaks: false, seed: 1, scale: Scale::FULL };
+    let mut options = Options {
+        model: false,
+        fault: None,
+        breaks: false,
+        seed: 1,
+        scale: Scale::FULL,
+        replay: None,
+    };
     let mut words = std::env::args().skip(1);
     while let Some(word) = words.next() {
         let mut value = || words.next().ok_or(format!("{word} wants a value"));
@@ -45,6 +55,7 @@ fn options() -> Result<Options, String> {
                 let found = Break::ALL.iter().find(|fault| fault.name() == name);
                 options.fault = Some(*found.ok_or(format!("there is no fault {name}"))?);
             }
+            "--write-replay" => options.replay = Some(value()?),
             "--seed" => options.seed = value()?.parse().map_err(|_| "a seed is a number".to_string())?,
             "--rounds" => options.scale.rounds = value()?.parse().map_err(|_| "rounds are a number".to_string())?,
             _ => return Err(format!("{word} is not known")),
@@ -54,6 +65,7 @@ fn options() -> Result<Options, String> {
 }
 
 fn main() -> ExitCode {
+    limit_memory(1000);
     let options = match options() {
         Ok(options) => options,
         Err(what) => {
@@ -69,7 +81,11 @@ fn main() -> ExitCode {
         return breaks(options.seed);
     }
     match (options.fault, options.model) {
-        (Some(fault), _) => compare(&Model::broken(fault), &format!("the model with {}", fault.name()), &options),
+        (Some(fault), _) => compare(
+            &Model::broken(fault),
+            &format!("the model with {}", fault.name()),
+            &options,
+        ),
         (None, true) => compare(&Model::default(), "the model", &options),
         (None, false) => archive(&options),
     }
@@ -89,13 +105,20 @@ fn archive(_: &Options) -> ExitCode {
 fn compare(library: &dyn Library, name: &str, options: &Options) -> ExitCode {
     println!("asked: {name}");
     let mut run = Run::new(library, false);
+    run.replay = options.replay.as_ref().map(|_| Replay::new(options.seed));
     let _ = inputs::all(&mut run, options.scale, options.seed);
     run.tally.print();
+    if let (Some(file), Some(replay)) = (&options.replay, run.replay) {
+        std::fs::write(file, replay.text(options.seed)).expect("the replay list can be written");
+    }
     let (rust, plain) = run.tally.compared();
     let differences = run.tally.differences();
     println!("\n{rust} comparisons with the Rust, {plain} with plain conditions, {differences} differences");
     if run.tally.unjudged > 0 {
-        println!("{} questions could not be judged without the Rust files", run.tally.unjudged);
+        println!(
+            "{} questions could not be judged without the Rust files",
+            run.tally.unjudged
+        );
     }
     match run.tally.smallest() {
         None => ExitCode::SUCCESS,

@@ -6,6 +6,7 @@ use std::time::Instant;
 use flumedrac::trial::{Library, Question};
 
 use crate::judge::{judge, Doubt, Subject};
+use crate::replay::Replay;
 use crate::tally::{Difference, Tally};
 
 /// A difference was seen, and one is enough.
@@ -18,11 +19,18 @@ pub struct Run<'a> {
     /// Whether one difference is enough, and nothing is said on the way.
     until_caught: bool,
     pub tally: Tally,
+    /// The replay list, if it is being made.
+    pub replay: Option<Replay>,
 }
 
 impl<'a> Run<'a> {
     pub fn new(library: &'a dyn Library, until_caught: bool) -> Self {
-        Self { library, until_caught, tally: Tally::default() }
+        Self {
+            library,
+            until_caught,
+            tally: Tally::default(),
+            replay: None,
+        }
     }
 
     /// Asks, and compares.
@@ -33,11 +41,18 @@ impl<'a> Run<'a> {
         let (expected, reply) = match (judge(&question), reply) {
             (Ok((expected, by)), reply) => {
                 let with_number = !["class", "sign", "next_event"].contains(&kind);
-                self.tally.count(kind, if with_number { expected.numbers[0] } else { 0 }, by);
+                self.tally
+                    .count(kind, if with_number { expected.numbers[0] } else { 0 }, by);
                 if reply.as_ref().is_ok_and(|reply| *reply == expected) {
+                    if let Some(replay) = &mut self.replay {
+                        replay.offer(&question, &expected, by);
+                    }
                     return Ok(());
                 }
-                (expected.to_string(), reply.map_or("a panic".to_string(), |reply| reply.to_string()))
+                (
+                    expected.to_string(),
+                    reply.map_or("a panic".to_string(), |reply| reply.to_string()),
+                )
             }
             (Err(Doubt::NoOracle), _) => {
                 self.tally.unjudged += 1;
@@ -45,11 +60,25 @@ impl<'a> Run<'a> {
             }
             (Err(Doubt::Oracle(what)), reply) => (what.to_string(), reply.map_or(String::new(), |r| r.to_string())),
         };
-        self.tally.differ(kind, Difference { question: question.to_string(), expected, reply });
+        self.tally.differ(
+            kind,
+            Difference {
+                question: question.to_string(),
+                expected,
+                reply,
+            },
+        );
         if self.until_caught {
             return Err(Caught);
         }
         Ok(())
+    }
+
+    /// Whether everything goes into the replay list for now.
+    pub fn choose(&mut self, all: bool) {
+        if let Some(replay) = &mut self.replay {
+            replay.choosing = all;
+        }
     }
 
     /// One part of the questions, with a line about it.
