@@ -23,10 +23,7 @@ fn main() {
         println!("cargo::rustc-link-search=native={}", folder.display());
         println!("cargo::rustc-link-lib=static=flumedrac");
     } else if wanted {
-        panic!(
-            "there is no archive {}: make it by 'rt staticlib flumedrac'",
-            archive.display()
-        );
+        panic!("there is no archive {}: make it by 'rt staticlib flumedrac'", archive.display());
     }
 
     let oracle = here.join("target/oracle");

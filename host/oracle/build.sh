@@ -29,11 +29,15 @@ place() {
     exit 2
 }
 
+files="lib.rs abs/mod.rs abs/antiprism.rs abs/flag.rs abs/product.rs abs/ranked.rs abs/valid.rs"
+for file in $files; do
+    place "$file" > /dev/null
+done
+
 rm -rf "$out"
 mkdir -p "$tree/abs"
-for file in lib.rs abs/mod.rs abs/antiprism.rs abs/flag.rs abs/product.rs abs/ranked.rs abs/valid.rs; do
-    found=$(place "$file")
-    ln -s "$found" "$tree/$file"
+for file in $files; do
+    ln -s "$(place "$file")" "$tree/$file"
 done
 for empty in conc cox file float geometry group; do
     echo '//! Not needed here.' > "$tree/$empty.rs"

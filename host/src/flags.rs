@@ -22,6 +22,12 @@ impl<const N: usize> From<[u16; N]> for Flag {
     }
 }
 
+impl From<Flag> for Vec<u16> {
+    fn from(flag: Flag) -> Self {
+        flag.0
+    }
+}
+
 impl Deref for Flag {
     type Target = [u16];
 
@@ -138,6 +144,8 @@ impl Listing {
     /// All flags that the changes in `mask` reach from the first flag, if there are at most `room`, and never more than
     /// 16,384. Bit r of the mask asks for the change at rank r.
     ///
+    /// Where there are more, [`raw::search`] leaves the first ones found in the slices it is lent.
+    ///
     /// ```
     /// use flumedrac::{Listing, Refusal};
     /// let triangle = Listing::polygon(3)?;
@@ -156,12 +164,7 @@ impl Listing {
         Refusal::check(searched.answer)?;
         table.truncate(searched.count as usize * width);
         orientations.truncate(searched.count as usize);
-        Ok(Search {
-            width,
-            table,
-            orientations,
-            place: searched.place,
-        })
+        Ok(Search { width, table, orientations, place: searched.place })
     }
 }
 
@@ -203,10 +206,7 @@ impl Search {
     /// # Ok::<(), flumedrac::Refusal>(())
     /// ```
     pub fn events(&self) -> Events<'_> {
-        Events {
-            search: self,
-            cursor: ffi::Cursor::default(),
-        }
+        Events { search: self, cursor: ffi::Cursor::default() }
     }
 }
 
@@ -239,3 +239,13 @@ impl<'a> Iterator for Events<'a> {
 
 #[cfg(linked)]
 impl std::iter::FusedIterator for Events<'_> {}
+
+#[cfg(linked)]
+impl<'a> IntoIterator for &'a Search {
+    type Item = Event<'a>;
+    type IntoIter = Events<'a>;
+
+    fn into_iter(self) -> Events<'a> {
+        self.events()
+    }
+}

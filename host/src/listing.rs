@@ -124,30 +124,18 @@ impl Listing {
 
     /// The nullitope, rank 0: one element and nothing else.
     pub fn nullitope() -> Self {
-        Self {
-            counts: vec![1],
-            ends: vec![0, 0],
-            inc: vec![],
-        }
+        Self { counts: vec![1], ends: vec![0, 0], inc: vec![] }
     }
 
     /// The point, rank 1.
     pub fn point() -> Self {
-        Self {
-            counts: vec![1, 1],
-            ends: vec![0, 1, 2, 2],
-            inc: vec![0, 0],
-        }
+        Self { counts: vec![1, 1], ends: vec![0, 1, 2, 2], inc: vec![0, 0] }
     }
 
     /// The dyad, rank 2: two vertices.
     pub fn dyad() -> Self {
         let ends = vec![0, 2, 3, 4, 5, 6, 8, 8];
-        Self {
-            counts: vec![1, 2, 1],
-            ends,
-            inc: vec![0, 1, 0, 0, 0, 0, 0, 1],
-        }
+        Self { counts: vec![1, 2, 1], ends, inc: vec![0, 1, 0, 0, 0, 0, 0, 1] }
     }
 
     /// A polygon with `n` sides, rank 3. Edges go in order of their vertices: the triangle's are 01, 02, 12.
@@ -163,11 +151,7 @@ impl Listing {
 
     /// The three slices.
     pub fn slices(&self) -> Slices<'_> {
-        Slices {
-            counts: &self.counts,
-            ends: &self.ends,
-            inc: &self.inc,
-        }
+        Slices { counts: &self.counts, ends: &self.ends, inc: &self.inc }
     }
 
     /// The three slices, taken out.

@@ -1,7 +1,7 @@
 //! The library's functions on lent slices: numbers in, numbers out, no memory taken.
 //!
-//! Any slices of any length may be given. What the numbers mean stands in `include/flumedrac.h`; the rest of this
-//! package says the same in Rust's words.
+//! Any slices of any length may be given. Each function is called as in `include/flumedrac.h`, where its numbers are
+//! explained; the rest of this package says the same in Rust's words.
 
 use crate::ffi::{self, Answer, Built, Changed, Cursor, Event, Number, Searched};
 use crate::Slices;
@@ -9,7 +9,7 @@ use crate::Slices;
 /// The functions that look at counts alone.
 macro_rules! counts {
     ($($name:ident $function:ident;)*) => {
-        $(#[doc = concat!("`", stringify!($function), "`")]
+        $(#[doc = concat!("What `", stringify!($function), "` answers.")]
         pub fn $name(counts: &[u16]) -> Number {
             // Safety: a slice is its pointer and its length.
             unsafe { ffi::$function(counts.as_ptr(), counts.len()) }
@@ -20,7 +20,7 @@ macro_rules! counts {
 /// The tests.
 macro_rules! tests {
     ($($name:ident $function:ident;)*) => {
-        $(#[doc = concat!("`", stringify!($function), "`")]
+        $(#[doc = concat!("What `", stringify!($function), "` answers.")]
         pub fn $name(l: Slices<'_>) -> Answer {
             // Safety: each slice is its pointer and its length.
             unsafe {
@@ -35,7 +35,7 @@ macro_rules! tests {
 /// The products.
 macro_rules! products {
     ($($name:ident $function:ident;)*) => {
-        $(#[doc = concat!("`", stringify!($function), "`")]
+        $(#[doc = concat!("What `", stringify!($function), "` answers.")]
         pub fn $name(
             p: Slices<'_>, q: Slices<'_>, counts: &mut [u16], ends: &mut [u16], inc: &mut [u16],
         ) -> Built {
@@ -57,13 +57,13 @@ counts! {
     facet_count fd_facet_count;
 }
 
-/// `fd_el_count`
+/// What `fd_el_count` answers.
 pub fn el_count(counts: &[u16], rank: usize) -> Number {
     // Safety: a slice is its pointer and its length.
     unsafe { ffi::fd_el_count(counts.as_ptr(), counts.len(), rank) }
 }
 
-/// `fd_class`
+/// What `fd_class` answers.
 pub fn class(no: u16) -> u16 {
     // Safety: numbers only.
     unsafe { ffi::fd_class(no) }
@@ -77,7 +77,7 @@ tests! {
     closed fd_closed;
 }
 
-/// `fd_change`
+/// What `fd_change` answers.
 pub fn change(l: Slices<'_>, flag: &[u16], r: u16) -> Changed {
     // Safety: each slice is its pointer and its length.
     unsafe {
@@ -95,7 +95,7 @@ pub fn change(l: Slices<'_>, flag: &[u16], r: u16) -> Changed {
     }
 }
 
-/// `fd_search`
+/// What `fd_search` answers.
 pub fn search(l: Slices<'_>, first: &[u16], mask: u16, table: &mut [u16], orientations: &mut [u8]) -> Searched {
     // Safety: each slice is its pointer and its length; those lent to be written overlap no other.
     unsafe {
@@ -117,13 +117,13 @@ pub fn search(l: Slices<'_>, first: &[u16], mask: u16, table: &mut [u16], orient
     }
 }
 
-/// `fd_sign`
+/// What `fd_sign` answers.
 pub fn sign(orientation: u8) -> f64 {
     // Safety: numbers only.
     unsafe { ffi::fd_sign(orientation) }
 }
 
-/// `fd_next_event`
+/// What `fd_next_event` answers.
 pub fn next_event(cursor: &mut Cursor, count: u16, place: u16) -> Event {
     // Safety: the cursor is lent for this call alone.
     unsafe { ffi::fd_next_event(cursor, count, place) }

@@ -132,12 +132,7 @@ impl Refusal {
     pub fn check(answer: Answer) -> Result<(), Refusal> {
         let Answer { no, a, b, c, d } = answer;
         let (rank, index, entry) = (a, b, c);
-        let section = Section {
-            low_rank: a,
-            low_index: b,
-            high_rank: c,
-            high_index: d,
-        };
+        let section = Section { low_rank: a, low_index: b, high_rank: c, high_index: d };
         Err(match no {
             0 => return Ok(()),
             1 => NoRanks,
@@ -156,16 +151,8 @@ impl Refusal {
             17 => ThirdBetween { section },
             18 => LoneBetween { section },
             19 => match c {
-                0 => NotAscending {
-                    rank,
-                    index,
-                    side: Side::Subs,
-                },
-                1 => NotAscending {
-                    rank,
-                    index,
-                    side: Side::Sups,
-                },
+                0 => NotAscending { rank, index, side: Side::Subs },
+                1 => NotAscending { rank, index, side: Side::Sups },
                 _ => panic!("the library named side {c}"),
             },
             20 => NotAFlag,
@@ -185,16 +172,8 @@ impl Refusal {
 
 impl fmt::Display for Section {
     fn fmt(&self, f: &mut fmt::Formatter<'_>) -> fmt::Result {
-        let Section {
-            low_rank,
-            low_index,
-            high_rank,
-            high_index,
-        } = self;
-        write!(
-            f,
-            "element {low_index} of rank {low_rank} and element {high_index} of rank {high_rank}"
-        )
+        let Section { low_rank, low_index, high_rank, high_index } = self;
+        write!(f, "element {low_index} of rank {low_rank} and element {high_index} of rank {high_rank}")
     }
 }
 
@@ -217,36 +196,21 @@ impl fmt::Display for Refusal {
             OverIncidences => write!(f, "the listing has more than 32,768 incidences"),
             FallingEnds => write!(f, "the ends fall, or the last one is not the number of incidences"),
             NotBounded { minimal, maximal } => {
-                write!(
-                    f,
-                    "there are {minimal} minimal and {maximal} maximal elements instead of one and one"
-                )
+                write!(f, "there are {minimal} minimal and {maximal} maximal elements instead of one and one")
             }
             NoSubs { rank, index } => write!(f, "element {index} of rank {rank} has no subs"),
             NoSups { rank, index } => write!(f, "element {index} of rank {rank} has no sups"),
             SubNotBack { rank, index, entry } => {
-                write!(
-                    f,
-                    "element {index} of rank {rank} lists the sub {entry}, which does not list it back"
-                )
+                write!(f, "element {index} of rank {rank} lists the sub {entry}, which does not list it back")
             }
             SupNotBack { rank, index, entry } => {
-                write!(
-                    f,
-                    "element {index} of rank {rank} lists the sup {entry}, which does not list it back"
-                )
+                write!(f, "element {index} of rank {rank} lists the sup {entry}, which does not list it back")
             }
             SubMissing { rank, index, entry } => {
-                write!(
-                    f,
-                    "element {index} of rank {rank} lists the sub {entry}, which does not exist"
-                )
+                write!(f, "element {index} of rank {rank} lists the sub {entry}, which does not exist")
             }
             SupMissing { rank, index, entry } => {
-                write!(
-                    f,
-                    "element {index} of rank {rank} lists the sup {entry}, which does not exist"
-                )
+                write!(f, "element {index} of rank {rank} lists the sup {entry}, which does not exist")
             }
             ThirdBetween { section } => write!(f, "more than two elements lie between {section}"),
             LoneBetween { section } => write!(f, "only one element lies between {section}"),
@@ -272,22 +236,17 @@ impl Error for Refusal {}
 #[cfg(test)]
 mod tests {
     use super::*;
+    use crate::trial::{Library, Model};
 
-    /// Every number that stands for a refusal is read as the refusal of that number, with all its fields.
+    /// Every number that stands for a refusal is read as the refusal of that number, and has its class.
     #[test]
     fn numbers_and_refusals_match() {
         let numbers = (1..=6).chain(10..=22).chain(30..=36);
         let mut seen = std::collections::HashSet::new();
         for no in numbers {
-            let refusal = Refusal::check(Answer {
-                no,
-                a: 7,
-                b: 8,
-                c: 1,
-                d: 9,
-            })
-            .unwrap_err();
+            let refusal = Refusal::check(Answer { no, a: 7, b: 8, c: 1, d: 9 }).unwrap_err();
             assert_eq!(refusal.number(), no);
+            assert_eq!(refusal.class() as u16 + 1, Model::default().class(no));
             assert!(seen.insert(refusal.to_string()), "{refusal} is said twice");
         }
         assert_eq!(seen.len(), 26);

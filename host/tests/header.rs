@@ -21,14 +21,8 @@ fn run(command: &mut Command) -> String {
 fn header_is_clean_in_c_and_cpp() {
     let header = include().join("flumedrac.h");
     let strict = ["-Wall", "-Wextra", "-Werror", "-pedantic", "-fsyntax-only"];
-    run(Command::new("cc")
-        .args(["-std=c99", "-x", "c"])
-        .args(strict)
-        .arg(&header));
-    run(Command::new("c++")
-        .args(["-std=c++11", "-x", "c++"])
-        .args(strict)
-        .arg(&header));
+    run(Command::new("cc").args(["-std=c99", "-x", "c"]).args(strict).arg(&header));
+    run(Command::new("c++").args(["-std=c++11", "-x", "c++"]).args(strict).arg(&header));
 }
 
 /// Each line is a C expression and what Rust says to it.
@@ -55,11 +49,7 @@ fn expected() -> Vec<(String, usize)> {
     say("FD_MAX_FLAGS", MAX_FLAGS);
     // Each refusal has the name that Rust gives it, in capitals.
     for no in (1..=6).chain(10..=22).chain(30..=36) {
-        let refusal = Refusal::check(Answer {
-            no,
-            ..Answer::default()
-        })
-        .unwrap_err();
+        let refusal = Refusal::check(Answer { no, ..Answer::default() }).unwrap_err();
         let name = format!("{refusal:?}");
         let mut capitals = String::from("FD");
         for letter in name.split(' ').next().unwrap_or_default().chars() {
@@ -78,19 +68,12 @@ fn layouts_and_numbers_are_the_same() {
     let expected = expected();
     let print = |line: &(String, usize)| format!("printf(\"%zu\\n\", (size_t)({}));", line.0);
     let prints: Vec<String> = expected.iter().map(print).collect();
-    let source = format!(
-        "#include <stdio.h>\n#include \"flumedrac.h\"\nint main(void) {{ {} return 0; }}\n",
-        prints.join("\n")
-    );
+    let source =
+        format!("#include <stdio.h>\n#include \"flumedrac.h\"\nint main(void) {{ {} return 0; }}\n", prints.join("\n"));
     let folder = Path::new(env!("CARGO_TARGET_TMPDIR"));
     let (file, program) = (folder.join("layout.c"), folder.join("layout"));
     std::fs::write(&file, source).expect("a file can be written");
-    run(Command::new("cc")
-        .args(["-std=c99", "-I"])
-        .arg(include())
-        .arg(&file)
-        .arg("-o")
-        .arg(&program));
+    run(Command::new("cc").args(["-std=c99", "-I"]).arg(include()).arg(&file).arg("-o").arg(&program));
     let printed = run(&mut Command::new(&program));
     let printed: Vec<usize> = printed.lines().map(|line| line.parse().expect("a number")).collect();
     assert_eq!(printed.len(), expected.len());
@@ -106,12 +89,8 @@ fn example_in_c() {
     let here = Path::new(env!("CARGO_MANIFEST_DIR"));
     let program = Path::new(env!("CARGO_TARGET_TMPDIR")).join("cell");
     let mut cc = Command::new("cc");
-    cc.args(["-std=c99", "-Wall", "-Wextra", "-Werror", "-pedantic", "-I"])
-        .arg(include());
-    cc.arg(here.join("examples/cell.c"))
-        .arg(env!("FLUMEDRAC_ARCHIVE"))
-        .arg("-o")
-        .arg(&program);
+    cc.args(["-std=c99", "-Wall", "-Wextra", "-Werror", "-pedantic", "-I"]).arg(include());
+    cc.arg(here.join("examples/cell.c")).arg(env!("FLUMEDRAC_ARCHIVE")).arg("-o").arg(&program);
     run(&mut cc);
     assert_eq!(
         run(&mut Command::new(&program)),

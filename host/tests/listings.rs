@@ -23,21 +23,10 @@ fn triangle() -> Listing {
     cells::polygon(3)
 }
 
-/// A product with just enough room for its elements.
+/// A product with room for any.
 fn product(library: &dyn Library, kind: Kind, p: &Listing, q: &Listing) -> (Answer, Raw) {
-    let mut built = Raw {
-        counts: vec![0; 16],
-        ends: vec![0; 8192],
-        inc: vec![0; 32768],
-    };
-    let said = library.product(
-        kind,
-        p.slices(),
-        q.slices(),
-        &mut built.counts,
-        &mut built.ends,
-        &mut built.inc,
-    );
+    let mut built = Raw { counts: vec![0; 16], ends: vec![0; 8192], inc: vec![0; 32768] };
+    let said = library.product(kind, p.slices(), q.slices(), &mut built.counts, &mut built.ends, &mut built.inc);
     built.counts.truncate(said.counts.into());
     built.ends.truncate(said.ends.into());
     built.inc.truncate(said.inc.into());
@@ -69,11 +58,7 @@ fn refused_cells() {
     each(|library| {
         let empty = Raw::default();
         assert_eq!(library.test(Test::IsValid, empty.slices()), answer(1, [0; 4]));
-        let two = Raw {
-            counts: vec![2, 1],
-            ends: vec![0; 6],
-            inc: vec![],
-        };
+        let two = Raw { counts: vec![2, 1], ends: vec![0; 6], inc: vec![] };
         assert_eq!(library.test(Test::IsValid, two.slices()), answer(10, [2, 1, 0, 0]));
         for (vertices, no) in [(3, 17), (1, 18)] {
             let top = (0..vertices).collect();
@@ -99,20 +84,14 @@ fn products() {
         assert_eq!(square.counts, [1, 4, 4, 1]);
         assert_eq!(subs(&square, 2), [[0, 1], [2, 3], [0, 2], [1, 3]]);
         assert_eq!(product(library, Kind::Duopyramid, &dyad, &point).1, raw(triangle()));
-        assert_eq!(
-            product(library, Kind::Duoprism, &nullitope, &triangle()).1,
-            raw(nullitope.clone())
-        );
+        assert_eq!(product(library, Kind::Duoprism, &nullitope, &triangle()).1, raw(nullitope.clone()));
         assert_eq!(product(library, Kind::Duotegum, &dyad, &dyad).1.counts, [1, 4, 4, 1]);
         let (_, comb) = product(library, Kind::Duocomb, &dyad, &dyad);
         assert_eq!(comb.counts, [1, 4, 1]);
         assert_eq!(library.test(Test::IsValid, comb.slices()).no, 0);
         assert_eq!(library.test(Test::Closed, comb.slices()).no, 17);
         assert_eq!(product(library, Kind::Duocomb, &point, &point).0, answer(32, [0; 4]));
-        assert_eq!(
-            product(library, Kind::Duocomb, &triangle(), &triangle()).1.counts,
-            [1, 9, 18, 9, 1]
-        );
+        assert_eq!(product(library, Kind::Duocomb, &triangle(), &triangle()).1.counts, [1, 9, 18, 9, 1]);
         let digonal = cells::digonal;
         assert_eq!(product(library, Kind::Duopyramid, &digonal(8), &digonal(7)).0.no, 0);
         assert_eq!(product(library, Kind::Duopyramid, &digonal(8), &digonal(8)).0.no, 33);

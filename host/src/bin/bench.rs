@@ -36,11 +36,7 @@ impl<'a> Times<'a> {
         let start = Instant::now();
         work(&mut vec![]);
         let once = start.elapsed().as_secs_f64().max(1e-9);
-        Self {
-            work,
-            repeats: (LEAST_SECONDS / once).ceil() as usize,
-            times: vec![],
-        }
+        Self { work, repeats: (LEAST_SECONDS / once).ceil() as usize, times: vec![] }
     }
 
     fn measure(&mut self) {
@@ -87,16 +83,8 @@ impl<'a> Row<'a> {
         let (median, least) = (self.ours.median(), self.ours.least());
         self.line(&self.name, median, least);
         if let Some(closed) = &self.closed {
-            println!(
-                "| - of that, the closed test | {} | {} | | | | |",
-                time(closed.median()),
-                time(closed.least())
-            );
-            self.line(
-                "- without the closed test",
-                median - closed.median(),
-                least - closed.least(),
-            );
+            println!("| - of that, the closed test | {} | {} | | | | |", time(closed.median()), time(closed.least()));
+            self.line("- without the closed test", median - closed.median(), least - closed.least());
         }
     }
 
@@ -155,36 +143,22 @@ fn product_row<'a>(library: &'a dyn Library, name: &str, kind: Kind, p: &'a List
     };
     #[cfg(not(oracle))]
     let rust = None;
-    Row {
-        name: name.to_string(),
-        ours: Times::new(ours),
-        closed: None,
-        rust,
-    }
+    Row { name: name.to_string(), ours: Times::new(ours), closed: None, rust }
 }
 
 fn test_times<'a>(library: &'a dyn Library, test: Test, cell: &'a Listing) -> Times<'a> {
-    Times::new(Box::new(move |_| {
-        assert_eq!(library.test(test, black_box(cell.slices())).no, 0)
-    }))
+    Times::new(Box::new(move |_| assert_eq!(library.test(test, black_box(cell.slices())).no, 0)))
 }
 
 fn valid_row<'a>(library: &'a dyn Library, name: &str, cell: &'a Listing) -> Row<'a> {
     #[cfg(oracle)]
     let rust = {
         let cell = rust_cell(cell);
-        Some(Times::new(Box::new(move |_| {
-            assert_eq!(black_box(&cell).is_valid(), Some([0; 5]))
-        })))
+        Some(Times::new(Box::new(move |_| assert_eq!(black_box(&cell).is_valid(), Some([0; 5])))))
     };
     #[cfg(not(oracle))]
     let rust = None;
-    Row {
-        name: name.to_string(),
-        ours: test_times(library, Test::IsValid, cell),
-        closed: None,
-        rust,
-    }
+    Row { name: name.to_string(), ours: test_times(library, Test::IsValid, cell), closed: None, rust }
 }
 
 fn search_row<'a>(library: &'a dyn Library, name: &str, cell: &'a Listing, flags: usize) -> Row<'a> {
@@ -204,18 +178,10 @@ fn search_row<'a>(library: &'a dyn Library, name: &str, cell: &'a Listing, flags
     let rust = None;
     let ours: Work<'a> = Box::new(move |_| {
         let searched = library.search(cell.slices(), &first, mask, &mut table, &mut orientations);
-        assert_eq!(
-            (searched.answer.no, usize::from(searched.count), searched.orientable),
-            (0, flags, 1)
-        );
+        assert_eq!((searched.answer.no, usize::from(searched.count), searched.orientable), (0, flags, 1));
     });
     let closed = Some(test_times(library, Test::Closed, cell));
-    Row {
-        name: format!("{name}, {flags} flags"),
-        ours: Times::new(ours),
-        closed,
-        rust,
-    }
+    Row { name: format!("{name}, {flags} flags"), ours: Times::new(ours), closed, rust }
 }
 
 /// The rows in turn, as often as there are runs; who comes first changes from run to run.
@@ -238,27 +204,9 @@ fn tables(library: &dyn Library, runs: usize) {
     let digonal = cells::digonal(15);
     let ring = polygon(2047);
     let mut rows = [
-        product_row(
-            library,
-            "build duoprism(31-gon, 32-gon), 4,096 elements",
-            Kind::Duoprism,
-            &p31,
-            &p32,
-        ),
-        product_row(
-            library,
-            "build duopyramid(31-gon, 31-gon), 4,096 elements",
-            Kind::Duopyramid,
-            &p31,
-            &p31,
-        ),
-        product_row(
-            library,
-            "build duocomb(31-gon, 33-gon), 4,094 elements",
-            Kind::Duocomb,
-            &p31,
-            &p33,
-        ),
+        product_row(library, "build duoprism(31-gon, 32-gon), 4,096 elements", Kind::Duoprism, &p31, &p32),
+        product_row(library, "build duopyramid(31-gon, 31-gon), 4,096 elements", Kind::Duopyramid, &p31, &p31),
+        product_row(library, "build duocomb(31-gon, 33-gon), 4,094 elements", Kind::Duocomb, &p31, &p33),
         valid_row(library, "is_valid of duoprism(31-gon, 32-gon)", &prism),
         valid_row(library, "is_valid of the 2047-gon", &ring),
         search_row(library, "search of duoprism(22-gon, 31-gon)", &flagged, 16_368),
@@ -277,22 +225,12 @@ fn tables(library: &dyn Library, runs: usize) {
     for (n, cell) in &prisms {
         let name = format!("duoprism({n}-gon, {n}-gon), {} incidences", size(cell));
         rows.push(valid_row(library, &format!("is_valid of {name}"), cell));
-        rows.push(search_row(
-            library,
-            &format!("search of {name}"),
-            cell,
-            24 * usize::from(*n) * usize::from(*n),
-        ));
+        rows.push(search_row(library, &format!("search of {name}"), cell, 24 * usize::from(*n) * usize::from(*n)));
     }
     for (n, cell) in &rings {
         let name = format!("the {n}-gon, {} incidences", size(cell));
         rows.push(valid_row(library, &format!("is_valid of {name}"), cell));
-        rows.push(search_row(
-            library,
-            &format!("search of {name}"),
-            cell,
-            2 * usize::from(*n),
-        ));
+        rows.push(search_row(library, &format!("search of {name}"), cell, 2 * usize::from(*n)));
     }
     measure(&mut rows, runs);
     head("work");
@@ -302,10 +240,7 @@ fn tables(library: &dyn Library, runs: usize) {
 fn main() {
     limit_memory(2000);
     let words: Vec<String> = std::env::args().skip(1).collect();
-    let runs = words
-        .iter()
-        .position(|word| word == "--runs")
-        .and_then(|at| words.get(at + 1)?.parse().ok());
+    let runs = words.iter().position(|word| word == "--runs").and_then(|at| words.get(at + 1)?.parse().ok());
     let runs = runs.unwrap_or(31);
     if !cfg!(oracle) {
         println!("The Rust files are not built (host/oracle/build.sh); only the library is measured.\n");

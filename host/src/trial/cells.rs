@@ -25,26 +25,19 @@ pub fn simplex(n: u32) -> Listing {
     let sets = |k: u32| (0..1u32 << n).filter(move |set| set.count_ones() == k);
     let subs = |set: u32, k: u32| {
         let under = sets(k.wrapping_sub(1)).zip(0..);
-        under
-            .filter(|(sub, _)| sub & !set == 0)
-            .map(|(_, index)| index)
-            .collect()
+        under.filter(|(sub, _)| sub & !set == 0).map(|(_, index)| index).collect()
     };
     listing((0..=n).map(|k| sets(k).map(|set| subs(set, k)).collect()).collect())
 }
 
 /// The box of dimension `n`: dyads multiplied.
 pub fn cuboid(n: usize) -> Listing {
-    (0..n).fold(Listing::point(), |cell, _| {
-        product(Kind::Duoprism, &cell, &Listing::dyad())
-    })
+    (0..n).fold(Listing::point(), |cell, _| product(Kind::Duoprism, &cell, &Listing::dyad()))
 }
 
 /// The cross polytope of dimension `n`.
 pub fn cross(n: usize) -> Listing {
-    (0..n).fold(Listing::point(), |cell, _| {
-        product(Kind::Duotegum, &cell, &Listing::dyad())
-    })
+    (0..n).fold(Listing::point(), |cell, _| product(Kind::Duotegum, &cell, &Listing::dyad()))
 }
 
 /// Half a cube: 4 vertices, 6 edges, 3 faces. It is not orientable.
@@ -93,9 +86,7 @@ pub fn grid(n: u16, m: u16, klein: bool) -> Listing {
         list.sort_unstable();
         list
     };
-    let mut edges: Vec<Vec<u16>> = places()
-        .map(|(i, j)| sorted(vec![vertex(i, j), vertex(i + 1, j)]))
-        .collect();
+    let mut edges: Vec<Vec<u16>> = places().map(|(i, j)| sorted(vec![vertex(i, j), vertex(i + 1, j)])).collect();
     edges.extend(places().map(|(i, j)| sorted(vec![vertex(i, j), vertex(i, j + 1)])));
     let square = |(i, j)| sorted(vec![along(i, j), along(i, j + 1), across(i, j), across(i + 1, j)]);
     listing(vec![
@@ -129,17 +120,7 @@ pub fn flags(cell: &Listing, limit: usize) -> Vec<Vec<u16>> {
     let first = cell.first_flag().expect("a closed listing has flags");
     let width = cell.rank() + 1;
     let mut table = vec![0; limit * width];
-    let searched = Model::default().search(
-        cell.slices(),
-        &first,
-        cell.all_changes(),
-        &mut table,
-        &mut vec![0; limit],
-    );
-    let count = if searched.answer.no == 0 {
-        searched.count as usize
-    } else {
-        limit
-    };
+    let searched = Model::default().search(cell.slices(), &first, cell.all_changes(), &mut table, &mut vec![0; limit]);
+    let count = if searched.answer.no == 0 { searched.count as usize } else { limit };
     table.chunks(width).take(count).map(<[u16]>::to_vec).collect()
 }

@@ -14,13 +14,7 @@ pub enum Test {
 }
 
 impl Test {
-    pub const ALL: [Test; 5] = [
-        Test::Bounded,
-        Test::CheckIncidences,
-        Test::IsDyadic,
-        Test::IsValid,
-        Test::Closed,
-    ];
+    pub const ALL: [Test; 5] = [Test::Bounded, Test::CheckIncidences, Test::IsDyadic, Test::IsValid, Test::Closed];
 
     pub fn name(self) -> &'static str {
         match self {

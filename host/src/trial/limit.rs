@@ -15,14 +15,6 @@ pub fn limit_memory(megabytes: usize) {
     let program = env::current_exe().expect("a program knows where it is");
     let script = format!("ulimit -v {} && exec \"$0\" \"$@\"", megabytes * 1024);
     let mut shell = Command::new("sh");
-    shell
-        .arg("-c")
-        .arg(script)
-        .arg(program)
-        .args(env::args_os().skip(1))
-        .env(MARK, "1");
-    panic!(
-        "the program could not be started under a memory limit: {}",
-        shell.exec()
-    );
+    shell.arg("-c").arg(script).arg(program).args(env::args_os().skip(1)).env(MARK, "1");
+    panic!("the program could not be started under a memory limit: {}", shell.exec());
 }

@@ -25,11 +25,7 @@ pub struct Raw {
 
 impl Raw {
     pub fn slices(&self) -> Slices<'_> {
-        Slices {
-            counts: &self.counts,
-            ends: &self.ends,
-            inc: &self.inc,
-        }
+        Slices { counts: &self.counts, ends: &self.ends, inc: &self.inc }
     }
 }
 

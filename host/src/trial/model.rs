@@ -182,17 +182,7 @@ fn layers(l: Slices<'_>) -> Layers<'_> {
         start = end;
         list
     };
-    l.counts
-        .iter()
-        .map(|&count| {
-            (0..count)
-                .map(|_| Element {
-                    subs: list(),
-                    sups: list(),
-                })
-                .collect()
-        })
-        .collect()
+    l.counts.iter().map(|&count| (0..count).map(|_| Element { subs: list(), sups: list() }).collect()).collect()
 }
 
 /// The elements of a product: pairs of ranks and indices, by rank. The added ends are no pairs.
@@ -211,10 +201,7 @@ impl Model {
     fn number(&self, counts: &[u16], value: impl Fn(usize) -> usize) -> Number {
         match counts.len() {
             0 => Number { no: 1, value: 0 },
-            n => Number {
-                no: 0,
-                value: value(n - 1),
-            },
+            n => Number { no: 0, value: value(n - 1) },
         }
     }
 
@@ -224,11 +211,7 @@ impl Model {
             elements %= 65536;
         }
         let last = l.ends.last().map_or(0, |&end| end as usize);
-        let incidences = if self.has(Break::IncidencesByEnds) {
-            last
-        } else {
-            l.inc.len()
-        };
+        let incidences = if self.has(Break::IncidencesByEnds) { last } else { l.inc.len() };
         let falls = l.ends.windows(2).any(|two| two[1] < two[0]);
         let fills = last == l.inc.len() || (self.has(Break::LastEndFree) && last <= l.inc.len());
         let faults = [
@@ -322,11 +305,7 @@ impl Model {
                 };
                 let third = third.and_then(|x| refuse(17, [r - 2, x as usize, r, i]));
                 let lone = lone.and_then(|x| refuse(18, [r - 2, x, r, i]));
-                let found = if self.has(Break::LoneBeforeThird) {
-                    lone.or(third)
-                } else {
-                    third.or(lone)
-                };
+                let found = if self.has(Break::LoneBeforeThird) { lone.or(third) } else { third.or(lone) };
                 if found.is_some() {
                     return found;
                 }
@@ -337,27 +316,12 @@ impl Model {
 
     fn ascent(&self, cell: &Layers<'_>) -> Refused {
         let strict = !self.has(Break::AscentNotStrict);
-        let ascends = |list: &[u16]| {
-            list.windows(2)
-                .all(|two| two[0] < two[1] || (!strict && two[0] == two[1]))
-        };
+        let ascends = |list: &[u16]| list.windows(2).all(|two| two[0] < two[1] || (!strict && two[0] == two[1]));
         for (r, rank) in cell.iter().enumerate() {
             for (i, element) in rank.iter().enumerate() {
-                let subs = if ascends(element.subs) {
-                    None
-                } else {
-                    refuse(19, [r, i, 0, 0])
-                };
-                let sups = if ascends(element.sups) {
-                    None
-                } else {
-                    refuse(19, [r, i, 1, 0])
-                };
-                let found = if self.has(Break::AscentSupsFirst) {
-                    sups.or(subs)
-                } else {
-                    subs.or(sups)
-                };
+                let subs = if ascends(element.subs) { None } else { refuse(19, [r, i, 0, 0]) };
+                let sups = if ascends(element.sups) { None } else { refuse(19, [r, i, 1, 0]) };
+                let found = if self.has(Break::AscentSupsFirst) { sups.or(subs) } else { subs.or(sups) };
                 if found.is_some() {
                     return found;
                 }
@@ -368,27 +332,15 @@ impl Model {
 
     fn is_valid(&self, cell: &Layers<'_>) -> Refused {
         let last = (cell.len() - 1).saturating_sub(1);
-        self.bounded(cell)
-            .or_else(|| self.incidences(cell))
-            .or_else(|| self.diamond(cell, last))
+        self.bounded(cell).or_else(|| self.incidences(cell)).or_else(|| self.diamond(cell, last))
     }
 
     fn closed(&self, cell: &Layers<'_>) -> Refused {
         let rank = cell.len() - 1;
-        let last = if self.has(Break::ClosedStopsEarly) {
-            rank.saturating_sub(1)
-        } else {
-            rank
-        };
+        let last = if self.has(Break::ClosedStopsEarly) { rank.saturating_sub(1) } else { rank };
         self.bounded(cell)
             .or_else(|| self.incidences(cell))
-            .or_else(|| {
-                if self.has(Break::AscentNotAsked) {
-                    None
-                } else {
-                    self.ascent(cell)
-                }
-            })
+            .or_else(|| if self.has(Break::AscentNotAsked) { None } else { self.ascent(cell) })
             .or_else(|| self.diamond(cell, last))
     }
 
@@ -418,11 +370,7 @@ impl Model {
     /// What refuses a change or a search with the changes of a mask.
     fn flag_refusal(&self, l: Slices<'_>, flag: &[u16], outside: bool) -> Refused {
         self.tested(Test::Closed, l).or_else(|| {
-            let no_flag = if self.is_flag(&layers(l), flag) {
-                None
-            } else {
-                refuse(20, [0; 4])
-            };
+            let no_flag = if self.is_flag(&layers(l), flag) { None } else { refuse(20, [0; 4]) };
             let ranks = if outside { refuse(21, [0; 4]) } else { None };
             if self.has(Break::RanksBeforeFlag) {
                 ranks.or(no_flag)
@@ -482,16 +430,10 @@ impl Model {
             }
         }
         if elements > MAX_ELEMENTS - self.has(Break::ElementsOneLess) as usize {
-            return Err(Answer {
-                no: 34,
-                ..Answer::default()
-            });
+            return Err(Answer { no: 34, ..Answer::default() });
         }
         if 2 * subs > MAX_INCIDENCES - self.has(Break::IncidencesOneLess) as usize {
-            return Err(Answer {
-                no: 35,
-                ..Answer::default()
-            });
+            return Err(Answer { no: 35, ..Answer::default() });
         }
 
         // The pairs of each rank, and where each one stands.
@@ -515,11 +457,7 @@ impl Model {
             subs.push(vec![vec![]]);
         }
         for rank in &pairs[low..=rank - high] {
-            subs.push(
-                rank.iter()
-                    .map(|&pair| self.pair_subs(low, first, second, &place, pair))
-                    .collect(),
-            );
+            subs.push(rank.iter().map(|&pair| self.pair_subs(low, first, second, &place, pair)).collect());
         }
         if high == 1 {
             let facets = subs[rank - 1].len() as u16;
@@ -544,12 +482,7 @@ impl Model {
         if s > low {
             seconds.extend(second[s][j].subs.iter().map(|&x| place[&(r, i, s - 1, x as usize)]));
         }
-        let mut subs = if self.has(Break::SubsOtherOrder) {
-            [seconds, firsts]
-        } else {
-            [firsts, seconds]
-        }
-        .concat();
+        let mut subs = if self.has(Break::SubsOtherOrder) { [seconds, firsts] } else { [firsts, seconds] }.concat();
         if subs.is_empty() && low == 1 {
             subs.push(0);
         }
@@ -589,27 +522,13 @@ impl Model {
 
     /// The slices of a product, or its refusal up to 35.
     fn product_slices(&self, kind: Kind, p: Slices<'_>, q: Slices<'_>) -> Result<[Vec<u16>; 3], Answer> {
-        let left = if self.has(Break::FactorClosed) {
-            Test::Closed
-        } else {
-            Test::IsValid
-        };
+        let left = if self.has(Break::FactorClosed) { Test::Closed } else { Test::IsValid };
         if self.tested(left, p).is_some() {
-            return Err(Answer {
-                no: 30,
-                ..Answer::default()
-            });
+            return Err(Answer { no: 30, ..Answer::default() });
         }
-        let right = if self.has(Break::RightUntested) {
-            self.shape(q)
-        } else {
-            self.tested(Test::IsValid, q)
-        };
+        let right = if self.has(Break::RightUntested) { self.shape(q) } else { self.tested(Test::IsValid, q) };
         if right.is_some() {
-            return Err(Answer {
-                no: 31,
-                ..Answer::default()
-            });
+            return Err(Answer { no: 31, ..Answer::default() });
         }
         if self.has(Break::FirstFactor) {
             return Ok([p.counts.to_vec(), p.ends.to_vec(), p.inc.to_vec()]);
@@ -621,22 +540,12 @@ impl Model {
             return Ok([vec![1], vec![0, 0], vec![]]);
         }
         if kind == Kind::Duocomb && (p_rank == 1 || q_rank == 1) {
-            let no = if self.has(Break::CombOfOnePoint) && p_rank != q_rank {
-                33
-            } else {
-                32
-            };
-            return Err(Answer {
-                no,
-                ..Answer::default()
-            });
+            let no = if self.has(Break::CombOfOnePoint) && p_rank != q_rank { 33 } else { 32 };
+            return Err(Answer { no, ..Answer::default() });
         }
         let rank = p_rank + q_rank - kind.adds_minimal() as usize - kind.adds_maximal() as usize;
         if rank >= MAX_RANKS - self.has(Break::RanksOneLess) as usize {
-            return Err(Answer {
-                no: 33,
-                ..Answer::default()
-            });
+            return Err(Answer { no: 33, ..Answer::default() });
         }
         let swapped = matches!(kind, Kind::Duopyramid | Kind::Duotegum);
         if swapped && !(self.has(Break::PairsSwapped) && kind == Kind::Duopyramid) {
@@ -682,10 +591,7 @@ impl Library for Model {
     fn test(&self, test: Test, l: Slices<'_>) -> Answer {
         match self.fault {
             Some(Break::AcceptsAll) => Answer::default(),
-            Some(Break::RefusesAll) => Answer {
-                no: 1,
-                ..Answer::default()
-            },
+            Some(Break::RefusesAll) => Answer { no: 1, ..Answer::default() },
             _ => self.tested(test, l).unwrap_or_default(),
         }
     }
@@ -693,11 +599,7 @@ impl Library for Model {
     fn change(&self, l: Slices<'_>, flag: &[u16], r: u16) -> Changed {
         let r = r as usize;
         let rank = l.counts.len().wrapping_sub(1);
-        let last = if self.has(Break::ChangeAtTop) {
-            rank
-        } else {
-            rank.saturating_sub(1)
-        };
+        let last = if self.has(Break::ChangeAtTop) { rank } else { rank.saturating_sub(1) };
         if let Some(answer) = self.flag_refusal(l, flag, r < 1 || r > last) {
             return Changed { answer, flag: [0; 16] };
         }
@@ -714,10 +616,7 @@ impl Library for Model {
         let ranks = self.ranks_of(mask);
         let outside = ranks.iter().any(|&r| r < 1 || r + 1 >= l.counts.len());
         if let Some(answer) = self.flag_refusal(l, first, outside) {
-            return Searched {
-                answer,
-                ..Searched::default()
-            };
+            return Searched { answer, ..Searched::default() };
         }
         let cell = layers(l);
         let width = cell.len();
@@ -765,19 +664,8 @@ impl Library for Model {
             }
         }
         if more && !(self.has(Break::FullStops) && kept > 0) {
-            let count = if self.has(Break::MoreKeepsCount) {
-                kept as u16
-            } else {
-                0
-            };
-            return Searched {
-                answer: Answer {
-                    no: 22,
-                    ..Answer::default()
-                },
-                count,
-                ..Searched::default()
-            };
+            let count = if self.has(Break::MoreKeepsCount) { kept as u16 } else { 0 };
+            return Searched { answer: Answer { no: 22, ..Answer::default() }, count, ..Searched::default() };
         }
         let orientable = (place == 0) as u8;
         if self.has(Break::PlaceOneLess) && place > 0 {
@@ -786,12 +674,7 @@ impl Library for Model {
         if self.has(Break::EventAtEnd) && place > 0 {
             place = kept;
         }
-        Searched {
-            answer: Answer::default(),
-            count: kept as u16,
-            place: place as u16,
-            orientable,
-        }
+        Searched { answer: Answer::default(), count: kept as u16, place: place as u16, orientable }
     }
 
     fn sign(&self, orientation: u8) -> f64 {
@@ -806,11 +689,7 @@ impl Library for Model {
         let (at, count, place) = (cursor.at as u64, count as u64, place as u64);
         let event_at = if self.has(Break::CursorLate) { place + 1 } else { place };
         let given = (1..=count).contains(&place);
-        let events = if self.has(Break::CursorStops) {
-            1
-        } else {
-            count + given as u64
-        };
+        let events = if self.has(Break::CursorStops) { 1 } else { count + given as u64 };
         if at >= events {
             if self.has(Break::CursorRunsOn) {
                 cursor.at = cursor.at.wrapping_add(1);
@@ -819,15 +698,9 @@ impl Library for Model {
         }
         cursor.at += 1;
         match at {
-            at if !given || at < event_at => Event {
-                kind: 1,
-                flag: at as u16,
-            },
+            at if !given || at < event_at => Event { kind: 1, flag: at as u16 },
             at if at == event_at => Event { kind: 2, flag: 0 },
-            at => Event {
-                kind: 1,
-                flag: at as u16 - 1,
-            },
+            at => Event { kind: 1, flag: at as u16 - 1 },
         }
     }
 
@@ -845,10 +718,7 @@ impl Library for Model {
             Err(answer) => {
                 let early = self.has(Break::ShortBeforeIncidences) && answer.no == 35 && inc.len() < MAX_INCIDENCES;
                 let answer = if early { Answer { no: 36, ..answer } } else { answer };
-                return Built {
-                    answer,
-                    ..Built::default()
-                };
+                return Built { answer, ..Built::default() };
             }
         };
         let lengths = [slices[0].len(), slices[1].len(), slices[2].len()];
@@ -858,13 +728,7 @@ impl Library for Model {
             if self.has(Break::ShortWrites) {
                 lent[0].fill(0);
             }
-            return Built {
-                answer: Answer {
-                    no: 36,
-                    ..Answer::default()
-                },
-                ..Built::default()
-            };
+            return Built { answer: Answer { no: 36, ..Answer::default() }, ..Built::default() };
         }
         for (slice, lent) in slices.iter().zip(&mut lent) {
             if self.has(Break::WritesNothing) {
@@ -877,11 +741,6 @@ impl Library for Model {
             }
         }
         let [counts, ends, inc] = lengths.map(|n| n as u16);
-        Built {
-            answer: Answer::default(),
-            counts,
-            ends,
-            inc,
-        }
+        Built { answer: Answer::default(), counts, ends, inc }
     }
 }

@@ -62,8 +62,9 @@ pub const FILL: u16 = 65535;
 /// What stands in lent orientations before a call.
 pub const BYTE_FILL: u8 = 255;
 
-/// Numbers on either side of a lent slice, to see whether it was left.
-const MARGIN: usize = 4;
+/// How many numbers stand on either side of a lent slice, to see whether it was left. They are odd in number, so that
+/// a slice is aligned as its numbers ask and no better.
+const MARGIN: usize = 3;
 
 /// A slice to lend, full of one number, with a margin of another on either side.
 struct Lent<T>(Vec<T>, T);
@@ -102,10 +103,7 @@ pub fn answer_numbers(answer: Answer) -> Vec<i64> {
 
 impl Reply {
     pub fn of(numbers: Vec<i64>) -> Self {
-        Self {
-            numbers,
-            ..Self::default()
-        }
+        Self { numbers, ..Self::default() }
     }
 
     fn count(number: Number) -> Self {
@@ -149,19 +147,9 @@ impl<L: AsRef<Raw>> Question<L> {
             Question::Test(test, cell) => Reply::of(answer_numbers(library.test(*test, cell.as_ref().slices()))),
             Question::Change { cell, flag, r } => {
                 let changed = library.change(cell.as_ref().slices(), flag, *r);
-                Reply {
-                    numbers: answer_numbers(changed.answer),
-                    slices: vec![changed.flag.to_vec()],
-                    spilled: false,
-                }
+                Reply { numbers: answer_numbers(changed.answer), slices: vec![changed.flag.to_vec()], spilled: false }
             }
-            Question::Search {
-                cell,
-                first,
-                mask,
-                table,
-                orientations,
-            } => {
+            Question::Search { cell, first, mask, table, orientations } => {
                 let (mut table, mut orientations) = (words(*table), bytes(*orientations));
                 let (lent, lent_bytes) = (table.slice(), orientations.slice());
                 let searched = library.search(cell.as_ref().slices(), first, *mask, lent, lent_bytes);
@@ -169,11 +157,7 @@ impl<L: AsRef<Raw>> Question<L> {
                 numbers.extend([searched.count, searched.place, searched.orientable.into()].map(i64::from));
                 let spilled = table.spilled() || orientations.spilled();
                 let wide = orientations.slice().iter().map(|&byte| byte.into()).collect();
-                Reply {
-                    numbers,
-                    slices: vec![table.slice().to_vec(), wide],
-                    spilled,
-                }
+                Reply { numbers, slices: vec![table.slice().to_vec(), wide], spilled }
             }
             Question::Events { cell, first, mask } => events(library, cell.as_ref(), first, *mask),
             Question::Product { kind, p, q, room } => {
@@ -183,14 +167,8 @@ impl<L: AsRef<Raw>> Question<L> {
                 let mut numbers = answer_numbers(built.answer);
                 numbers.extend([built.counts, built.ends, built.inc].map(i64::from));
                 let spilled = counts.spilled() || ends.spilled() || inc.spilled();
-                let slices = [&mut counts, &mut ends, &mut inc]
-                    .map(|lent| lent.slice().to_vec())
-                    .to_vec();
-                Reply {
-                    numbers,
-                    slices,
-                    spilled,
-                }
+                let slices = [&mut counts, &mut ends, &mut inc].map(|lent| lent.slice().to_vec()).to_vec();
+                Reply { numbers, slices, spilled }
             }
         }
     }
@@ -261,22 +239,11 @@ impl<L: AsRef<Raw>> Display for Question<L> {
             Question::NextEvent(at, count, place) => write!(f, "{at} {count} {place}"),
             Question::Test(_, cell) => write!(f, "{}", cell.as_ref()),
             Question::Change { cell, flag, r } => write!(f, "{} {} {r}", cell.as_ref(), List(flag)),
-            Question::Search {
-                cell,
-                first,
-                mask,
-                table,
-                orientations,
-            } => {
+            Question::Search { cell, first, mask, table, orientations } => {
                 write!(f, "{} {} {mask} {table} {orientations}", cell.as_ref(), List(first))
             }
             Question::Events { cell, first, mask } => write!(f, "{} {} {mask}", cell.as_ref(), List(first)),
-            Question::Product {
-                p,
-                q,
-                room: [counts, ends, inc],
-                ..
-            } => {
+            Question::Product { p, q, room: [counts, ends, inc], .. } => {
                 write!(f, "{} {} {counts} {ends} {inc}", p.as_ref(), q.as_ref())
             }
         }
@@ -321,11 +288,7 @@ impl<'a> Words<'a> {
     }
 
     fn raw(&mut self) -> Option<Raw> {
-        Some(Raw {
-            counts: self.list()?,
-            ends: self.list()?,
-            inc: self.list()?,
-        })
+        Some(Raw { counts: self.list()?, ends: self.list()?, inc: self.list()? })
     }
 }
 
@@ -348,11 +311,7 @@ impl Question<Raw> {
             "class" => Question::Class(words.number()?),
             "sign" => Question::Sign(words.number()?),
             "next_event" => Question::NextEvent(words.number()?, words.number()?, words.number()?),
-            "change" => Question::Change {
-                cell: words.raw()?,
-                flag: words.list()?,
-                r: words.number()?,
-            },
+            "change" => Question::Change { cell: words.raw()?, flag: words.list()?, r: words.number()? },
             "search" => Question::Search {
                 cell: words.raw()?,
                 first: words.list()?,
@@ -360,15 +319,8 @@ impl Question<Raw> {
                 table: words.number()?,
                 orientations: words.number()?,
             },
-            "events" => Question::Events {
-                cell: words.raw()?,
-                first: words.list()?,
-                mask: words.number()?,
-            },
-            _ => match (
-                Test::ALL.iter().find(|t| t.name() == name),
-                Kind::ALL.iter().find(|k| k.name() == name),
-            ) {
+            "events" => Question::Events { cell: words.raw()?, first: words.list()?, mask: words.number()? },
+            _ => match (Test::ALL.iter().find(|t| t.name() == name), Kind::ALL.iter().find(|k| k.name() == name)) {
                 (Some(test), _) => Question::Test(*test, words.raw()?),
                 (_, Some(kind)) => Question::Product {
                     kind: *kind,
@@ -412,29 +364,10 @@ mod tests {
             Question::ElCount(vec![1, 2, 1], 1),
             Question::NextEvent(0, 3, 2),
             Question::Test(Test::Closed, cell()),
-            Question::Change {
-                cell: cell(),
-                flag: vec![0; 4],
-                r: 1,
-            },
-            Question::Search {
-                cell: cell(),
-                first: vec![0; 4],
-                mask: 6,
-                table: 25,
-                orientations: 7,
-            },
-            Question::Events {
-                cell: cell(),
-                first: vec![0; 4],
-                mask: 6,
-            },
-            Question::Product {
-                kind: Kind::Duoprism,
-                p: cell(),
-                q: Raw::default(),
-                room: [0, 1, 2],
-            },
+            Question::Change { cell: cell(), flag: vec![0; 4], r: 1 },
+            Question::Search { cell: cell(), first: vec![0; 4], mask: 6, table: 25, orientations: 7 },
+            Question::Events { cell: cell(), first: vec![0; 4], mask: 6 },
+            Question::Product { kind: Kind::Duoprism, p: cell(), q: Raw::default(), room: [0, 1, 2] },
         ];
         for question in questions {
             let text = question.to_string();

@@ -23,11 +23,7 @@ pub fn written(lists: &Lists) -> Raw {
 /// The lists of slices of the right shape.
 fn lists(raw: &Raw) -> Lists {
     let element = |r: usize, i: u16| [0, 1].map(|side| plain::list(raw, r, i.into(), side).to_vec());
-    raw.counts
-        .iter()
-        .enumerate()
-        .map(|(r, &count)| (0..count).map(|i| element(r, i)).collect())
-        .collect()
+    raw.counts.iter().enumerate().map(|(r, &count)| (0..count).map(|i| element(r, i)).collect()).collect()
 }
 
 /// The slices with one thing changed in them.
@@ -87,10 +83,7 @@ fn damage_lists(lists: &mut Lists, random: &mut Random) {
                 false => list.retain(|&y| y != x),
             };
             over(list, x);
-            if let Some(other) = back
-                .and_then(|r| lists.get_mut(r))
-                .and_then(|rank| rank.get_mut(usize::from(x)))
-            {
+            if let Some(other) = back.and_then(|r| lists.get_mut(r)).and_then(|rank| rank.get_mut(usize::from(x))) {
                 over(&mut other[1 - side], i as u16);
             }
         }
@@ -107,9 +100,7 @@ fn damage_lists(lists: &mut Lists, random: &mut Random) {
             for (side, list) in copy.iter().enumerate() {
                 let back = if side == 0 { r.checked_sub(1) } else { Some(r + 1) };
                 for &x in list {
-                    let other = back
-                        .and_then(|r| lists.get_mut(r))
-                        .and_then(|rank| rank.get_mut(usize::from(x)));
+                    let other = back.and_then(|r| lists.get_mut(r)).and_then(|rank| rank.get_mut(usize::from(x)));
                     other.into_iter().for_each(|other| other[1 - side].push(new));
                 }
             }

@@ -2,13 +2,14 @@
 
 use std::iter;
 
-use flumedrac::trial::{cells, Kind, Question, Random, Raw, Test};
+use flumedrac::trial::{cells, Kind, Question, Random, Raw, Reply, Test};
 use flumedrac::{Listing, MAX_ELEMENTS, MAX_FLAGS, MAX_INCIDENCES, MAX_RANKS};
 
 use crate::damage::{damaged, written, Lists};
-use crate::judge::Subject;
-use crate::run::{Go, Run};
-use crate::{oracle, plain};
+use crate::judge::{judge, Subject};
+use crate::oracle;
+use crate::run::{Caught, Go, Run};
+use crate::supply::{catalogue, factors, first_flag, listed_back, padded, related, sequences, special};
 
 /// How much is asked.
 #[derive(Clone, Copy)]
@@ -22,16 +23,8 @@ pub struct Scale {
 }
 
 impl Scale {
-    pub const FULL: Scale = Scale {
-        incidences: 6,
-        elements: 3,
-        rounds: 200_000,
-    };
-    pub const SMALL: Scale = Scale {
-        incidences: 4,
-        elements: 2,
-        rounds: 2_000,
-    };
+    pub const FULL: Scale = Scale { incidences: 6, elements: 3, rounds: 200_000 };
+    pub const SMALL: Scale = Scale { incidences: 4, elements: 2, rounds: 2_000 };
 }
 
 /// Everything, one part after another.
@@ -43,18 +36,15 @@ pub fn all(run: &mut Run<'_>, scale: Scale, seed: u64) -> Go {
     run.part("numbers, classes, events", numbers)?;
     run.part("counts", |run| counts(run, random))?;
     run.part("slices of every length around the limits", shapes)?;
+    run.part("random slices around the limits", |run| random_limits(run, random, scale.rounds / 200))?;
     run.part("all small slices", small_slices)?;
     run.part("all small listings", |run| small_listings(run, scale.incidences))?;
     run.part("all small relations", |run| small_relations(run, scale.elements))?;
     run.part("damaged cells", |run| damaged_cells(run, random, scale.rounds))?;
     run.part("random slices", |run| random_slices(run, random, scale.rounds))?;
-    run.part("closed cells: tests, changes, searches", |run| {
-        closed_cells(run, random)
-    })?;
+    run.part("closed cells: tests, changes, searches", |run| closed_cells(run, random))?;
     run.part("products of cells", |run| products(run, random))?;
-    run.part("products of random valid listings", |run| {
-        random_products(run, random, scale.rounds / 4)
-    })?;
+    run.part("products of random valid listings", |run| random_products(run, random, scale.rounds / 4))?;
     run.part("products and searches at the limits", limits)
 }
 
@@ -66,22 +56,9 @@ fn listings_to_try(run: &mut Run<'_>) -> Go {
     for cell in [nullitope, point, dyad, triangle, hemicube] {
         tests(run, cell)?;
     }
-    tests(run, &Raw::default().into())?;
-    tests(
-        run,
-        &Raw {
-            counts: vec![2, 1],
-            ends: vec![0; 6],
-            inc: vec![],
-        }
-        .into(),
-    )?;
     for cell in special() {
         tests(run, &cell.into())?;
     }
-    let mut struck = cells::polygon(3).into();
-    strike(&mut struck, 5);
-    tests(run, &struck.into())?;
     for (kind, p, q) in [
         (Kind::Duoprism, dyad, dyad),
         (Kind::Duopyramid, dyad, point),
@@ -97,114 +74,27 @@ fn listings_to_try(run: &mut Run<'_>) -> Go {
         room_for_product(run, kind, p, q)?;
     }
     for r in [1, 2] {
-        run.ask(Question::Change {
-            cell: triangle,
-            flag: vec![0; 4],
-            r,
-        })?;
+        run.ask(Question::Change { cell: triangle, flag: vec![0; 4], r })?;
     }
     for (table, orientations) in [(24, 6), (20, 5), (25, 6)] {
-        run.ask(Question::Search {
-            cell: triangle,
-            first: vec![0; 4],
-            mask: 6,
-            table,
-            orientations,
-        })?;
+        run.ask(Question::Search { cell: triangle, first: vec![0; 4], mask: 6, table, orientations })?;
     }
     // Not orientable; the event comes after all flags of the hemicube, and earlier on the Klein bottles.
     let kleins = &[cells::grid(2, 2, true), cells::grid(2, 3, true)].map(Subject::from);
     for cell in [hemicube, &kleins[0], &kleins[1]] {
         let first = first_flag(cell.as_ref());
         let orientations = reached(cell, &first, 14);
-        run.ask(Question::Search {
-            cell,
-            first: first.clone(),
-            mask: 14,
-            table: 5 * orientations,
-            orientations,
-        })?;
+        run.ask(Question::Search { cell, first: first.clone(), mask: 14, table: 5 * orientations, orientations })?;
         run.ask(Question::Events { cell, first, mask: 14 })?;
     }
     Ok(())
-}
-
-/// Takes one number out of inc.
-fn strike(cell: &mut Raw, at: usize) {
-    cell.inc.remove(at);
-    cell.ends
-        .iter_mut()
-        .filter(|end| usize::from(**end) > at)
-        .for_each(|end| *end -= 1);
-}
-
-/// Listings that have one thing about them.
-pub fn special() -> Vec<Listing> {
-    let subs = cells::listing;
-    vec![
-        // Three vertices, one vertex, no vertices under the top.
-        subs(vec![vec![vec![]], vec![vec![0]; 3], vec![vec![0, 1, 2]]]),
-        subs(vec![vec![vec![]], vec![vec![0]], vec![vec![0]]]),
-        subs(vec![vec![vec![]], vec![], vec![vec![]]]),
-        // An edge whose only vertex it lists twice; a vertex that lists the minimal element twice.
-        subs(vec![vec![vec![]], vec![vec![0]], vec![vec![0, 0]]]),
-        subs(vec![vec![vec![]], vec![vec![0, 0]], vec![vec![0]]]),
-        // The dyad and the triangle with a list not in order.
-        subs(vec![vec![vec![]], vec![vec![0]; 2], vec![vec![1, 0]]]),
-        subs(vec![
-            vec![vec![]],
-            vec![vec![0]; 3],
-            vec![vec![0, 1], vec![0, 2], vec![2, 1]],
-            vec![vec![0, 1, 2]],
-        ]),
-        // An edge listed twice by the one face.
-        subs(vec![vec![vec![]], vec![vec![0]; 2], vec![vec![0, 1]], vec![vec![0, 0]]]),
-        // Two minimal elements; no maximal one; nothing at all.
-        subs(vec![vec![vec![], vec![]], vec![vec![0, 1]]]),
-        subs(vec![vec![vec![]], vec![]]),
-        subs(vec![vec![]]),
-        subs(vec![vec![], vec![], vec![]]),
-        // Two triangles under one top.
-        cells::product(Kind::Duocomb, &Listing::dyad(), &cells::polygon(3)),
-        cells::product(Kind::Duocomb, &Listing::dyad(), &Listing::dyad()),
-    ]
-}
-
-/// Closed cells, small ones first.
-pub fn catalogue() -> Vec<Listing> {
-    let (point, dyad) = (Listing::point(), Listing::dyad());
-    let hemicube = cells::hemicube();
-    let mut list = vec![Listing::nullitope(), point.clone(), dyad.clone()];
-    list.extend((2..=8).map(cells::polygon));
-    list.extend((3..=6).map(cells::digonal));
-    list.extend([4, 5].map(cells::simplex));
-    list.extend([cells::cuboid(3), cells::cuboid(4), cells::cross(3), cells::cross(4)]);
-    list.extend([cells::merged_cube(), hemicube.clone()]);
-    for (n, m) in [(2, 2), (2, 3), (3, 2), (3, 3), (2, 5)] {
-        list.extend([cells::grid(n, m, false), cells::grid(n, m, true)]);
-    }
-    let kinds = Kind::ALL.iter();
-    list.extend(
-        kinds
-            .clone()
-            .filter_map(|kind| cells::try_product(*kind, &hemicube, &point)),
-    );
-    list.extend(kinds.filter_map(|kind| cells::try_product(*kind, &hemicube, &dyad)));
-    list.push(cells::product(Kind::Duocomb, &cells::polygon(3), &cells::polygon(4)));
-    list.push(cells::product(Kind::Duoprism, &cells::polygon(3), &cells::polygon(5)));
-    list.push(cells::product(Kind::Duopyramid, &cells::polygon(4), &dyad));
-    list.push(cells::product(Kind::Duotegum, &cells::grid(2, 3, true), &dyad));
-    list.retain(|cell| Subject::from(cell.clone()).is_closed().is_ok_and(|(closed, _)| closed));
-    list
 }
 
 /// Enough room for any product.
 const ALL_ROOM: [usize; 3] = [MAX_RANKS, 2 * MAX_ELEMENTS, MAX_INCIDENCES];
 
 fn tests(run: &mut Run<'_>, cell: &Subject) -> Go {
-    Test::ALL
-        .iter()
-        .try_for_each(|&test| run.ask(Question::Test(test, cell)))
+    Test::ALL.iter().try_for_each(|&test| run.ask(Question::Test(test, cell)))
 }
 
 fn numbers(run: &mut Run<'_>) -> Go {
@@ -231,20 +121,7 @@ fn counts(run: &mut Run<'_>, random: &mut Random) -> Go {
     let large = [vec![65535; 3], vec![65535], vec![0, 65535], vec![65535, 0]];
     for counts in iter::once(vec![]).chain(small).chain(large).chain(long) {
         let n = counts.len();
-        for rank in [
-            0,
-            1,
-            2,
-            15,
-            16,
-            n.wrapping_sub(2),
-            n.wrapping_sub(1),
-            n,
-            n + 1,
-            65535,
-            65536,
-            usize::MAX,
-        ] {
+        for rank in [0, 1, 2, 15, 16, n.wrapping_sub(2), n.wrapping_sub(1), n, n + 1, 65535, 65536, usize::MAX] {
             run.ask(Question::ElCount(counts.clone(), rank))?;
         }
         run.ask(Question::Rank(counts.clone()))?;
@@ -254,30 +131,12 @@ fn counts(run: &mut Run<'_>, random: &mut Random) -> Go {
     Ok(())
 }
 
-/// Slices with these counts and so many zeros in inc, all of them in the last list.
-fn padded(counts: Vec<u16>, incidences: usize) -> Raw {
-    let elements: usize = counts.iter().map(|&count| usize::from(count)).sum();
-    let mut ends = vec![0; 2 * elements];
-    if let Some(last) = ends.last_mut() {
-        *last = incidences as u16;
-    }
-    Raw {
-        counts,
-        ends,
-        inc: vec![0; incidences],
-    }
-}
-
 /// A listing whose shape is at a limit, or past it: all that can be asked of it.
 fn everything(run: &mut Run<'_>, raw: Raw) -> Go {
     let cell = &Subject::from(raw);
     let nullitope = &Subject::from(Listing::nullitope());
     tests(run, cell)?;
-    run.ask(Question::Change {
-        cell,
-        flag: vec![0; cell.as_ref().counts.len()],
-        r: 1,
-    })?;
+    run.ask(Question::Change { cell, flag: vec![0; cell.as_ref().counts.len()], r: 1 })?;
     run.ask(Question::Search {
         cell,
         first: vec![0; cell.as_ref().counts.len()],
@@ -286,18 +145,8 @@ fn everything(run: &mut Run<'_>, raw: Raw) -> Go {
         orientations: 9,
     })?;
     for kind in Kind::ALL {
-        run.ask(Question::Product {
-            kind,
-            p: cell,
-            q: nullitope,
-            room: ALL_ROOM,
-        })?;
-        run.ask(Question::Product {
-            kind,
-            p: nullitope,
-            q: cell,
-            room: ALL_ROOM,
-        })?;
+        run.ask(Question::Product { kind, p: cell, q: nullitope, room: ALL_ROOM })?;
+        run.ask(Question::Product { kind, p: nullitope, q: cell, room: ALL_ROOM })?;
     }
     Ok(())
 }
@@ -321,11 +170,7 @@ fn shapes(run: &mut Run<'_>) -> Go {
     ];
     let elements = elements.map(|counts| match counts.iter().map(|&n| u32::from(n)).sum::<u32>() {
         ..=5000 => padded(counts, 0),
-        wrapped => Raw {
-            counts,
-            ends: vec![0; 2 * (wrapped % 65536) as usize],
-            inc: vec![],
-        },
+        wrapped => Raw { counts, ends: vec![0; 2 * (wrapped % 65536) as usize], inc: vec![] },
     });
     let incidences = [32_767, 32_768, 32_769, 40_000, 65_535, 65_536, 65_537, 70_000];
     let incidences = incidences.map(|n| padded(vec![1, 1], n));
@@ -347,51 +192,38 @@ fn shapes(run: &mut Run<'_>) -> Go {
         }
     }
     // The last end and the length of inc apart from each other.
-    everything(
-        run,
-        Raw {
-            counts: vec![1],
-            ends: vec![0, 40_000],
-            inc: vec![0; 10],
-        },
-    )?;
-    everything(
-        run,
-        Raw {
-            counts: vec![1],
-            ends: vec![0, 10],
-            inc: vec![0; 40_000],
-        },
-    )
+    everything(run, Raw { counts: vec![1], ends: vec![0, 40_000], inc: vec![0; 10] })?;
+    everything(run, Raw { counts: vec![1], ends: vec![0, 10], inc: vec![0; 40_000] })
 }
 
-/// All sequences of up to so many numbers below `values`, the shortest first.
-fn sequences(longest: usize, values: u16) -> Vec<Vec<u16>> {
-    let mut all = vec![vec![]];
-    let mut last: Vec<Vec<u16>> = all.clone();
-    for _ in 0..longest {
-        last = last
-            .iter()
-            .flat_map(|start| (0..values).map(|x| [start.as_slice(), &[x]].concat()))
-            .collect();
-        all.extend_from_slice(&last);
+/// Slices whose ranks, elements, ends and incidences are each near a limit, or not, and hold any numbers.
+fn random_limits(run: &mut Run<'_>, random: &mut Random, rounds: usize) -> Go {
+    for _ in 0..rounds {
+        let ranks = *random.pick(&[1, 2, 3, 15, 16, 17]);
+        let elements = *random.pick(&[0, 1, 5, 40, 4095, 4096, 4097]);
+        let incidences = *random.pick(&[0, 1, 7, 100, 32_767, 32_768, 32_769]);
+        // The elements fall into the ranks, and the incidences into the lists, as they come.
+        let mut counts = vec![0; ranks];
+        (0..elements).for_each(|_| counts[random.below(ranks)] += 1);
+        let length = (2 * elements + random.below(3)).saturating_sub(usize::from(!random.once_in(3)));
+        let length = if random.once_in(2) { 2 * elements } else { length };
+        let mut ends: Vec<u16> = (0..length).map(|_| random.below(incidences + 1) as u16).collect();
+        ends.sort_unstable();
+        if let (Some(last), true) = (ends.last_mut(), !random.once_in(4)) {
+            *last = incidences as u16;
+        }
+        let largest = *random.pick(&[1, 2, 5000, 65_536]);
+        let inc = (0..incidences).map(|_| random.below(largest) as u16).collect();
+        tests(run, &Raw { counts, ends, inc }.into())?;
     }
-    all
+    Ok(())
 }
 
 fn small_slices(run: &mut Run<'_>) -> Go {
     for counts in sequences(2, 3) {
         for ends in sequences(5, 3) {
             for inc in sequences(2, 2) {
-                tests(
-                    run,
-                    &Raw {
-                        counts: counts.clone(),
-                        ends: ends.clone(),
-                        inc,
-                    }
-                    .into(),
-                )?;
+                tests(run, &Raw { counts: counts.clone(), ends: ends.clone(), inc }.into())?;
             }
         }
     }
@@ -400,9 +232,7 @@ fn small_slices(run: &mut Run<'_>) -> Go {
 
 /// Every listing of the right shape with at most three elements in at most four ranks and so many incidences.
 fn small_listings(run: &mut Run<'_>, incidences: usize) -> Go {
-    let counts = sequences(4, 4)
-        .into_iter()
-        .filter(|counts| !counts.is_empty() && counts.iter().sum::<u16>() <= 3);
+    let counts = sequences(4, 4).into_iter().filter(|counts| !counts.is_empty() && counts.iter().sum::<u16>() <= 3);
     let ends = sequences(6, incidences as u16 + 1);
     let values = |n: usize| if n <= 4 { 3 } else { 2 };
     for counts in counts {
@@ -414,15 +244,7 @@ fn small_listings(run: &mut Run<'_>, incidences: usize) -> Go {
                 continue;
             }
             for inc in sequences(n, values(n)).into_iter().filter(|inc| inc.len() == n) {
-                tests(
-                    run,
-                    &Raw {
-                        counts: counts.clone(),
-                        ends: ends.clone(),
-                        inc,
-                    }
-                    .into(),
-                )?;
+                tests(run, &Raw { counts: counts.clone(), ends: ends.clone(), inc }.into())?;
             }
         }
     }
@@ -431,11 +253,7 @@ fn small_listings(run: &mut Run<'_>, incidences: usize) -> Go {
 
 /// Every incidence of so many vertices, edges and faces, sups as they follow from subs; the ends have all there is.
 fn small_relations(run: &mut Run<'_>, most: usize) -> Go {
-    let sizes = |depth: usize| {
-        sequences(depth, most as u16 + 1)
-            .into_iter()
-            .filter(|sizes| !sizes.contains(&0))
-    };
+    let sizes = |depth: usize| sequences(depth, most as u16 + 1).into_iter().filter(|sizes| !sizes.contains(&0));
     let factors = [Listing::nullitope(), Listing::point(), Listing::dyad()].map(Subject::from);
     for sizes in sizes(3) {
         let bits: u16 = sizes.windows(2).map(|two| two[0] * two[1]).sum();
@@ -446,34 +264,17 @@ fn small_relations(run: &mut Run<'_>, most: usize) -> Go {
             let cell = Subject::from(related(&sizes, relation));
             tests(run, &cell)?;
             if cell.is_valid().is_ok_and(|(valid, _)| valid) {
-                for (kind, factor) in Kind::ALL
-                    .iter()
-                    .flat_map(|&kind| factors.iter().map(move |q| (kind, q)))
-                {
+                for (kind, factor) in Kind::ALL.iter().flat_map(|&kind| factors.iter().map(move |q| (kind, q))) {
                     let room = [16, 200, 2000];
-                    run.ask(Question::Product {
-                        kind,
-                        p: &cell,
-                        q: factor,
-                        room,
-                    })?;
-                    run.ask(Question::Product {
-                        kind,
-                        p: factor,
-                        q: &cell,
-                        room,
-                    })?;
+                    run.ask(Question::Product { kind, p: &cell, q: factor, room })?;
+                    run.ask(Question::Product { kind, p: factor, q: &cell, room })?;
                 }
             }
             if cell.is_closed().is_ok_and(|(closed, _)| closed) {
                 let known = related(&sizes, relation);
                 for first in cells::flags(&known, 20) {
                     for mask in 0..1 << cell.rank() {
-                        run.ask(Question::Events {
-                            cell: &cell,
-                            first: first.clone(),
-                            mask,
-                        })?;
+                        run.ask(Question::Events { cell: &cell, first: first.clone(), mask })?;
                     }
                 }
             }
@@ -482,39 +283,13 @@ fn small_relations(run: &mut Run<'_>, most: usize) -> Go {
     Ok(())
 }
 
-/// Ranks of these sizes between the ends; each bit of the relation is an incidence.
-fn related(sizes: &[u16], mut relation: u32) -> Listing {
-    let mut bit = || {
-        relation = relation.rotate_right(1);
-        relation >> 31 == 1
-    };
-    let mut subs = vec![vec![vec![]]];
-    for (r, &size) in sizes.iter().enumerate() {
-        let under = if r == 0 { 1 } else { sizes[r - 1] };
-        let mut element = || (0..under).filter(|_| r == 0 || bit()).collect();
-        subs.push((0..size).map(|_| element()).collect());
-    }
-    subs.push(vec![(0..sizes.last().map_or(1, |&size| size)).collect()]);
-    cells::listing(subs)
-}
-
 fn closed_cells(run: &mut Run<'_>, random: &mut Random) -> Go {
-    for listing in special() {
-        let cell = &Subject::from(listing);
+    for raw in special() {
+        let cell = &Subject::from(raw);
         tests(run, cell)?;
         let first = vec![0; cell.as_ref().counts.len()];
-        run.ask(Question::Change {
-            cell,
-            flag: first.clone(),
-            r: 1,
-        })?;
-        run.ask(Question::Search {
-            cell,
-            first,
-            mask: 2,
-            table: 40,
-            orientations: 10,
-        })?;
+        run.ask(Question::Change { cell, flag: first.clone(), r: 1 })?;
+        run.ask(Question::Search { cell, first, mask: 2, table: 40, orientations: 10 })?;
     }
     for listing in catalogue() {
         let flags = cells::flags(&listing, 400);
@@ -522,11 +297,7 @@ fn closed_cells(run: &mut Run<'_>, random: &mut Random) -> Go {
         tests(run, cell)?;
         for flag in &flags {
             for r in (0..=cell.rank() as u16 + 1).chain([15, 16, 65535]) {
-                run.ask(Question::Change {
-                    cell,
-                    flag: flag.clone(),
-                    r,
-                })?;
+                run.ask(Question::Change { cell, flag: flag.clone(), r })?;
             }
         }
         for _ in 0..12 {
@@ -546,30 +317,12 @@ fn no_flags(run: &mut Run<'_>, cell: &Subject, flag: &[u16], random: &mut Random
     let mut missing = flag.to_vec();
     missing[at] = *random.pick(&[cell.as_ref().counts[at], 65535]);
     let longer = |n: usize| [flag, &vec![0; n]].concat();
-    for flag in [
-        other,
-        missing,
-        flag[1..].to_vec(),
-        flag[..at].to_vec(),
-        longer(1),
-        longer(17),
-        longer(70_000),
-    ] {
+    for flag in [other, missing, flag[1..].to_vec(), flag[..at].to_vec(), longer(1), longer(17), longer(70_000)] {
         for r in [0, 1, 2, 16] {
-            run.ask(Question::Change {
-                cell,
-                flag: flag.clone(),
-                r,
-            })?;
+            run.ask(Question::Change { cell, flag: flag.clone(), r })?;
         }
         for mask in [0, 1, 2, 6, 1 << 15] {
-            run.ask(Question::Search {
-                cell,
-                first: flag.clone(),
-                mask,
-                table: 300,
-                orientations: 30,
-            })?;
+            run.ask(Question::Search { cell, first: flag.clone(), mask, table: 300, orientations: 30 })?;
         }
     }
     Ok(())
@@ -581,15 +334,8 @@ fn searches(run: &mut Run<'_>, cell: &Subject, first: &[u16], random: &mut Rando
     let all: u16 = (1..cell.rank()).map(|r| 1 << r).sum();
     let masks = if width <= 5 { 0..1 << width } else { 0..0 };
     let drawn: Vec<u16> = (0..12).map(|_| all & random.below(65536) as u16).collect();
-    for mask in masks
-        .chain(drawn)
-        .chain([all, all | 1, all | 1 << cell.rank(), 1 << 15, 65535])
-    {
-        run.ask(Question::Events {
-            cell,
-            first: first.to_vec(),
-            mask,
-        })?;
+    for mask in masks.chain(drawn).chain([all, all | 1, all | 1 << cell.rank(), 1 << 15, 65535]) {
+        run.ask(Question::Events { cell, first: first.to_vec(), mask })?;
         let found = reached(cell, first, mask);
         let whole = found * width;
         let rooms = [
@@ -604,39 +350,17 @@ fn searches(run: &mut Run<'_>, cell: &Subject, first: &[u16], random: &mut Rando
             (whole, 0),
         ];
         for (table, orientations) in rooms {
-            run.ask(Question::Search {
-                cell,
-                first: first.to_vec(),
-                mask,
-                table,
-                orientations,
-            })?;
+            run.ask(Question::Search { cell, first: first.to_vec(), mask, table, orientations })?;
         }
     }
     Ok(())
 }
 
-/// How many flags a search finds, if nothing refuses it; else some number.
+/// How many flags a search finds, if nothing refuses it; else 1.
 fn reached(cell: &Subject, first: &[u16], mask: u16) -> usize {
-    let question = Question::Events {
-        cell,
-        first: first.to_vec(),
-        mask,
-    };
-    let flags = |reply: flumedrac::trial::Reply| reply.slices.iter().filter(|event| !event.is_empty()).count();
-    crate::judge::judge(&question)
-        .map_or(0, |(reply, _)| flags(reply))
-        .max(3)
-}
-
-/// Factors: closed cells, valid ones that are not closed, and some that are not valid.
-fn factors() -> Vec<Subject> {
-    let mut list = catalogue();
-    list.truncate(22);
-    list.extend(special());
-    list.push(cells::digonal(8));
-    list.push(cells::digonal(15));
-    list.into_iter().map(Subject::from).collect()
+    let question = Question::Events { cell, first: first.to_vec(), mask };
+    let flags = |reply: Reply| reply.slices.iter().filter(|event| !event.is_empty()).count();
+    judge(&question).map_or(0, |(reply, _)| flags(reply)).max(1)
 }
 
 fn products(run: &mut Run<'_>, random: &mut Random) -> Go {
@@ -659,36 +383,18 @@ fn products(run: &mut Run<'_>, random: &mut Random) -> Go {
             let first = first_flag(cell.as_ref());
             let all = (1..cell.rank()).map(|r| 1 << r).sum();
             for mask in [all, all & random.below(65536) as u16] {
-                run.ask(Question::Events {
-                    cell,
-                    first: first.clone(),
-                    mask,
-                })?;
+                run.ask(Question::Events { cell, first: first.clone(), mask })?;
             }
         }
     }
     Ok(())
 }
 
-/// The flag of first subs of a closed listing.
-fn first_flag(cell: &Raw) -> Vec<u16> {
-    let mut flag = vec![0; cell.counts.len()];
-    for r in (1..flag.len()).rev() {
-        flag[r - 1] = plain::list(cell, r, flag[r].into(), 0)[0];
-    }
-    flag
-}
-
 /// A product with all room, and if it is answered with exactly its room, one number less of each, none, and one more.
-fn room_for_product(
-    run: &mut Run<'_>,
-    kind: Kind,
-    p: &Subject,
-    q: &Subject,
-) -> Result<Option<Raw>, crate::run::Caught> {
+fn room_for_product(run: &mut Run<'_>, kind: Kind, p: &Subject, q: &Subject) -> Result<Option<Raw>, Caught> {
     let ask = |room| Question::Product { kind, p, q, room };
     run.ask(ask(ALL_ROOM))?;
-    let Ok((reply, _)) = crate::judge::judge(&ask(ALL_ROOM)) else {
+    let Ok((reply, _)) = judge(&ask(ALL_ROOM)) else {
         return Ok(None);
     };
     if reply.numbers[0] != 0 {
@@ -713,11 +419,7 @@ fn room_for_product(
 fn limits(run: &mut Run<'_>) -> Go {
     // An edge that lists its only vertex k times: 1 + k subs in all.
     let star = |k: usize| {
-        let lists: Lists = vec![
-            vec![[vec![], vec![0]]],
-            vec![[vec![0], vec![0]]],
-            vec![[vec![0; k], vec![]]],
-        ];
+        let lists: Lists = vec![vec![[vec![], vec![0]]], vec![[vec![0], vec![0]]], vec![[vec![0; k], vec![]]]];
         Subject::from(written(&lists))
     };
     let [nullitope, point, dyad] = [Listing::nullitope(), Listing::point(), Listing::dyad()].map(Subject::from);
@@ -750,7 +452,15 @@ fn limits(run: &mut Run<'_>) -> Go {
         (star(5_461), Listing::point().into()),
         (star(5_460), Listing::point().into()),
         (star(8_190), Listing::point().into()),
+        (star(16_383), Listing::point().into()),
+        (star(16_384), Listing::point().into()),
         (star(3_000), star(100)),
+        (cells::cuboid(3).into(), cells::grid(5, 7, false).into()),
+        (cells::cross(3).into(), cells::grid(5, 7, false).into()),
+        (digonal(8), cells::grid(4, 17, false).into()),
+        (polygon(33), cells::simplex(6).into()),
+        (cells::simplex(6).into(), cells::simplex(6).into()),
+        (cells::simplex(5).into(), cells::simplex(7).into()),
     ];
     for (p, q) in &pairs {
         tests(run, p)?;
@@ -761,13 +471,7 @@ fn limits(run: &mut Run<'_>) -> Go {
         }
     }
     let prism = |n, m| cells::product(Kind::Duoprism, &cells::polygon(n), &cells::polygon(m));
-    let large = [
-        cells::digonal(15),
-        prism(22, 31),
-        prism(22, 32),
-        cells::polygon(2047),
-        cells::simplex(7),
-    ];
+    let large = [cells::digonal(15), prism(22, 31), prism(22, 32), cells::polygon(2047), cells::simplex(7)];
     for listing in large {
         let cell = &Subject::from(listing);
         let first = first_flag(cell.as_ref());
@@ -775,86 +479,46 @@ fn limits(run: &mut Run<'_>) -> Go {
         let all: u16 = (1..cell.rank()).map(|r| 1 << r).sum();
         tests(run, cell)?;
         for mask in [all, all & !2, all & 0x5555] {
-            run.ask(Question::Events {
-                cell,
-                first: first.clone(),
-                mask,
-            })?;
+            run.ask(Question::Events { cell, first: first.clone(), mask })?;
         }
         for flags in [MAX_FLAGS + 5, MAX_FLAGS, MAX_FLAGS - 1, 16_368, 16_367, 5039, 5040] {
             let (table, orientations) = (flags * width, flags);
-            run.ask(Question::Search {
-                cell,
-                first: first.clone(),
-                mask: all,
-                table,
-                orientations,
-            })?;
+            run.ask(Question::Search { cell, first: first.clone(), mask: all, table, orientations })?;
         }
     }
     Ok(())
 }
 
 fn damaged_cells(run: &mut Run<'_>, random: &mut Random, rounds: usize) -> Go {
-    let mut bases: Vec<Listing> = catalogue().into_iter().chain(special()).collect();
-    bases.retain(|cell| cell.slices().inc.len() < 500);
-    let partners = [
-        Listing::nullitope(),
-        Listing::point(),
-        Listing::dyad(),
-        cells::polygon(3),
-    ]
-    .map(Subject::from);
+    let mut bases: Vec<Raw> = catalogue().into_iter().map(Raw::from).chain(special()).collect();
+    bases.retain(|base| base.inc.len() < 500);
+    let partners = [Listing::nullitope(), Listing::point(), Listing::dyad(), cells::polygon(3)].map(Subject::from);
     for _ in 0..rounds {
-        let base: Raw = random.pick(&bases).clone().into();
+        let base = random.pick(&bases);
         let mut raw = base.clone();
         for _ in 0..=random.below(3) {
             raw = damaged(&raw, random);
         }
         let cell = &Subject::from(raw);
         tests(run, cell)?;
-        let flag: Vec<u16> = base
-            .counts
-            .iter()
-            .map(|&count| random.below(count.into()) as u16)
-            .collect();
+        let flag: Vec<u16> = base.counts.iter().map(|&count| random.below(count.into()) as u16).collect();
         if random.once_in(4) {
             let r = random.below(6) as u16;
-            run.ask(Question::Change {
-                cell,
-                flag: flag.clone(),
-                r,
-            })?;
+            run.ask(Question::Change { cell, flag: flag.clone(), r })?;
             let (mask, table) = (random.below(16) as u16 * 2, random.below(200));
-            run.ask(Question::Search {
-                cell,
-                first: flag,
-                mask,
-                table,
-                orientations: random.below(40),
-            })?;
+            run.ask(Question::Search { cell, first: flag, mask, table, orientations: random.below(40) })?;
         }
         if random.once_in(4) {
             let partner = random.pick(&partners);
-            let (p, q) = if random.once_in(2) {
-                (cell, partner)
-            } else {
-                (partner, cell)
-            };
+            let (p, q) = if random.once_in(2) { (cell, partner) } else { (partner, cell) };
             let room = [random.below(8) + 1, 600, 3000];
-            run.ask(Question::Product {
-                kind: *random.pick(&Kind::ALL),
-                p,
-                q,
-                room,
-            })?;
+            run.ask(Question::Product { kind: *random.pick(&Kind::ALL), p, q, room })?;
         }
     }
     Ok(())
 }
 
 fn random_slices(run: &mut Run<'_>, random: &mut Random, rounds: usize) -> Go {
-    let ask = |run: &mut Run<'_>, raw: Raw| tests(run, &raw.into());
     for _ in 0..rounds {
         let ranks = random.below(5);
         let counts: Vec<u16> = (0..ranks).map(|_| random.below(4) as u16).collect();
@@ -868,26 +532,10 @@ fn random_slices(run: &mut Run<'_>, random: &mut Random, rounds: usize) -> Go {
         if random.once_in(3) {
             raw = damaged(&raw, random);
         }
-        ask(run, raw)?;
-
-        ask(run, listed_back(random))?;
+        tests(run, &raw.into())?;
+        tests(run, &listed_back(random).into())?;
     }
     Ok(())
-}
-
-/// Random lists that are listed back, with repeats and in any order.
-fn listed_back(random: &mut Random) -> Raw {
-    let counts: Vec<usize> = (0..=random.below(4)).map(|_| random.below(3) + 1).collect();
-    let mut lists: Lists = counts.iter().map(|&count| vec![[vec![], vec![]]; count]).collect();
-    for _ in 0..random.below(30) {
-        let r = random.below(counts.len());
-        if r > 0 {
-            let (i, x) = (random.below(counts[r]), random.below(counts[r - 1]));
-            lists[r][i][0].push(x as u16);
-            lists[r - 1][x][1].push(i as u16);
-        }
-    }
-    written(&lists)
 }
 
 /// Valid listings of all sorts, most of them not closed, and their products.
@@ -896,11 +544,7 @@ fn random_products(run: &mut Run<'_>, random: &mut Random, rounds: usize) -> Go 
     let mut valid = vec![];
     while oracle::PRESENT && valid.len() < 400 {
         let base = random.pick(&bases[..18]).clone();
-        let raw = if random.once_in(3) {
-            listed_back(random)
-        } else {
-            damaged(&base.into(), random)
-        };
+        let raw = if random.once_in(3) { listed_back(random) } else { damaged(&base.into(), random) };
         let cell = Subject::from(raw);
         if cell.is_valid().is_ok_and(|(valid, _)| valid) && cell.as_ref().inc.len() < 100 {
             valid.push(cell);
@@ -909,12 +553,7 @@ fn random_products(run: &mut Run<'_>, random: &mut Random, rounds: usize) -> Go 
     for _ in 0..if valid.is_empty() { 0 } else { rounds } {
         let (p, q) = (random.pick(&valid), random.pick(&valid));
         let room = *random.pick(&[[8, 400, 2000], [12, 900, 8000], [4, 60, 300]]);
-        run.ask(Question::Product {
-            kind: *random.pick(&Kind::ALL),
-            p,
-            q,
-            room,
-        })?;
+        run.ask(Question::Product { kind: *random.pick(&Kind::ALL), p, q, room })?;
     }
     Ok(())
 }

@@ -51,13 +51,7 @@ impl<T: Into<Raw>> From<T> for Subject {
         let raw = raw.into();
         let shape = plain::shape(&raw);
         let cell = (shape == 0).then(|| Cell::new(&raw.counts, &raw.ends, &raw.inc));
-        Self {
-            raw,
-            shape,
-            cell,
-            valid: OnceCell::new(),
-            closed: OnceCell::new(),
-        }
+        Self { raw, shape, cell, valid: OnceCell::new(), closed: OnceCell::new() }
     }
 }
 
@@ -71,10 +65,7 @@ fn said<T>(answer: Option<T>) -> Result<T, Doubt> {
 }
 
 fn refusal(no: u16) -> Answer {
-    Answer {
-        no,
-        ..Answer::default()
-    }
+    Answer { no, ..Answer::default() }
 }
 
 impl Subject {
@@ -156,11 +147,7 @@ impl Subject {
     /// The Rust's events for a search that nothing refuses, with one flag more than the limit if there is one.
     fn events(&self, first: &[u16], ranks: &[usize], limit: usize) -> Result<Vec<Event>, Doubt> {
         let first: Vec<usize> = first.iter().map(|&x| x.into()).collect();
-        said(
-            self.cell
-                .as_ref()
-                .and_then(|cell| cell.events(&first, ranks, limit + 2)),
-        )
+        said(self.cell.as_ref().and_then(|cell| cell.events(&first, ranks, limit + 2)))
     }
 }
 
@@ -168,24 +155,19 @@ impl Subject {
 pub fn judge(question: &Question<&Subject>) -> Judged<Reply> {
     match question {
         Question::Rank(counts) => count(counts, Cell::rank, |counts| counts.len() - 1),
-        Question::ElCount(counts, rank) => count(
-            counts,
-            |cell| cell.el_count(*rank),
-            |counts| counts.get(*rank).map_or(0, |&n| n.into()),
-        ),
-        Question::VertexCount(counts) => count(counts, Cell::vertex_count, |counts| {
-            counts.get(1).map_or(0, |&n| n.into())
-        }),
+        Question::ElCount(counts, rank) => {
+            count(counts, |cell| cell.el_count(*rank), |counts| counts.get(*rank).map_or(0, |&n| n.into()))
+        }
+        Question::VertexCount(counts) => {
+            count(counts, Cell::vertex_count, |counts| counts.get(1).map_or(0, |&n| n.into()))
+        }
         Question::FacetCount(counts) => count(counts, Cell::facet_count, |counts| match counts {
             [.., facets, _] => (*facets).into(),
             _ => 0,
         }),
         Question::Class(no) => {
             let bands = [(1, 9), (10, 19), (20, 29), (30, 39)];
-            let class = bands
-                .iter()
-                .position(|&(from, to)| from <= *no && *no <= to)
-                .map_or(0, |band| band + 1);
+            let class = bands.iter().position(|&(from, to)| from <= *no && *no <= to).map_or(0, |band| band + 1);
             Ok((Reply::of(vec![class as i64]), By::Plain))
         }
         Question::Sign(byte) => {
@@ -201,13 +183,9 @@ pub fn judge(question: &Question<&Subject>) -> Judged<Reply> {
             Ok((Reply::of(answer_numbers(answer)), by))
         }
         Question::Change { cell, flag, r } => change(cell, flag, *r),
-        Question::Search {
-            cell,
-            first,
-            mask,
-            table,
-            orientations,
-        } => search(cell, first, *mask, *table, *orientations),
+        Question::Search { cell, first, mask, table, orientations } => {
+            search(cell, first, *mask, *table, *orientations)
+        }
         Question::Events { cell, first, mask } => events(cell, first, *mask),
         Question::Product { kind, p, q, room } => product(*kind, p, q, *room),
     }
@@ -249,14 +227,7 @@ fn change(cell: &Subject, flag: &[u16], r: u16) -> Judged<Reply> {
             *number = index as u16;
         }
     }
-    Ok((
-        Reply {
-            numbers: answer_numbers(answer),
-            slices: vec![record],
-            spilled: false,
-        },
-        by,
-    ))
+    Ok((Reply { numbers: answer_numbers(answer), slices: vec![record], spilled: false }, by))
 }
 
 fn search(cell: &Subject, first: &[u16], mask: u16, table: usize, orientations: usize) -> Judged<Reply> {
@@ -289,14 +260,7 @@ fn search(cell: &Subject, first: &[u16], mask: u16, table: usize, orientations: 
         }
     }
     let numbers = [answer_numbers(answer), found.to_vec()].concat();
-    Ok((
-        Reply {
-            numbers,
-            slices: vec![table, bytes],
-            spilled: false,
-        },
-        by,
-    ))
+    Ok((Reply { numbers, slices: vec![table, bytes], spilled: false }, by))
 }
 
 fn events(cell: &Subject, first: &[u16], mask: u16) -> Judged<Reply> {
@@ -315,28 +279,14 @@ fn events(cell: &Subject, first: &[u16], mask: u16) -> Judged<Reply> {
             (answer, by) = (refusal(22), By::Plain);
         }
     }
-    Ok((
-        Reply {
-            numbers: answer_numbers(answer),
-            slices,
-            spilled: false,
-        },
-        by,
-    ))
+    Ok((Reply { numbers: answer_numbers(answer), slices, spilled: false }, by))
 }
 
 fn product(kind: Kind, p: &Subject, q: &Subject, room: [usize; 3]) -> Judged<Reply> {
     let mut lent = room.map(|length| vec![FILL; length]);
     let refused = |no: u16| {
         let numbers = [answer_numbers(refusal(no)), vec![0; 3]].concat();
-        Ok((
-            Reply {
-                numbers,
-                slices: room.map(|length| vec![FILL; length]).to_vec(),
-                spilled: false,
-            },
-            By::Plain,
-        ))
+        Ok((Reply { numbers, slices: room.map(|length| vec![FILL; length]).to_vec(), spilled: false }, By::Plain))
     };
     if !p.is_valid()?.0 {
         return refused(30);
@@ -371,9 +321,7 @@ fn product(kind: Kind, p: &Subject, q: &Subject, room: [usize; 3]) -> Judged<Rep
     if (kind == Kind::Duopyramid || !ranks.contains(&0))
         && (built[1].len() / 2, built[2].len()) != plain::product_size(kind, &p.raw, &q.raw)
     {
-        return Err(Doubt::Oracle(
-            "the Rust's product has another size than its factors say",
-        ));
+        return Err(Doubt::Oracle("the Rust's product has another size than its factors say"));
     }
     if built.iter().zip(room).any(|(slice, length)| slice.len() > length) {
         return refused(36);
@@ -383,12 +331,5 @@ fn product(kind: Kind, p: &Subject, q: &Subject, room: [usize; 3]) -> Judged<Rep
     }
     let lengths = built.map(|slice| slice.len() as i64);
     let numbers = [answer_numbers(refusal(0)), lengths.to_vec()].concat();
-    Ok((
-        Reply {
-            numbers,
-            slices: lent.to_vec(),
-            spilled: false,
-        },
-        By::Rust,
-    ))
+    Ok((Reply { numbers, slices: lent.to_vec(), spilled: false }, By::Rust))
 }

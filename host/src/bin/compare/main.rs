@@ -1,12 +1,12 @@
 //! Compares the library with the Rust files, question by question.
 //!
-//!   compare [--model] [--break NAME] [--breaks] [--seed N] [--rounds N] [--small]
+//!   compare [--model | --break NAME | --breaks] [--seed N] [--rounds N] [--small] [--write-replay FILE]
 //!
 //! Without more, the archive is asked. --model asks the unproved model instead, to try this program; --break gives the
-//! model one fault, --breaks tries every fault in turn and fails if one is not caught. --rounds sets how many damaged and
-//! random listings are tried; --small asks less of everything. --write-replay FILE writes the replay list.
+//! model one fault; --breaks tries every fault in turn and fails if one is not caught. --rounds sets how many damaged
+//! and random listings are tried, --small asks less of everything. --write-replay writes the replay list.
 //!
-//! Status 0: no differences. 1: some. 2: nothing to ask, or nothing to compare with.
+//! Status 0: no differences. 1: some. 2: no archive to ask, or no Rust files to compare with.
 
 mod damage;
 mod inputs;
@@ -15,6 +15,7 @@ mod oracle;
 mod plain;
 mod replay;
 mod run;
+mod supply;
 mod tally;
 
 use std::process::ExitCode;
@@ -35,14 +36,7 @@ struct Options {
 }
 
 fn options() -> Result<Options, String> {
-    let mut options = Options {
-        model: false,
-        fault: None,
-        breaks: false,
-        seed: 1,
-        scale: Scale::FULL,
-        replay: None,
-    };
+    let mut options = Options { model: false, fault: None, breaks: false, seed: 1, scale: Scale::FULL, replay: None };
     let mut words = std::env::args().skip(1);
     while let Some(word) = words.next() {
         let mut value = || words.next().ok_or(format!("{word} wants a value"));
@@ -81,11 +75,7 @@ fn main() -> ExitCode {
         return breaks(options.seed);
     }
     match (options.fault, options.model) {
-        (Some(fault), _) => compare(
-            &Model::broken(fault),
-            &format!("the model with {}", fault.name()),
-            &options,
-        ),
+        (Some(fault), _) => compare(&Model::broken(fault), &format!("the model with {}", fault.name()), &options),
         (None, true) => compare(&Model::default(), "the model", &options),
         (None, false) => archive(&options),
     }
@@ -115,13 +105,11 @@ fn compare(library: &dyn Library, name: &str, options: &Options) -> ExitCode {
     let differences = run.tally.differences();
     println!("\n{rust} comparisons with the Rust, {plain} with plain conditions, {differences} differences");
     if run.tally.unjudged > 0 {
-        println!(
-            "{} questions could not be judged without the Rust files",
-            run.tally.unjudged
-        );
+        println!("{} questions could not be judged without the Rust files", run.tally.unjudged);
     }
     match run.tally.smallest() {
-        None => ExitCode::SUCCESS,
+        None if oracle::PRESENT => ExitCode::SUCCESS,
+        None => ExitCode::from(2),
         Some((kind, difference)) => {
             println!("\nThe smallest question that was answered otherwise ({kind}):");
             println!("  asked     {}", cut(&difference.question));

@@ -2,6 +2,9 @@
 
 #[cfg(oracle)]
 extern crate oracle_checked;
+
+#[cfg(not(oracle))]
+pub use absent::{sign, Answer, Cell, Event, Product};
 #[cfg(oracle)]
 pub use oracle_checked::{sign, Answer, Cell, Event, Product};
 
@@ -16,6 +19,7 @@ mod absent {
     #[derive(Clone)]
     pub struct Cell;
 
+    #[allow(dead_code)]
     pub enum Event {
         Flag(Vec<usize>, bool),
         NonOrientable,
@@ -28,8 +32,27 @@ mod absent {
         Duocomb,
     }
 
-    pub fn sign(_odd: bool) -> f64 {
-        0.0
+    macro_rules! unanswered {
+        ($($name:ident($($argument:ty),*) -> $answer:ty;)*) => {
+            impl Cell {
+                $(pub fn $name(&self, $(_: $argument),*) -> Option<$answer> {
+                    None
+                })*
+            }
+        };
+    }
+
+    unanswered! {
+        rank() -> usize;
+        el_count(usize) -> usize;
+        vertex_count() -> usize;
+        facet_count() -> usize;
+        bounded() -> Answer;
+        check_incidences() -> Answer;
+        is_dyadic() -> Answer;
+        is_valid() -> Answer;
+        change(&[usize], usize) -> Vec<usize>;
+        events(&[usize], &[usize], usize) -> Vec<Event>;
     }
 
     impl Cell {
@@ -49,51 +72,12 @@ mod absent {
             Default::default()
         }
 
-        pub fn rank(&self) -> Option<usize> {
-            None
-        }
-
-        pub fn el_count(&self, _rank: usize) -> Option<usize> {
-            None
-        }
-
-        pub fn vertex_count(&self) -> Option<usize> {
-            None
-        }
-
-        pub fn facet_count(&self) -> Option<usize> {
-            None
-        }
-
-        pub fn bounded(&self) -> Option<Answer> {
-            None
-        }
-
-        pub fn check_incidences(&self) -> Option<Answer> {
-            None
-        }
-
-        pub fn is_dyadic(&self) -> Option<Answer> {
-            None
-        }
-
-        pub fn is_valid(&self) -> Option<Answer> {
-            None
-        }
-
         pub fn product(_which: Product, _p: &Self, _q: &Self) -> Option<Self> {
             None
         }
+    }
 
-        pub fn change(&self, _flag: &[usize], _r: usize) -> Option<Vec<usize>> {
-            None
-        }
-
-        pub fn events(&self, _first: &[usize], _changes: &[usize], _limit: usize) -> Option<Vec<Event>> {
-            None
-        }
+    pub fn sign(_odd: bool) -> f64 {
+        0.0
     }
 }
-
-#[cfg(not(oracle))]
-pub use absent::{sign, Answer, Cell, Event, Product};

@@ -29,12 +29,7 @@ struct Drawn {
 
 impl Replay {
     pub fn new(seed: u64) -> Self {
-        Self {
-            random: Random::new(seed),
-            chosen: vec![],
-            choosing: false,
-            drawn: BTreeMap::new(),
-        }
+        Self { random: Random::new(seed), chosen: vec![], choosing: false, drawn: BTreeMap::new() }
     }
 
     /// A reply that was compared and is right.

@@ -25,12 +25,7 @@ pub struct Run<'a> {
 
 impl<'a> Run<'a> {
     pub fn new(library: &'a dyn Library, until_caught: bool) -> Self {
-        Self {
-            library,
-            until_caught,
-            tally: Tally::default(),
-            replay: None,
-        }
+        Self { library, until_caught, tally: Tally::default(), replay: None }
     }
 
     /// Asks, and compares.
@@ -41,18 +36,14 @@ impl<'a> Run<'a> {
         let (expected, reply) = match (judge(&question), reply) {
             (Ok((expected, by)), reply) => {
                 let with_number = !["class", "sign", "next_event"].contains(&kind);
-                self.tally
-                    .count(kind, if with_number { expected.numbers[0] } else { 0 }, by);
+                self.tally.count(kind, if with_number { expected.numbers[0] } else { 0 }, by);
                 if reply.as_ref().is_ok_and(|reply| *reply == expected) {
                     if let Some(replay) = &mut self.replay {
                         replay.offer(&question, &expected, by);
                     }
                     return Ok(());
                 }
-                (
-                    expected.to_string(),
-                    reply.map_or("a panic".to_string(), |reply| reply.to_string()),
-                )
+                (expected.to_string(), reply.map_or("a panic".to_string(), |reply| reply.to_string()))
             }
             (Err(Doubt::NoOracle), _) => {
                 self.tally.unjudged += 1;
@@ -60,14 +51,7 @@ impl<'a> Run<'a> {
             }
             (Err(Doubt::Oracle(what)), reply) => (what.to_string(), reply.map_or(String::new(), |r| r.to_string())),
         };
-        self.tally.differ(
-            kind,
-            Difference {
-                question: question.to_string(),
-                expected,
-                reply,
-            },
-        );
+        self.tally.differ(kind, Difference { question: question.to_string(), expected, reply });
         if self.until_caught {
             return Err(Caught);
         }

@@ -57,17 +57,12 @@ impl Tally {
 
     /// The smallest difference of all, with its kind.
     pub fn smallest(&self) -> Option<(&'static str, &Difference)> {
-        let of_kind = self
-            .differences
-            .iter()
-            .map(|(kind, (_, difference))| (*kind, difference));
+        let of_kind = self.differences.iter().map(|(kind, (_, difference))| (*kind, difference));
         of_kind.min_by_key(|(_, difference)| difference.question.len())
     }
 
     pub fn compared(&self) -> (u64, u64) {
-        self.counted
-            .values()
-            .fold((0, 0), |sum, counted| (sum.0 + counted.rust, sum.1 + counted.plain))
+        self.counted.values().fold((0, 0), |sum, counted| (sum.0 + counted.rust, sum.1 + counted.plain))
     }
 
     /// Two tables: by kind, and by refusal number.
