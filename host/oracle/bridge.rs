@@ -123,7 +123,8 @@ impl Cell {
         caught(|| answer(self.0.ranks().is_valid()))
     }
 
-    /// A product of two listings. A duocomb with a point and no nullitope is not asked: of two points it takes all memory.
+    /// A product of two listings. A duocomb with a point and no nullitope is not asked for: of two points it takes all
+    /// memory.
     pub fn product(which: Product, p: &Self, q: &Self) -> Option<Self> {
         let (p, q) = (&p.0, &q.0);
         caught(|| match which {

@@ -1,6 +1,6 @@
 //! The C boundary as `include/flumedrac.h` declares it. What the numbers mean stands there.
 //!
-//! The structures are also the answers of [`raw`](crate::raw), which calls these functions safely.
+//! The structures are also the answers of the module `raw`, which calls these functions safely.
 
 /// A refusal's number, 0 for none, and its fields.
 #[repr(C)]

@@ -2,8 +2,8 @@
 //!
 //!   bench [--model] [--runs N]
 //!
-//! Both sides are measured in turn, run after run, so that what else the machine does touches both. --model measures the
-//! unproved model instead of the archive, only to try this program.
+//! Both sides are measured in turn, run after run, so that what else the machine does touches both. --model measures
+//! the unproved model instead of the archive, only to try this program.
 
 use std::any::Any;
 use std::hint::black_box;
@@ -192,7 +192,8 @@ fn measure(rows: &mut [Row<'_>], runs: usize) {
 }
 
 fn head(first: &str) {
-    println!("| {first} | ours, median | ours, least | Rust, median | Rust, least | medians, Rust / ours | least, Rust / ours |");
+    let columns = ["ours, median", "ours, least", "Rust, median", "Rust, least", "ratio of medians", "ratio of least"];
+    println!("| {first} | {} |", columns.join(" | "));
     println!("|---|---:|---:|---:|---:|---:|---:|");
 }
 

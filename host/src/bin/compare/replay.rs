@@ -80,9 +80,9 @@ impl Replay {
 const HEAD: &str = "\
 # Answers of the Rust program, to be replayed: one question and its reply on each line.
 #
-# Made by 'cargo run --release --bin compare -- --model --small --seed SEED --write-replay replay.txt' in host/, from the
-# answers of the checked build of the Rust files (host/oracle). The first lines are the listings to try of the request;
-# the others are, for each function and each answer, the shortest questions and some drawn by lot.
+# Made in host/ by 'cargo run --release --bin compare -- --model --small --seed SEED --write-replay replay.txt', from
+# the answers of the checked build of the Rust files (host/oracle). The first lines are the listings to try of the
+# request; the others are, for each function and each answer, the shortest questions and some drawn by lot.
 #
 #   FUNCTION ARGUMENTS = NUMBERS SLICES
 #
@@ -95,8 +95,8 @@ const HEAD: &str = "\
 #   change                           listing flag r = no a b c d [the record of 16 numbers]
 #   search                           listing first mask table-length orientations-length
 #                                    = no a b c d count place orientable [table] [orientations]
-#   events                           listing first mask = no a b c d, then for each event [orientation flag..], or [] for
-#                                    'not orientable'
+#   events                           listing first mask = no a b c d, then for each event of the search
+#                                    [orientation flag..], or [] for 'not orientable'
 #   duopyramid, duoprism, duotegum, duocomb
 #                                    p q length length length = no a b c d counts ends inc [counts] [ends] [inc]
 # Lent slices hold 65535 everywhere before the call (orientations 255), and are given as they are afterwards, whole.

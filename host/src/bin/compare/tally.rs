@@ -55,10 +55,12 @@ impl Tally {
         self.differences.values().map(|(count, _)| count).sum()
     }
 
-    /// The smallest difference of all, with its kind.
-    pub fn smallest(&self) -> Option<(&'static str, &Difference)> {
+    /// The smallest difference of each kind, the smallest of all first.
+    pub fn smallest(&self) -> Vec<(&'static str, &Difference)> {
         let of_kind = self.differences.iter().map(|(kind, (_, difference))| (*kind, difference));
-        of_kind.min_by_key(|(_, difference)| difference.question.len())
+        let mut smallest: Vec<(&'static str, &Difference)> = of_kind.collect();
+        smallest.sort_by_key(|(_, difference)| difference.question.len());
+        smallest
     }
 
     pub fn compared(&self) -> (u64, u64) {
