@@ -1,0 +1,40 @@
+//! Finds the archive and the oracle and says so to the code, as `cfg(linked)` and `cfg(oracle)`.
+//!
+//! * The archive is `../target/staticlib/libflumedrac.a`, made by `rt staticlib flumedrac`, or the `libflumedrac.a` in
+//!   the folder that the environment variable FLUMEDRAC_LIB names.
+//! * The oracle is what `oracle/build.sh` makes in `target/oracle`.
+
+use std::env;
+use std::path::{Path, PathBuf};
+
+fn main() {
+    let here = PathBuf::from(env::var_os("CARGO_MANIFEST_DIR").expect("cargo says where the package is"));
+    println!("cargo::rustc-check-cfg=cfg(linked, oracle)");
+    println!("cargo::rerun-if-changed=build.rs");
+    println!("cargo::rerun-if-env-changed=FLUMEDRAC_LIB");
+
+    let named = env::var_os("FLUMEDRAC_LIB").map(PathBuf::from);
+    let wanted = named.is_some() || env::var_os("CARGO_FEATURE_LINKED").is_some();
+    let folder = named.unwrap_or(here.join("../target/staticlib"));
+    let archive = folder.join("libflumedrac.a");
+    if found(&archive) {
+        println!("cargo::rustc-cfg=linked");
+        println!("cargo::rustc-env=FLUMEDRAC_ARCHIVE={}", archive.display());
+        println!("cargo::rustc-link-search=native={}", folder.display());
+        println!("cargo::rustc-link-lib=static=flumedrac");
+    } else if wanted {
+        panic!("there is no archive {}: make it by 'rt staticlib flumedrac'", archive.display());
+    }
+
+    let oracle = here.join("target/oracle");
+    if found(&oracle.join("liboracle_checked.rlib")) && found(&oracle.join("liboracle_optimised.rlib")) {
+        println!("cargo::rustc-cfg=oracle");
+        println!("cargo::rustc-link-search=all={}", oracle.display());
+    }
+}
+
+/// Whether a file is there; cargo asks again once that changes.
+fn found(file: &Path) -> bool {
+    println!("cargo::rerun-if-changed={}", file.display());
+    file.is_file()
+}

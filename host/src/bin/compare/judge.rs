@@ -1,0 +1,335 @@
+//! What a library has to reply: by the Rust files where they decide, by a plain condition where they do not.
+
+use std::cell::OnceCell;
+
+use flumedrac::ffi::Answer;
+use flumedrac::trial::question::{answer_numbers, BYTE_FILL, FILL};
+use flumedrac::trial::{Kind, Question, Raw, Reply, Test};
+use flumedrac::{MAX_ELEMENTS, MAX_FLAGS, MAX_INCIDENCES, MAX_RANKS};
+
+use crate::oracle::{self, Cell, Event, Product};
+use crate::plain;
+
+/// Who decided.
+#[derive(Clone, Copy, Debug, PartialEq, Eq, Hash)]
+pub enum By {
+    /// The Rust files.
+    Rust,
+    /// A plain condition.
+    Plain,
+}
+
+/// Why nothing could be decided.
+#[derive(Clone, Debug)]
+pub enum Doubt {
+    /// The Rust files are not there.
+    NoOracle,
+    /// They did what they should never do.
+    Oracle(&'static str),
+}
+
+/// Something decided, and by whom.
+pub type Judged<T> = Result<(T, By), Doubt>;
+
+/// Three slices with all that is known of them.
+pub struct Subject {
+    raw: Raw,
+    shape: u16,
+    cell: Option<Cell>,
+    valid: OnceCell<Judged<Answer>>,
+    closed: OnceCell<Judged<Answer>>,
+}
+
+impl AsRef<Raw> for Subject {
+    fn as_ref(&self) -> &Raw {
+        &self.raw
+    }
+}
+
+impl<T: Into<Raw>> From<T> for Subject {
+    fn from(raw: T) -> Self {
+        let raw = raw.into();
+        let shape = plain::shape(&raw);
+        let cell = (shape == 0).then(|| Cell::new(&raw.counts, &raw.ends, &raw.inc));
+        Self { raw, shape, cell, valid: OnceCell::new(), closed: OnceCell::new() }
+    }
+}
+
+/// What the Rust files answered; they never panic where they are asked.
+fn said<T>(answer: Option<T>) -> Result<T, Doubt> {
+    match answer {
+        Some(answer) => Ok(answer),
+        None if oracle::PRESENT => Err(Doubt::Oracle("the Rust panicked")),
+        None => Err(Doubt::NoOracle),
+    }
+}
+
+fn refusal(no: u16) -> Answer {
+    Answer { no, ..Answer::default() }
+}
+
+impl Subject {
+    pub fn rank(&self) -> usize {
+        self.raw.counts.len() - 1
+    }
+
+    pub fn is_valid(&self) -> Judged<bool> {
+        self.test(Test::IsValid).map(|(answer, by)| (answer.no == 0, by))
+    }
+
+    pub fn is_closed(&self) -> Judged<bool> {
+        self.test(Test::Closed).map(|(answer, by)| (answer.no == 0, by))
+    }
+
+    fn test(&self, test: Test) -> Judged<Answer> {
+        match test {
+            Test::IsValid => self.valid.get_or_init(|| self.tested(test)).clone(),
+            Test::Closed => self.closed.get_or_init(|| self.tested(test)).clone(),
+            _ => self.tested(test),
+        }
+    }
+
+    fn tested(&self, test: Test) -> Judged<Answer> {
+        let Some(cell) = &self.cell else {
+            return Ok((refusal(self.shape), By::Plain));
+        };
+        let answer = match test {
+            Test::Bounded => said(cell.bounded())?,
+            Test::CheckIncidences => said(cell.check_incidences())?,
+            Test::IsDyadic => match said(cell.check_incidences())? {
+                [0, ..] => said(cell.is_dyadic())?,
+                refused => refused,
+            },
+            Test::IsValid => said(cell.is_valid())?,
+            Test::Closed => match (said(cell.bounded())?, said(cell.check_incidences())?) {
+                ([0, ..], [0, ..]) => match plain::descent(&self.raw) {
+                    Some([r, i, side]) => {
+                        let [a, b, c] = [r, i, side].map(|x| x as u16);
+                        return Ok((Answer { no: 19, a, b, c, d: 0 }, By::Plain));
+                    }
+                    None => said(cell.one_rank_more().is_dyadic())?,
+                },
+                ([0, ..], refused) => refused,
+                (refused, _) => refused,
+            },
+        };
+        Ok((self.settled(answer)?, By::Rust))
+    }
+
+    /// The Rust names any index that is met once; the smallest is to be named.
+    fn settled(&self, answer: oracle::Answer) -> Result<Answer, Doubt> {
+        let [no, a, mut b, c, d] = answer;
+        if no == 18 {
+            let once = plain::met_once(&self.raw, c, d);
+            if !once.contains(&(b as u16)) {
+                return Err(Doubt::Oracle("the Rust's index for 18 is not met once"));
+            }
+            b = once.into_iter().min().unwrap_or_default().into();
+        }
+        let [no, a, b, c, d] = [no, a, b, c, d].map(|x| x as u16);
+        Ok(Answer { no, a, b, c, d })
+    }
+
+    /// What refuses a change or a search before 22.
+    fn flag_refusal(&self, flag: &[u16], ranks: &[usize]) -> Judged<Answer> {
+        let (closed, by) = self.test(Test::Closed)?;
+        if closed.no != 0 {
+            Ok((closed, by))
+        } else if !plain::is_flag(&self.raw, flag) {
+            Ok((refusal(20), By::Plain))
+        } else if ranks.iter().any(|&r| r < 1 || r + 1 > self.rank()) {
+            Ok((refusal(21), By::Plain))
+        } else {
+            Ok((refusal(0), By::Rust))
+        }
+    }
+
+    /// The Rust's events for a search that nothing refuses, with one flag more than the limit if there is one.
+    fn events(&self, first: &[u16], ranks: &[usize], limit: usize) -> Result<Vec<Event>, Doubt> {
+        let first: Vec<usize> = first.iter().map(|&x| x.into()).collect();
+        said(self.cell.as_ref().and_then(|cell| cell.events(&first, ranks, limit + 2)))
+    }
+}
+
+/// What a library has to reply to a question.
+pub fn judge(question: &Question<&Subject>) -> Judged<Reply> {
+    match question {
+        Question::Rank(counts) => count(counts, Cell::rank, |counts| counts.len() - 1),
+        Question::ElCount(counts, rank) => {
+            count(counts, |cell| cell.el_count(*rank), |counts| counts.get(*rank).map_or(0, |&n| n.into()))
+        }
+        Question::VertexCount(counts) => {
+            count(counts, Cell::vertex_count, |counts| counts.get(1).map_or(0, |&n| n.into()))
+        }
+        Question::FacetCount(counts) => count(counts, Cell::facet_count, |counts| match counts {
+            [.., facets, _] => (*facets).into(),
+            _ => 0,
+        }),
+        Question::Class(no) => {
+            let bands = [(1, 9), (10, 19), (20, 29), (30, 39)];
+            let class = bands.iter().position(|&(from, to)| from <= *no && *no <= to).map_or(0, |band| band + 1);
+            Ok((Reply::of(vec![class as i64]), By::Plain))
+        }
+        Question::Sign(byte) => {
+            let odd = *byte != 0;
+            match oracle::PRESENT && *byte < 2 {
+                true => Ok((Reply::of(vec![oracle::sign(odd) as i64]), By::Rust)),
+                false => Ok((Reply::of(vec![if odd { -1 } else { 1 }]), By::Plain)),
+            }
+        }
+        Question::NextEvent(at, count, place) => Ok((next_event(*at, *count, *place), By::Plain)),
+        Question::Test(test, cell) => {
+            let (answer, by) = cell.test(*test)?;
+            Ok((Reply::of(answer_numbers(answer)), by))
+        }
+        Question::Change { cell, flag, r } => change(cell, flag, *r),
+        Question::Search { cell, first, mask, table, orientations } => {
+            search(cell, first, *mask, *table, *orientations)
+        }
+        Question::Events { cell, first, mask } => events(cell, first, *mask),
+        Question::Product { kind, p, q, room } => product(*kind, p, q, *room),
+    }
+}
+
+/// A count: by the Rust where it can hold so many elements, else by the slice itself.
+fn count(counts: &[u16], rust: impl Fn(&Cell) -> Option<usize>, plainly: impl Fn(&[u16]) -> usize) -> Judged<Reply> {
+    if counts.is_empty() {
+        return Ok((Reply::of(vec![1, 0]), By::Plain));
+    }
+    let elements: usize = counts.iter().map(|&count| usize::from(count)).sum();
+    let (value, by) = match oracle::PRESENT && elements <= 2 * MAX_ELEMENTS {
+        true => (said(rust(&Cell::bare(counts)))?, By::Rust),
+        false => (plainly(counts), By::Plain),
+    };
+    Ok((Reply::of(vec![0, value as i64]), by))
+}
+
+/// The event at a number, and the cursor afterwards.
+fn next_event(at: u32, count: u16, place: u16) -> Reply {
+    let flags = |range: std::ops::Range<u16>| range.map(|flag| (1, i64::from(flag)));
+    let events: Vec<(i64, i64)> = match place {
+        1.. if place <= count => flags(0..place).chain([(2, 0)]).chain(flags(place..count)).collect(),
+        _ => flags(0..count).collect(),
+    };
+    match events.get(at as usize) {
+        Some((kind, flag)) => Reply::of(vec![*kind, *flag, i64::from(at) + 1]),
+        None => Reply::of(vec![0, 0, at.into()]),
+    }
+}
+
+fn change(cell: &Subject, flag: &[u16], r: u16) -> Judged<Reply> {
+    let (answer, by) = cell.flag_refusal(flag, &[r.into()])?;
+    let mut record = vec![0; 16];
+    if answer.no == 0 {
+        let flag: Vec<usize> = flag.iter().map(|&x| x.into()).collect();
+        let changed = said(cell.cell.as_ref().and_then(|cell| cell.change(&flag, r.into())))?;
+        for (number, index) in record.iter_mut().zip(changed) {
+            *number = index as u16;
+        }
+    }
+    Ok((Reply { numbers: answer_numbers(answer), slices: vec![record], spilled: false }, by))
+}
+
+fn search(cell: &Subject, first: &[u16], mask: u16, table: usize, orientations: usize) -> Judged<Reply> {
+    let ranks = plain::ranks(mask);
+    let (mut answer, mut by) = cell.flag_refusal(first, &ranks)?;
+    let mut table = vec![FILL; table];
+    let mut bytes = vec![u16::from(BYTE_FILL); orientations];
+    let mut found = [0, 0, 0];
+    if answer.no == 0 {
+        let width = cell.rank() + 1;
+        let room = (table.len() / width).min(orientations).min(MAX_FLAGS);
+        let (mut flags, mut place) = (0, 0);
+        for event in cell.events(first, &ranks, room)? {
+            match event {
+                Event::NonOrientable => place = flags,
+                Event::Flag(flag, odd) => {
+                    if flags < room {
+                        let flag: Vec<u16> = flag.iter().map(|&x| x as u16).collect();
+                        table[flags * width..][..width].copy_from_slice(&flag);
+                        bytes[flags] = odd.into();
+                    }
+                    flags += 1;
+                }
+            }
+        }
+        if flags > room {
+            (answer, by) = (refusal(22), By::Plain);
+        } else {
+            found = [flags as i64, place as i64, (place == 0).into()];
+        }
+    }
+    let numbers = [answer_numbers(answer), found.to_vec()].concat();
+    Ok((Reply { numbers, slices: vec![table, bytes], spilled: false }, by))
+}
+
+fn events(cell: &Subject, first: &[u16], mask: u16) -> Judged<Reply> {
+    let ranks = plain::ranks(mask);
+    let (mut answer, mut by) = cell.flag_refusal(first, &ranks)?;
+    let mut slices = vec![];
+    if answer.no == 0 {
+        for event in cell.events(first, &ranks, MAX_FLAGS)? {
+            slices.push(match event {
+                Event::NonOrientable => vec![],
+                Event::Flag(flag, odd) => [usize::from(odd)].iter().chain(&flag).map(|&x| x as u16).collect(),
+            });
+        }
+        if slices.iter().filter(|event| !event.is_empty()).count() > MAX_FLAGS {
+            slices.clear();
+            (answer, by) = (refusal(22), By::Plain);
+        }
+    }
+    Ok((Reply { numbers: answer_numbers(answer), slices, spilled: false }, by))
+}
+
+fn product(kind: Kind, p: &Subject, q: &Subject, room: [usize; 3]) -> Judged<Reply> {
+    let mut lent = room.map(|length| vec![FILL; length]);
+    let refused = |no: u16| {
+        let numbers = [answer_numbers(refusal(no)), vec![0; 3]].concat();
+        Ok((Reply { numbers, slices: room.map(|length| vec![FILL; length]).to_vec(), spilled: false }, By::Plain))
+    };
+    if !p.is_valid()?.0 {
+        return refused(30);
+    }
+    if !q.is_valid()?.0 {
+        return refused(31);
+    }
+    let ranks = [p.rank(), q.rank()];
+    if kind == Kind::Duopyramid || !ranks.contains(&0) {
+        if kind == Kind::Duocomb && ranks.contains(&1) {
+            return refused(32);
+        }
+        if plain::product_rank(kind, &p.raw, &q.raw) >= MAX_RANKS {
+            return refused(33);
+        }
+        let (elements, incidences) = plain::product_size(kind, &p.raw, &q.raw);
+        if elements > MAX_ELEMENTS {
+            return refused(34);
+        }
+        if incidences > MAX_INCIDENCES {
+            return refused(35);
+        }
+    }
+    let which = match kind {
+        Kind::Duopyramid => Product::Duopyramid,
+        Kind::Duoprism => Product::Duoprism,
+        Kind::Duotegum => Product::Duotegum,
+        Kind::Duocomb => Product::Duocomb,
+    };
+    let cells = p.cell.as_ref().zip(q.cell.as_ref());
+    let built = said(cells.and_then(|(p, q)| Cell::product(which, p, q)))?.slices();
+    if (kind == Kind::Duopyramid || !ranks.contains(&0))
+        && (built[1].len() / 2, built[2].len()) != plain::product_size(kind, &p.raw, &q.raw)
+    {
+        return Err(Doubt::Oracle("the Rust's product has another size than its factors say"));
+    }
+    if built.iter().zip(room).any(|(slice, length)| slice.len() > length) {
+        return refused(36);
+    }
+    for (slice, lent) in built.iter().zip(&mut lent) {
+        lent[..slice.len()].copy_from_slice(slice);
+    }
+    let lengths = built.map(|slice| slice.len() as i64);
+    let numbers = [answer_numbers(refusal(0)), lengths.to_vec()].concat();
+    Ok((Reply { numbers, slices: lent.to_vec(), spilled: false }, By::Rust))
+}

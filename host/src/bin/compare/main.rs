@@ -1,0 +1,156 @@
+//! Compares the library with the Rust files, question by question.
+//!
+//!   compare [--model | --break NAME | --breaks] [--seed N] [--rounds N] [--small] [--write-replay FILE]
+//!
+//! Without more, the archive is asked. --model asks the unproved model instead, to try this program; --break gives the
+//! model one fault; --breaks tries every fault in turn and fails if one is not caught. --rounds sets how many damaged
+//! and random listings are tried, --small asks less of everything. --write-replay writes the replay list.
+//!
+//! Status 0: no differences. 1: some. 2: no archive to ask, or no Rust files to compare with.
+
+mod damage;
+mod inputs;
+mod judge;
+mod oracle;
+mod plain;
+mod replay;
+mod run;
+mod supply;
+mod tally;
+
+use std::process::ExitCode;
+
+use flumedrac::trial::{limit_memory, Break, Library, Model};
+
+use inputs::Scale;
+use replay::Replay;
+use run::Run;
+
+struct Options {
+    model: bool,
+    fault: Option<Break>,
+    breaks: bool,
+    seed: u64,
+    scale: Scale,
+    replay: Option<String>,
+}
+
+fn options() -> Result<Options, String> {
+    let mut options = Options { model: false, fault: None, breaks: false, seed: 1, scale: Scale::FULL, replay: None };
+    let mut words = std::env::args().skip(1);
+    while let Some(word) = words.next() {
+        let mut value = || words.next().ok_or(format!("{word} wants a value"));
+        match word.as_str() {
+            "--model" => options.model = true,
+            "--breaks" => options.breaks = true,
+            "--small" => options.scale = Scale::SMALL,
+            "--break" => {
+                let name = value()?;
+                let found = Break::ALL.iter().find(|fault| fault.name() == name);
+                options.fault = Some(*found.ok_or(format!("there is no fault {name}"))?);
+            }
+            "--write-replay" => options.replay = Some(value()?),
+            "--seed" => options.seed = value()?.parse().map_err(|_| "a seed is a number".to_string())?,
+            "--rounds" => options.scale.rounds = value()?.parse().map_err(|_| "rounds are a number".to_string())?,
+            _ => return Err(format!("{word} is not known")),
+        }
+    }
+    Ok(options)
+}
+
+fn main() -> ExitCode {
+    limit_memory(1000);
+    let options = match options() {
+        Ok(options) => options,
+        Err(what) => {
+            eprintln!("{what}");
+            return ExitCode::from(2);
+        }
+    };
+    if !oracle::PRESENT {
+        println!("The Rust files are not built (host/oracle/build.sh); only plain conditions are compared.");
+    }
+    println!("seed {}", options.seed);
+    if options.breaks {
+        return breaks(options.seed);
+    }
+    match (options.fault, options.model) {
+        (Some(fault), _) => compare(&Model::broken(fault), &format!("the model with {}", fault.name()), &options),
+        (None, true) => compare(&Model::default(), "the model", &options),
+        (None, false) => archive(&options),
+    }
+}
+
+#[cfg(linked)]
+fn archive(options: &Options) -> ExitCode {
+    compare(&flumedrac::trial::library::Archive, "the archive", options)
+}
+
+#[cfg(not(linked))]
+fn archive(_: &Options) -> ExitCode {
+    println!("The archive was not found when this was built; --model tries this program without it.");
+    ExitCode::from(2)
+}
+
+fn compare(library: &dyn Library, name: &str, options: &Options) -> ExitCode {
+    println!("asked: {name}");
+    let mut run = Run::new(library, false);
+    run.replay = options.replay.as_ref().map(|_| Replay::new(options.seed));
+    let _ = inputs::all(&mut run, options.scale, options.seed);
+    run.tally.print();
+    if let (Some(file), Some(replay)) = (&options.replay, run.replay) {
+        std::fs::write(file, replay.text(options.seed)).expect("the replay list can be written");
+    }
+    let (rust, plain) = run.tally.compared();
+    let differences = run.tally.differences();
+    println!("\n{rust} comparisons with the Rust, {plain} with plain conditions, {differences} differences");
+    if run.tally.unjudged > 0 {
+        println!("{} questions could not be judged without the Rust files", run.tally.unjudged);
+    }
+    for (kind, difference) in run.tally.smallest() {
+        println!("\nThe smallest question to {kind} that was answered otherwise:");
+        println!("  asked     {}", cut(&difference.question));
+        println!("  expected  {}", cut(&difference.expected));
+        println!("  answered  {}", cut(&difference.reply));
+    }
+    match (differences, oracle::PRESENT) {
+        (0, true) => ExitCode::SUCCESS,
+        (0, false) => ExitCode::from(2),
+        _ => ExitCode::from(1),
+    }
+}
+
+/// The beginning of a long line.
+fn cut(line: &str) -> String {
+    match line.get(..1000) {
+        Some(start) => format!("{start} ..."),
+        None => line.to_string(),
+    }
+}
+
+/// Every fault in turn: each must be caught.
+fn breaks(seed: u64) -> ExitCode {
+    // A model with a fault may panic, which is a difference like any other.
+    std::panic::set_hook(Box::new(|_| {}));
+    println!("\n| fault | caught after | by |\n|---|---:|---|");
+    let mut missed = 0;
+    for &fault in Break::ALL {
+        let model = Model::broken(fault);
+        let mut run = Run::new(&model, true);
+        let _ = inputs::all(&mut run, Scale::SMALL, seed);
+        let (rust, plain) = run.tally.compared();
+        match run.tally.smallest().first() {
+            Some((kind, _)) => println!("| {} | {} | {kind} |", fault.name(), rust + plain),
+            None => {
+                missed += 1;
+                println!("| {} | NOT CAUGHT | |", fault.name());
+            }
+        }
+    }
+    println!("\n{} faults, {missed} not caught", Break::ALL.len());
+    if missed == 0 {
+        ExitCode::SUCCESS
+    } else {
+        ExitCode::from(1)
+    }
+}

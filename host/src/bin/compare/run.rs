@@ -1,0 +1,81 @@
+//! A library asked one question after another, each reply compared with what it has to be.
+
+use std::panic::{catch_unwind, AssertUnwindSafe};
+use std::time::Instant;
+
+use flumedrac::trial::{Library, Question};
+
+use crate::judge::{judge, Doubt, Subject};
+use crate::replay::Replay;
+use crate::tally::{Difference, Tally};
+
+/// A difference was seen, and one is enough.
+pub struct Caught;
+
+pub type Go = Result<(), Caught>;
+
+pub struct Run<'a> {
+    library: &'a dyn Library,
+    /// Whether one difference is enough, and nothing is said on the way.
+    until_caught: bool,
+    pub tally: Tally,
+    /// The replay list, if it is being made.
+    pub replay: Option<Replay>,
+}
+
+impl<'a> Run<'a> {
+    pub fn new(library: &'a dyn Library, until_caught: bool) -> Self {
+        Self { library, until_caught, tally: Tally::default(), replay: None }
+    }
+
+    /// Asks, and compares.
+    pub fn ask(&mut self, question: Question<&Subject>) -> Go {
+        let kind = question.name();
+        // The archive does not panic; a model with a fault may.
+        let reply = catch_unwind(AssertUnwindSafe(|| question.ask(self.library)));
+        let (expected, reply) = match (judge(&question), reply) {
+            (Ok((expected, by)), reply) => {
+                let with_number = !["class", "sign", "next_event"].contains(&kind);
+                self.tally.count(kind, if with_number { expected.numbers[0] } else { 0 }, by);
+                if reply.as_ref().is_ok_and(|reply| *reply == expected) {
+                    if let Some(replay) = &mut self.replay {
+                        replay.offer(&question, &expected, by);
+                    }
+                    return Ok(());
+                }
+                (expected.to_string(), reply.map_or("a panic".to_string(), |reply| reply.to_string()))
+            }
+            (Err(Doubt::NoOracle), _) => {
+                self.tally.unjudged += 1;
+                return Ok(());
+            }
+            (Err(Doubt::Oracle(what)), reply) => (what.to_string(), reply.map_or(String::new(), |r| r.to_string())),
+        };
+        self.tally.differ(kind, Difference { question: question.to_string(), expected, reply });
+        if self.until_caught {
+            return Err(Caught);
+        }
+        Ok(())
+    }
+
+    /// Whether everything goes into the replay list for now.
+    pub fn choose(&mut self, all: bool) {
+        if let Some(replay) = &mut self.replay {
+            replay.choosing = all;
+        }
+    }
+
+    /// One part of the questions, with a line about it.
+    pub fn part(&mut self, name: &str, ask: impl FnOnce(&mut Self) -> Go) -> Go {
+        let start = Instant::now();
+        let before = self.tally.compared();
+        ask(self)?;
+        if !self.until_caught {
+            let after = self.tally.compared();
+            let (rust, plain) = (after.0 - before.0, after.1 - before.1);
+            let seconds = start.elapsed().as_secs_f64();
+            println!("{name}: {rust} by the Rust, {plain} by plain conditions, {seconds:.1} s");
+        }
+        Ok(())
+    }
+}

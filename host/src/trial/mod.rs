@@ -1,0 +1,37 @@
+//! The means of trying the library: what it is asked, an unproved model of it, and cells to ask about.
+
+pub mod cells;
+pub mod library;
+pub mod limit;
+pub mod model;
+pub mod question;
+pub mod random;
+
+pub use library::{Kind, Library, Test};
+pub use limit::limit_memory;
+pub use model::{Break, Model};
+pub use question::{Question, Reply};
+pub use random::Random;
+
+use crate::{Listing, Slices};
+
+/// Three owned slices, whether or not they are a listing.
+#[derive(Clone, Debug, Default, PartialEq, Eq, Hash)]
+pub struct Raw {
+    pub counts: Vec<u16>,
+    pub ends: Vec<u16>,
+    pub inc: Vec<u16>,
+}
+
+impl Raw {
+    pub fn slices(&self) -> Slices<'_> {
+        Slices { counts: &self.counts, ends: &self.ends, inc: &self.inc }
+    }
+}
+
+impl From<Listing> for Raw {
+    fn from(listing: Listing) -> Self {
+        let (counts, ends, inc) = listing.into_slices();
+        Self { counts, ends, inc }
+    }
+}

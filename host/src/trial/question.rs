@@ -1,0 +1,396 @@
+//! One question to a library, its reply, and both as a line of text.
+
+use std::fmt::{self, Display, Write};
+
+use super::library::{Kind, Library, Test};
+use super::Raw;
+use crate::ffi::{Answer, Cursor, Number};
+use crate::{MAX_FLAGS, MAX_RANKS};
+
+/// What is asked. `L` is a listing, or what holds one.
+#[derive(Clone, Debug)]
+pub enum Question<L> {
+    /// The four counts; the second also has its rank.
+    Rank(Vec<u16>),
+    ElCount(Vec<u16>, usize),
+    VertexCount(Vec<u16>),
+    FacetCount(Vec<u16>),
+    Class(u16),
+    Sign(u8),
+    /// The next event for a cursor, a count and a place.
+    NextEvent(u32, u16, u16),
+    Test(Test, L),
+    Change {
+        cell: L,
+        flag: Vec<u16>,
+        r: u16,
+    },
+    /// A search, with the lengths of the table and of the orientations.
+    Search {
+        cell: L,
+        first: Vec<u16>,
+        mask: u16,
+        table: usize,
+        orientations: usize,
+    },
+    /// The events of a search with all room, by the cursor.
+    Events {
+        cell: L,
+        first: Vec<u16>,
+        mask: u16,
+    },
+    /// A product, with the lengths of the three slices lent.
+    Product {
+        kind: Kind,
+        p: L,
+        q: L,
+        room: [usize; 3],
+    },
+}
+
+/// All that a library said: the numbers it returned and the slices it was lent, as they are afterwards.
+#[derive(Clone, Debug, Default, PartialEq, Eq)]
+pub struct Reply {
+    pub numbers: Vec<i64>,
+    pub slices: Vec<Vec<u16>>,
+    /// Whether anything outside the slices was written.
+    pub spilled: bool,
+}
+
+/// What stands in a lent slice before a call.
+pub const FILL: u16 = 65535;
+/// What stands in lent orientations before a call.
+pub const BYTE_FILL: u8 = 255;
+
+/// How many numbers stand on either side of a lent slice, to see whether it was left. They are odd in number, so that
+/// a slice is aligned as its numbers ask and no better.
+const MARGIN: usize = 3;
+
+/// A slice to lend, full of one number, with a margin of another on either side.
+struct Lent<T>(Vec<T>, T);
+
+impl<T: Copy + PartialEq> Lent<T> {
+    fn new(length: usize, fill: T, margin: T) -> Self {
+        let mut numbers = vec![margin; length + 2 * MARGIN];
+        numbers[MARGIN..][..length].fill(fill);
+        Self(numbers, margin)
+    }
+
+    fn slice(&mut self) -> &mut [T] {
+        let end = self.0.len() - MARGIN;
+        &mut self.0[MARGIN..end]
+    }
+
+    fn spilled(&self) -> bool {
+        let end = self.0.len() - MARGIN;
+        self.0[..MARGIN].iter().chain(&self.0[end..]).any(|x| *x != self.1)
+    }
+}
+
+fn words(length: usize) -> Lent<u16> {
+    Lent::new(length, FILL, 0xA5A5)
+}
+
+fn bytes(length: usize) -> Lent<u8> {
+    Lent::new(length, BYTE_FILL, 0xA5)
+}
+
+/// The numbers of an answer.
+pub fn answer_numbers(answer: Answer) -> Vec<i64> {
+    let Answer { no, a, b, c, d } = answer;
+    [no, a, b, c, d].map(i64::from).to_vec()
+}
+
+impl Reply {
+    pub fn of(numbers: Vec<i64>) -> Self {
+        Self { numbers, ..Self::default() }
+    }
+
+    fn count(number: Number) -> Self {
+        Self::of(vec![number.no.into(), number.value as i64])
+    }
+}
+
+impl<L: AsRef<Raw>> Question<L> {
+    /// What it is called: the function's name, or `events`.
+    pub fn name(&self) -> &'static str {
+        match self {
+            Question::Rank(_) => "rank",
+            Question::ElCount(..) => "el_count",
+            Question::VertexCount(_) => "vertex_count",
+            Question::FacetCount(_) => "facet_count",
+            Question::Class(_) => "class",
+            Question::Sign(_) => "sign",
+            Question::NextEvent(..) => "next_event",
+            Question::Test(test, _) => test.name(),
+            Question::Change { .. } => "change",
+            Question::Search { .. } => "search",
+            Question::Events { .. } => "events",
+            Question::Product { kind, .. } => kind.name(),
+        }
+    }
+
+    /// What a library replies.
+    pub fn ask(&self, library: &dyn Library) -> Reply {
+        match self {
+            Question::Rank(counts) => Reply::count(library.rank(counts)),
+            Question::ElCount(counts, rank) => Reply::count(library.el_count(counts, *rank)),
+            Question::VertexCount(counts) => Reply::count(library.vertex_count(counts)),
+            Question::FacetCount(counts) => Reply::count(library.facet_count(counts)),
+            Question::Class(no) => Reply::of(vec![library.class(*no).into()]),
+            Question::Sign(byte) => Reply::of(vec![sign_number(library.sign(*byte))]),
+            Question::NextEvent(at, count, place) => {
+                let mut cursor = Cursor { at: *at };
+                let event = library.next_event(&mut cursor, *count, *place);
+                Reply::of(vec![event.kind.into(), event.flag.into(), cursor.at.into()])
+            }
+            Question::Test(test, cell) => Reply::of(answer_numbers(library.test(*test, cell.as_ref().slices()))),
+            Question::Change { cell, flag, r } => {
+                let changed = library.change(cell.as_ref().slices(), flag, *r);
+                Reply { numbers: answer_numbers(changed.answer), slices: vec![changed.flag.to_vec()], spilled: false }
+            }
+            Question::Search { cell, first, mask, table, orientations } => {
+                let (mut table, mut orientations) = (words(*table), bytes(*orientations));
+                let (lent, lent_bytes) = (table.slice(), orientations.slice());
+                let searched = library.search(cell.as_ref().slices(), first, *mask, lent, lent_bytes);
+                let mut numbers = answer_numbers(searched.answer);
+                numbers.extend([searched.count, searched.place, searched.orientable.into()].map(i64::from));
+                let spilled = table.spilled() || orientations.spilled();
+                let wide = orientations.slice().iter().map(|&byte| byte.into()).collect();
+                Reply { numbers, slices: vec![table.slice().to_vec(), wide], spilled }
+            }
+            Question::Events { cell, first, mask } => events(library, cell.as_ref(), first, *mask),
+            Question::Product { kind, p, q, room } => {
+                let [mut counts, mut ends, mut inc] = room.map(words);
+                let (p, q) = (p.as_ref().slices(), q.as_ref().slices());
+                let built = library.product(*kind, p, q, counts.slice(), ends.slice(), inc.slice());
+                let mut numbers = answer_numbers(built.answer);
+                numbers.extend([built.counts, built.ends, built.inc].map(i64::from));
+                let spilled = counts.spilled() || ends.spilled() || inc.spilled();
+                let slices = [&mut counts, &mut ends, &mut inc].map(|lent| lent.slice().to_vec()).to_vec();
+                Reply { numbers, slices, spilled }
+            }
+        }
+    }
+}
+
+/// 1 or -1 for these two signs, 0 for any other number.
+fn sign_number(sign: f64) -> i64 {
+    match sign.to_bits() {
+        bits if bits == 1f64.to_bits() => 1,
+        bits if bits == (-1f64).to_bits() => -1,
+        _ => 0,
+    }
+}
+
+/// The events of a search one by one: orientation and flag of each flag, and an empty slice for "not orientable".
+fn events(library: &dyn Library, cell: &Raw, first: &[u16], mask: u16) -> Reply {
+    let width = cell.counts.len().clamp(1, MAX_RANKS);
+    let mut table = vec![FILL; MAX_FLAGS * width];
+    let mut orientations = vec![BYTE_FILL; MAX_FLAGS];
+    let searched = library.search(cell.slices(), first, mask, &mut table, &mut orientations);
+    let mut reply = Reply::of(answer_numbers(searched.answer));
+    let mut cursor = Cursor::default();
+    // There is at most one event more than flags: a cursor that does not end is stopped, and seen.
+    for _ in 0..=searched.count as usize + 1 {
+        let event = library.next_event(&mut cursor, searched.count, searched.place);
+        let at = event.flag as usize;
+        match event.kind {
+            0 => break,
+            1 if at < MAX_FLAGS => {
+                let flag = &table[at * width..][..width];
+                reply.slices.push([&[orientations[at].into()], flag].concat());
+            }
+            _ => reply.slices.push(vec![]),
+        }
+    }
+    reply
+}
+
+/// Numbers in brackets.
+struct List<'a>(&'a [u16]);
+
+impl Display for List<'_> {
+    fn fmt(&self, f: &mut fmt::Formatter<'_>) -> fmt::Result {
+        f.write_char('[')?;
+        for (i, x) in self.0.iter().enumerate() {
+            write!(f, "{}{x}", if i == 0 { "" } else { " " })?;
+        }
+        f.write_char(']')
+    }
+}
+
+impl Display for Raw {
+    fn fmt(&self, f: &mut fmt::Formatter<'_>) -> fmt::Result {
+        write!(f, "{} {} {}", List(&self.counts), List(&self.ends), List(&self.inc))
+    }
+}
+
+impl<L: AsRef<Raw>> Display for Question<L> {
+    fn fmt(&self, f: &mut fmt::Formatter<'_>) -> fmt::Result {
+        write!(f, "{} ", self.name())?;
+        match self {
+            Question::Rank(counts) | Question::VertexCount(counts) | Question::FacetCount(counts) => {
+                write!(f, "{}", List(counts))
+            }
+            Question::ElCount(counts, rank) => write!(f, "{} {rank}", List(counts)),
+            Question::Class(no) => write!(f, "{no}"),
+            Question::Sign(byte) => write!(f, "{byte}"),
+            Question::NextEvent(at, count, place) => write!(f, "{at} {count} {place}"),
+            Question::Test(_, cell) => write!(f, "{}", cell.as_ref()),
+            Question::Change { cell, flag, r } => write!(f, "{} {} {r}", cell.as_ref(), List(flag)),
+            Question::Search { cell, first, mask, table, orientations } => {
+                write!(f, "{} {} {mask} {table} {orientations}", cell.as_ref(), List(first))
+            }
+            Question::Events { cell, first, mask } => write!(f, "{} {} {mask}", cell.as_ref(), List(first)),
+            Question::Product { p, q, room: [counts, ends, inc], .. } => {
+                write!(f, "{} {} {counts} {ends} {inc}", p.as_ref(), q.as_ref())
+            }
+        }
+    }
+}
+
+impl Display for Reply {
+    fn fmt(&self, f: &mut fmt::Formatter<'_>) -> fmt::Result {
+        let numbers: Vec<String> = self.numbers.iter().map(i64::to_string).collect();
+        write!(f, "{}", numbers.join(" "))?;
+        for slice in &self.slices {
+            write!(f, " {}", List(slice))?;
+        }
+        if self.spilled {
+            write!(f, " and wrote outside the slices")?;
+        }
+        Ok(())
+    }
+}
+
+/// The words of a line: numbers, and numbers in brackets.
+struct Words<'a>(&'a str);
+
+impl<'a> Words<'a> {
+    fn word(&mut self) -> Option<&'a str> {
+        let rest = self.0.trim_start();
+        let end = match rest.starts_with('[') {
+            true => rest.find(']')? + 1,
+            false => rest.find(' ').unwrap_or(rest.len()),
+        };
+        self.0 = &rest[end..];
+        (end > 0).then_some(&rest[..end])
+    }
+
+    fn number<T: std::str::FromStr>(&mut self) -> Option<T> {
+        self.word()?.parse().ok()
+    }
+
+    fn list(&mut self) -> Option<Vec<u16>> {
+        let inside = self.word()?.strip_prefix('[')?.strip_suffix(']')?;
+        inside.split_whitespace().map(|x| x.parse().ok()).collect()
+    }
+
+    fn raw(&mut self) -> Option<Raw> {
+        Some(Raw { counts: self.list()?, ends: self.list()?, inc: self.list()? })
+    }
+}
+
+impl AsRef<Raw> for Raw {
+    fn as_ref(&self) -> &Raw {
+        self
+    }
+}
+
+impl Question<Raw> {
+    /// Reads what `Display` writes.
+    pub fn read(text: &str) -> Option<Self> {
+        let mut words = Words(text);
+        let name = words.word()?;
+        let question = match name {
+            "rank" => Question::Rank(words.list()?),
+            "el_count" => Question::ElCount(words.list()?, words.number()?),
+            "vertex_count" => Question::VertexCount(words.list()?),
+            "facet_count" => Question::FacetCount(words.list()?),
+            "class" => Question::Class(words.number()?),
+            "sign" => Question::Sign(words.number()?),
+            "next_event" => Question::NextEvent(words.number()?, words.number()?, words.number()?),
+            "change" => Question::Change { cell: words.raw()?, flag: words.list()?, r: words.number()? },
+            "search" => Question::Search {
+                cell: words.raw()?,
+                first: words.list()?,
+                mask: words.number()?,
+                table: words.number()?,
+                orientations: words.number()?,
+            },
+            "events" => Question::Events { cell: words.raw()?, first: words.list()?, mask: words.number()? },
+            _ => match (Test::ALL.iter().find(|t| t.name() == name), Kind::ALL.iter().find(|k| k.name() == name)) {
+                (Some(test), _) => Question::Test(*test, words.raw()?),
+                (_, Some(kind)) => Question::Product {
+                    kind: *kind,
+                    p: words.raw()?,
+                    q: words.raw()?,
+                    room: [words.number()?, words.number()?, words.number()?],
+                },
+                _ => return None,
+            },
+        };
+        words.0.trim().is_empty().then_some(question)
+    }
+}
+
+impl Reply {
+    /// Reads what `Display` writes.
+    pub fn read(text: &str) -> Option<Self> {
+        let mut words = Words(text);
+        let mut reply = Reply::default();
+        while !words.0.trim().is_empty() {
+            match words.0.trim_start().starts_with('[') {
+                true => reply.slices.push(words.list()?),
+                false => reply.numbers.push(words.number()?),
+            }
+        }
+        Some(reply)
+    }
+}
+
+#[cfg(test)]
+mod tests {
+    use super::*;
+    use crate::trial::Model;
+    use crate::Listing;
+
+    /// Questions and replies are read as they were written.
+    #[test]
+    fn text_goes_round() {
+        let cell = || Raw::from(Listing::polygon(3).unwrap());
+        let questions = [
+            Question::ElCount(vec![1, 2, 1], 1),
+            Question::NextEvent(0, 3, 2),
+            Question::Test(Test::Closed, cell()),
+            Question::Change { cell: cell(), flag: vec![0; 4], r: 1 },
+            Question::Search { cell: cell(), first: vec![0; 4], mask: 6, table: 25, orientations: 7 },
+            Question::Events { cell: cell(), first: vec![0; 4], mask: 6 },
+            Question::Product { kind: Kind::Duoprism, p: cell(), q: Raw::default(), room: [0, 1, 2] },
+        ];
+        for question in questions {
+            let text = question.to_string();
+            let reply = question.ask(&Model::default());
+            let read = Question::read(&text).expect("a question");
+            assert_eq!(read.to_string(), text);
+            assert_eq!(read.ask(&Model::default()), reply);
+            assert_eq!(Reply::read(&reply.to_string()), Some(reply));
+        }
+        assert!(Question::read("closed [1] [0 0]").is_none());
+        assert!(Question::read("rank [1] 2").is_none());
+    }
+
+    /// A write outside the slice is seen.
+    #[test]
+    fn margins_are_seen() {
+        let mut lent = words(3);
+        lent.slice().fill(7);
+        assert!(!lent.spilled());
+        for at in [MARGIN - 1, MARGIN + 3] {
+            let mut lent = words(3);
+            lent.0[at] = 7;
+            assert!(lent.spilled());
+        }
+    }
+}
