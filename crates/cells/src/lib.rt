@@ -1,13 +1,19 @@
-// Cells by name, each a module with its three slices.
+// Cells by name, each a module with its three slices; and polygons of any size.
+pub mod digonal_15;
+pub mod digonal_7;
+pub mod digonal_8;
 pub mod dyad;
 pub mod hemicube;
+pub mod klein_grid;
 pub mod leaking_box;
 pub mod lidless_box;
 pub mod nullitope;
 pub mod one_on_top;
 pub mod point;
+pub mod polygon;
 pub mod struck;
 pub mod three_on_top;
 pub mod triangle;
+pub mod twice_listed;
 pub mod two_minimal;
 pub mod whole_box;

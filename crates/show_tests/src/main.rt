@@ -100,4 +100,10 @@ fn main() {
         &cells::hemicube::ENDS,
         &cells::hemicube::INC,
     );
+    show(
+        b"an edge that lists its vertex twice",
+        &cells::twice_listed::COUNTS,
+        &cells::twice_listed::ENDS,
+        &cells::twice_listed::INC,
+    );
 }
