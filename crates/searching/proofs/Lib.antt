@@ -1,0 +1,5 @@
+pub mod Once
+pub mod Lookup
+pub mod Chain
+pub mod Step
+pub mod Run
