@@ -3,3 +3,9 @@ pub mod Lookup
 pub mod Chain
 pub mod Step
 pub mod Run
+pub mod Grown
+pub mod Kept
+pub mod Stored
+pub mod Found
+pub mod Coloured
+pub mod Orientation

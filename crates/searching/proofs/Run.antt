@@ -1,7 +1,7 @@
 -- Those found are worked, one after another. A loop keeps `W ≡ the state after what is left`: -next is a turn, -stop its end
 -- once over, -end its end.
 -- Assumes nothing.
-use mathlib.Core.Path.{_≡_, refl, sym, _∙_}
+use mathlib.Core.Path.{_≡_, refl, sym, ap, _∙_}
 use mathlib.Core.Bool.{Bool, true, false, not, and-false, true≢false}
 use mathlib.Core.List.{List}
 use Prim.Native.Nat.{ℕ, zero, suc, _+_, _-_, _≤_, _<_}
@@ -9,8 +9,8 @@ use native.Mathlib.Numerals.{add-one}
 use native.Mathlib.Omega.{arith}
 use borrow.Author.Tests.{lt-ltb, le-ltb, ltb-true, ltb-false}
 use lib.ListN.{length}
-use Rattle.searching.specs.Search.{State, work, waits, runFor, run}
-use Rattle.searching.proofs.Step.{meets-fits}
+use Rattle.searching.specs.Search.{State, nothing, add, full, work, waits, runFor, run, search}
+use Rattle.searching.proofs.Step.{meet-new, meet-full, meets-fits}
 
 module _ {A : Type 0} (k : ℕ) (s : State A) where
   waits-yes : s .over ≡ false → k < length (s .found) → waits k s ≡ true
@@ -94,6 +94,18 @@ module _ {A : Type 0} (same : A → A → Bool) (room : ℕ) (nbrs : A → List 
     pub run-end : length (s .found) ≤ k → W ≡ s
     unfolding run
     run-end h = e ∙ for-no (room - k) k s (waits-past k s h)
+
+  -- ---- the start
+
+  pub search-full : room ≡ 0 → search same room nbrs a ≡ full nothing
+  unfolding search
+  search-full z =
+      let e = meet-full same room 0 nothing a refl (omega arith) (omega arith) in
+      run-stop (search same room nbrs a) 0 (full nothing) (ap (run same room nbrs a 0) e) refl
+
+  pub search-start : 0 < room → search same room nbrs a ≡ run same room nbrs a 0 (add 0 nothing a)
+  unfolding search
+  search-start h = ap (run same room nbrs a 0) (meet-new same room 0 nothing a refl (omega arith) h)
 
   -- ---- what each turn keeps holds at the end, where none is left to work
 

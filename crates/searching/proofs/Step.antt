@@ -2,16 +2,17 @@
 -- end once over, -end its end.
 -- Assumes nothing.
 use mathlib.Core.Path.{_≡_, refl, sym, ap, _∙_, subst}
-use mathlib.Core.Bool.{Bool, true, false, cond, not, and-false}
+use mathlib.Core.Bool.{Bool, true, false, cond, and-false}
+use mathlib.Core.Logic.{_≢_}
 use mathlib.Core.List.{List, [], _∷_}
 use Prim.Native.Nat.{ℕ, zero, suc, _+_, _-_, _≤_, _<_}
 use native.Mathlib.Numerals.{add-one}
 use native.Mathlib.Omega.{arith}
-use borrow.Author.Tests.{lt-ltb, le-ltb, ltb-true, ltb-false}
-use lib.Dec.{ltb}
+use borrow.Author.Tests.{lt-ltb, le-ltb, ltb-true, ltb-false, eq-eqb, ne-eqb}
+use lib.Dec.{ltb, eqb}
 use lib.ListN.{length, getD, drop, drop-of-length-le}
 use lib.Seq.{drop-cons}
-use Rattle.searching.specs.Search.{State, add, full, again, indexIn, meet, meetAll, work, waits, runFor, run}
+use Rattle.searching.specs.Search.{State, add, full, placeAfter, again, indexIn, meet, meetAll}
 use Rattle.searching.proofs.Once.{length-snoc}
 
 -- the branch that a test takes
@@ -20,6 +21,21 @@ on-true t x y e = rw e
 
 on-false : {A : Type 0} (t : Bool) (x y : A) → t ≡ false → cond t x y ≡ y
 on-false t x y e = rw e
+
+-- ---- the place after the ith is met again
+
+module _ {A : Type 0} (b : ℕ) (s : State A) (i : ℕ) where
+  pub place-kept : s .place ≢ 0 → placeAfter b s i ≡ s .place
+  unfolding placeAfter
+  place-kept h = rw (ne-eqb (s .place) 0 h)
+
+  pub place-same : getD (s .bytes) i 0 ≡ b → placeAfter b s i ≡ s .place
+  unfolding placeAfter
+  place-same e = rw (eq-eqb (getD (s .bytes) i 0) b e, and-false (eqb (s .place) 0))
+
+  pub place-first : s .place ≡ 0 → getD (s .bytes) i 0 ≢ b → placeAfter b s i ≡ length (s .found)
+  unfolding placeAfter
+  place-first z h = rw (eq-eqb (s .place) 0 z, ne-eqb (getD (s .bytes) i 0) b h)
 
 module _ {A : Type 0} (same : A → A → Bool) (room : ℕ) where
   module _ (b : ℕ) (s : State A) (y : A) where
