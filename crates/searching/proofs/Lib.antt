@@ -9,3 +9,4 @@ pub mod Stored
 pub mod Found
 pub mod Coloured
 pub mod Orientation
+pub mod Prefix

@@ -87,7 +87,7 @@ module _ {A : Type 0} (same : A → A → Bool) (room : ℕ) where
 
   -- ---- things are met, in order
 
-  meets-over : (b : ℕ) (s : State A) (l : List A) → s .over ≡ true → meetAll same room b s l ≡ s
+  pub meets-over : (b : ℕ) (s : State A) (l : List A) → s .over ≡ true → meetAll same room b s l ≡ s
   unfolding meetAll
   meets-over b s [] o = refl
   meets-over b s (y ∷ l) o = rw (meet-stop b s y o) (meets-over b s l o)
