@@ -1,7 +1,8 @@
 -- Chains of rows with one hash: the last such row before a number, and a walk from row to row that misses none.
 -- Assumes nothing.
-use mathlib.Core.Path.{_≡_, refl, sym, ap, _∙_}
+use mathlib.Core.Path.{_≡_, refl, ap}
 use mathlib.Core.Bool.{Bool, false}
+use mathlib.Core.List.{List}
 use mathlib.Core.Logic.{_≢_, _⊎_, inl, inr}
 use Prim.Native.Nat.{ℕ, zero, suc, _+_, _-_, _≤_, _<_}
 use native.Mathlib.Nat.{eq-or-lt-of-le}
@@ -9,9 +10,10 @@ use native.Mathlib.Decide.{ℕ-discrete, decLe, decLt}
 use native.Mathlib.Numerals.{add-one}
 use native.Mathlib.Omega.{arith}
 use borrow.Author.Tests.{eq-eqb, ne-eqb}
-use Rattle.searching.specs.Search.{Decides}
+use lib.ListN.{length, getD}
+use Rattle.searching.specs.Search.{indexIn, Decides}
 use Rattle.searching.specs.Chain.{latest, Latest, Walk}
-use Rattle.searching.proofs.Lookup.{differs}
+use Rattle.searching.proofs.Lookup.{differs, index-none}
 
 module _ {A : Type 0} (hash : A → ℕ) (row : ℕ → A) (h : ℕ) where
   -- one row more, with the hash and with another
@@ -39,7 +41,8 @@ module _ {A : Type 0} (hash : A → ℕ) (row : ℕ → A) (h : ℕ) where
 
   pub latest-exact : (n : ℕ) → Latest hash row h n (latest hash row h n)
   unfolding latest
-  latest-exact zero = record { most = omega arith; has = λ z. absurd (omega arith); none = λ k l m. absurd (omega arith) }
+  latest-exact zero =
+      record { most = omega arith; has = λ z. absurd (omega arith); none = λ k l m. absurd (omega arith) }
   latest-exact (suc n) = go (ℕ-discrete (hash (row n)) h) (latest-exact n)
     where
       go : Dec (hash (row n) ≡ h) → Latest hash row h n (latest hash row h n)
@@ -55,7 +58,7 @@ latest-alike hash row other h zero e = refl
 latest-alike hash row other h (suc n) e =
     rw (e n (omega arith), latest-alike hash row other h n (λ k m. e k (omega arith)))
 
--- ---- a walk from the last row with the hash of y: it ends at 0, or at a row that is y
+-- ---- a walk back along the rows with the hash of y
 
 module _ {A : Type 0} (same : A → A → Bool) (decides : Decides same) (hash : A → ℕ) (row : ℕ → A) (n : ℕ) (y : A) where
   -- a row with another hash is another row
@@ -81,3 +84,8 @@ module _ {A : Type 0} (same : A → A → Bool) (decides : Decides same) (hash :
       go k g m (no q) (no t) =
           let i : k ≡ p - 1 = omega arith in
           rw i e
+
+-- A walk over the rows of a list that comes to 0 has not found y: its index is the length.
+pub walk-end : {A : Type 0} (same : A → A → Bool) (hash : A → ℕ) (l : List A) (d y : A)
+    → Walk same hash (λ k. getD l k d) (length l) y 0 → indexIn same l y ≡ length l
+walk-end same hash l d y w = index-none same l d y (λ k h. w .none k (omega arith) h)

@@ -8,14 +8,14 @@ use native.Mathlib.Decide.{decLt}
 use native.Mathlib.Omega.{arith}
 use lib.ListN.{length, getD, List·getD-append}
 use lib.Seq.{getD-at}
-use Rattle.order.specs.Flags.{Reach, start, next}
-use Rattle.searching.specs.Search.{State, nothing, add, again, indexIn, meet, meetAll, work, run, search}
+use Rattle.order.specs.Flags.{Reach}
+use Rattle.searching.specs.Search.{State, nothing, add, again, indexIn, meet, meetAll, work, search}
 use Rattle.searching.specs.Search.{Neighbour, Decides, Kept, Colouring}
 use Rattle.searching.proofs.Once.{length-snoc, in-at}
 use Rattle.searching.proofs.Lookup.{index-at}
 use Rattle.searching.proofs.Step.{place-same, meet-cases}
 use Rattle.searching.proofs.Run.{run-ends}
-use Rattle.searching.proofs.Kept.{meet-kept, work-kept, start-kept}
+use Rattle.searching.proofs.Kept.{neighbours-reached, meet-kept, start-kept}
 
 -- the byte of a colour, seen from the colour of the start
 tone : Bool → Bool → ℕ
@@ -63,7 +63,7 @@ module _ {A : Type 0} (same : A → A → Bool) (decides : Decides same) (room :
   meet-toned b s y e p h =
       meet-cases same room b s y (Toned byte d) (λ o. h)
       (λ o i. again-toned byte d s b h (indexIn same (s .found) y)
-          (h .toned (indexIn same (s .found) y) i ∙ ap byte (index-at same decides (s .found) d y i) ∙ sym e))
+      (h .toned (indexIn same (s .found) y) i ∙ ap byte (index-at same decides (s .found) d y i) ∙ sym e))
       (λ o i r. add-toned byte d s b h y e p)
       (λ o i r. record { still = h .still; toned = h .toned })
 
@@ -81,9 +81,10 @@ module _ {A : Type 0} (same : A → A → Bool) (decides : Decides same) (room :
   meets-toned b p s [] q h = h
   meets-toned b p s (y ∷ l) q h =
       let r = q y (List·Memᴰ·head refl) in
-      meets-toned b p (meet same room b s y) l (λ z m. q z (List·Memᴰ·tail m))
-      (meet-kept same decides room (Neighbour nbrs) a b p s y (r .0) (h .0),
-       meet-toned same decides room byte a b s y (r .1) (h .0 .paired) (h .1))
+      meets-toned b p (meet same room b s y) l (λ z m. q z (List·Memᴰ·tail m)) (
+        meet-kept same decides room (Neighbour nbrs) a b p s y (r .0) (h .0),
+        meet-toned same decides room byte a b s y (r .1) (h .0 .paired) (h .1),
+      )
 
   work-toned : (k : ℕ) (s : State A) → k < length (s .found) → Good s → Good (work same room nbrs a k s)
   unfolding work
@@ -95,7 +96,8 @@ module _ {A : Type 0} (same : A → A → Bool) (decides : Decides same) (room :
       go : (y : A) → Neighbour nbrs x y → Reach (Neighbour nbrs) a y × (1 - getD (s .bytes) k 0 ≡ byte y)
       go y n =
           let r = h .0 .reached x (in-at (s .found) a k i) in
-          (next r n, rw (h .1 .toned k i) (tone-flip (c .colour a) (c .colour x) (c .colour y) (c .flips x y r n)))
+          let t = tone-flip (c .colour a) (c .colour x) (c .colour y) (c .flips x y r n) in
+          (neighbours-reached room nbrs a k s i (h .0) y n, rw (h .1 .toned k i) t)
 
   nothing-toned : Toned byte a nothing
   nothing-toned = record { still = refl; toned = λ k h. absurd (omega arith) }

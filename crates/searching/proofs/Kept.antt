@@ -1,9 +1,9 @@
--- What holds of each state of a search: nothing was found twice, all that was found fits and is reachable, the bytes are
--- theirs, and once over there is one more.
+-- What holds of each state of a search: nothing was found twice, all that was found fits and is reachable, there is a
+-- byte for each, and once over one more is reachable.
 -- Assumes nothing.
 use mathlib.Core.Path.{_≡_, refl, sym, _∙_}
-use mathlib.Core.Logic.{_⊎_, ⊎-elim}
-use mathlib.Core.Bool.{Bool, true, false, true≢false}
+use mathlib.Core.Logic.{⊎-elim}
+use mathlib.Core.Bool.{Bool, false, true≢false}
 use mathlib.Core.List.{List, [], _∷_, _++_, List·Memᴰ, List·Memᴰ·head, List·Memᴰ·tail, List·Memᴰ·not-nil}
 use mathlib.Core.List.{List·Memᴰ·append-cases, List·Memᴰ·eq-of-singleton}
 use Prim.Native.Nat.{ℕ, zero, suc, _-_, _≤_, _<_}
@@ -11,7 +11,7 @@ use native.Mathlib.Decide.{ℕ-discrete}
 use native.Mathlib.Omega.{arith}
 use lib.ListN.{length, getD}
 use Rattle.order.specs.Flags.{Reach, start, next}
-use Rattle.searching.specs.Search.{State, nothing, add, full, placeAfter, again, indexIn, meet, meetAll, work, run}
+use Rattle.searching.specs.Search.{State, nothing, add, overfull, placeAfter, again, indexIn, meet, meetAll, work}
 use Rattle.searching.specs.Search.{search, Neighbour, Decides, Once, Kept}
 use Rattle.searching.proofs.Once.{length-snoc, once-snoc, in-at}
 use Rattle.searching.proofs.Lookup.{index-in}
@@ -74,9 +74,9 @@ module _ {A : Type 0} (room : ℕ) (R : A → A → Type 0) (a : A) where
       last : (x : A) → List·Memᴰ x (y ∷ []) → Reach R a x
       last x m = rw (List·Memᴰ·eq-of-singleton m) q
 
-  full-kept : (s : State A) (y : A) → Kept room R a s → Reach R a y → ¬ List·Memᴰ y (s .found)
-      → room ≤ length (s .found) → Kept room R a (full s)
-  full-kept s y h q n r = record {
+  overfull-kept : (s : State A) (y : A) → Kept room R a s → Reach R a y → ¬ List·Memᴰ y (s .found)
+      → room ≤ length (s .found) → Kept room R a (overfull s)
+  overfull-kept s y h q n r = record {
     once = h .once;
     fits = h .fits;
     reached = h .reached;
@@ -86,6 +86,11 @@ module _ {A : Type 0} (room : ℕ) (R : A → A → Type 0) (a : A) where
     beyond = λ e. record { thing = y; reached = q; missing = n; many = omega (arith, h .fits) };
   }
 
+pub neighbours-reached : {A : Type 0} (room : ℕ) (nbrs : A → List A) (a : A) (k : ℕ) (s : State A)
+    → k < length (s .found) → Kept room (Neighbour nbrs) a s → (y : A) → Neighbour nbrs (getD (s .found) k a) y
+    → Reach (Neighbour nbrs) a y
+neighbours-reached room nbrs a k s i h y n = next (h .reached (getD (s .found) k a) (in-at (s .found) a k i)) n
+
 module _ {A : Type 0} (same : A → A → Bool) (decides : Decides same) (room : ℕ) where
   -- a thing whose index is the length is not there
   not-in : (l : List A) (y : A) → length l ≤ indexIn same l y → ¬ List·Memᴰ y l
@@ -94,9 +99,10 @@ module _ {A : Type 0} (same : A → A → Bool) (decides : Decides same) (room :
   module _ (R : A → A → Type 0) (a : A) (b : ℕ) (p : b ≤ 1) where
     pub meet-kept : (s : State A) (y : A) → Reach R a y → Kept room R a s → Kept room R a (meet same room b s y)
     meet-kept s y q h =
-        meet-cases same room b s y (Kept room R a) (λ o. h) (λ o i. again-kept room R a b s (indexIn same (s .found) y) h)
+        meet-cases same room b s y (Kept room R a) (λ o. h)
+        (λ o i. again-kept room R a b s (indexIn same (s .found) y) h)
         (λ o i r. add-kept room R a b s y h p q o (not-in (s .found) y i) r)
-        (λ o i r. full-kept room R a s y h q (not-in (s .found) y i) r)
+        (λ o i r. overfull-kept room R a s y h q (not-in (s .found) y i) r)
 
     pub meets-kept : (s : State A) (l : List A) → ((y : A) → List·Memᴰ y l → Reach R a y) → Kept room R a s
         → Kept room R a (meetAll same room b s l)
@@ -112,7 +118,7 @@ module _ {A : Type 0} (same : A → A → Bool) (decides : Decides same) (room :
     unfolding work
     work-kept k s i h =
         meets-kept (Neighbour nbrs) a (1 - getD (s .bytes) k 0) (omega arith) s (nbrs (getD (s .found) k a))
-        (λ y m. next (h .reached (getD (s .found) k a) (in-at (s .found) a k i)) m) h
+        (neighbours-reached room nbrs a k s i h) h
 
     pub start-kept : Kept room (Neighbour nbrs) a (meet same room 0 nothing a)
     start-kept = meet-kept (Neighbour nbrs) a 0 (omega arith) nothing a start (nothing-kept room (Neighbour nbrs) a)
@@ -120,5 +126,5 @@ module _ {A : Type 0} (same : A → A → Bool) (decides : Decides same) (room :
     pub search-kept : Kept room (Neighbour nbrs) a (search same room nbrs a)
     unfolding search
     search-kept =
-        run-ends same room nbrs a (λ k s. Kept room (Neighbour nbrs) a s) (λ k s o i h. work-kept k s i h) 0
+        run-ends same room nbrs a (λ k. Kept room (Neighbour nbrs) a) (λ k s o i h. work-kept k s i h) 0
         (meet same room 0 nothing a) (start-kept .fits) start-kept .1

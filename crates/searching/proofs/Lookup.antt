@@ -1,17 +1,16 @@
--- The index at which a thing stands, and any faster way to it: in a list in which nothing stands twice it is the only one.
+-- The index at which a thing stands. Where nothing stands twice it is the only one, so that any faster way finds it.
 -- Assumes nothing.
 use mathlib.Core.Path.{_≡_, refl, sym, ap, _∙_}
 use mathlib.Core.Logic.{_≢_, _⊎_, inl, inr, ⊎-elim}
 use mathlib.Core.Bool.{Bool, true, false, true≢false}
 use mathlib.Core.List.{List, [], _∷_, List·Memᴰ, List·Memᴰ·head, List·Memᴰ·tail, Memᴰ·cast}
-use Prim.Native.Nat.{ℕ, zero, suc, _≤_, _<_}
+use Prim.Native.Nat.{ℕ, zero, suc, _<_}
 use native.Mathlib.Omega.{arith}
 use lib.ListN.{length, getD}
 use Rattle.searching.specs.Search.{indexIn, Decides, Once}
 use Rattle.searching.proofs.Once.{in-at}
 
 module _ {A : Type 0} (same : A → A → Bool) where
-  -- the index in a list by its head
   index-here : (x y : A) (l : List A) → same x y ≡ true → indexIn same (x ∷ l) y ≡ 0
   unfolding indexIn
   index-here x y l e = rw e
@@ -20,6 +19,7 @@ module _ {A : Type 0} (same : A → A → Bool) where
   unfolding indexIn
   index-later x y l e = rw e
 
+  -- a list that has the thing nowhere
   pub index-none : (l : List A) (d y : A) → ((k : ℕ) → k < length l → same (getD l k d) y ≡ false)
       → indexIn same l y ≡ length l
   unfolding indexIn
@@ -42,7 +42,7 @@ module _ {A : Type 0} (same : A → A → Bool) (decides : Decides same) where
   pub differs : (x y : A) → x ≢ y → same x y ≡ false
   differs x y d = ⊎-elim (λ t. absurd (d (t .1))) (λ t. t .0) (tested x y)
 
-  -- where the index is below the length, the thing stands there
+  -- the thing stands at an index below the length
   pub index-at : (l : List A) (d y : A) → indexIn same l y < length l → getD l (indexIn same l y) d ≡ y
   unfolding indexIn
   index-at [] d y h = absurd (omega arith)
@@ -62,6 +62,7 @@ module _ {A : Type 0} (same : A → A → Bool) (decides : Decides same) where
       go (inl t) ih = omega (arith, index-here same x y m (t .0))
       go (inr t) ih = omega (arith, index-later same x y m (t .0))
 
+  -- any index at which the thing stands is the first
   pub index-only : (l : List A) (d y : A) (k : ℕ) → Once l → k < length l → same (getD l k d) y ≡ true
       → indexIn same l y ≡ k
   unfolding Once

@@ -1,7 +1,7 @@
 -- Lists in which nothing stands twice: their places, one more at the end, and how many fit into another list.
 -- Assumes nothing.
 use mathlib.Core.Path.{_≡_, refl, sym, _∙_}
-use mathlib.Core.Logic.{_≢_, _⊎_, inl, inr, ⊎-elim}
+use mathlib.Core.Logic.{_≢_, ⊎-elim}
 use mathlib.Core.List.{List, [], _∷_, _++_, List·Memᴰ, List·Memᴰ·head, List·Memᴰ·tail, List·Memᴰ·not-nil}
 use mathlib.Core.List.{List·Memᴰ·cases-cons, Memᴰ·cast, List·Memᴰ·append-cases, List·Memᴰ·eq-of-singleton}
 use Prim.Native.Nat.{ℕ, zero, suc, _≤_, _<_}
@@ -33,19 +33,19 @@ module _ {A : Type 0} where
       last m = n (List·Memᴰ·head (sym (List·Memᴰ·eq-of-singleton m)))
 
   -- a list without one of its members
-  record Struck (l : List A) (x : A) : Type 0 where
+  record Without (l : List A) (x : A) : Type 0 where
     rest : List A
     fewer : length l ≡ suc (length rest)
     others : (z : A) → z ≢ x → List·Memᴰ z l → List·Memᴰ z rest
 
-  strike : (l : List A) (x : A) → List·Memᴰ x l → Struck l x
-  strike l x (List·Memᴰ·head {xs = m} e) = record {
+  without : (l : List A) (x : A) → List·Memᴰ x l → Without l x
+  without l x (List·Memᴰ·head {xs = m} e) = record {
     rest = m;
     fewer = refl;
     others = λ z d h. ⊎-elim (λ q. absurd (d (q ∙ sym e))) (λ n. n) (List·Memᴰ·cases-cons h);
   }
-  strike l x (List·Memᴰ·tail {x = y} {xs = m} h) =
-      let s = strike m x h in
+  without l x (List·Memᴰ·tail {x = y} {xs = m} h) =
+      let s = without m x h in
       record {
         rest = y ∷ s .rest;
         fewer = omega arith;
@@ -57,6 +57,6 @@ module _ {A : Type 0} where
   unfolding Once
   once-fits [] m o h = omega arith
   once-fits (x ∷ l) m o h =
-      let s = strike m x (h x (List·Memᴰ·head refl)) in
-      let others : (z : A) → List·Memᴰ z l → List·Memᴰ z (s .rest) = λ z k. s .others z (λ e. o .0 (Memᴰ·cast (sym e) k)) (h z (List·Memᴰ·tail k)) in
-      omega (arith, once-fits l (s .rest) (o .1) others)
+      let s = without m x (h x (List·Memᴰ·head refl)) in
+      let differs : (z : A) → List·Memᴰ z l → z ≢ x = λ z k e. o .0 (Memᴰ·cast (sym e) k) in
+      omega (arith, once-fits l (s .rest) (o .1) (λ z k. s .others z (differs z k) (h z (List·Memᴰ·tail k))))

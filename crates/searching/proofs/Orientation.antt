@@ -12,7 +12,7 @@ use lib.Dec.{eqb}
 use lib.ListN.{length, getD, List·getD-append}
 use lib.Seq.{getD-at}
 use Rattle.order.specs.Flags.{Reach, start, next}
-use Rattle.searching.specs.Search.{State, nothing, add, full, again, indexIn, meet, meetAll, work, run, search}
+use Rattle.searching.specs.Search.{State, nothing, add, overfull, again, indexIn, meet, meetAll, work, run, search}
 use Rattle.searching.specs.Search.{Neighbour, Decides, Kept, Colouring}
 use Rattle.searching.proofs.Once.{length-snoc, in-at, at-in}
 use Rattle.searching.proofs.Lookup.{index-at, index-only}

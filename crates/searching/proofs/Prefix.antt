@@ -9,7 +9,7 @@ use native.Mathlib.Numerals.{add-one}
 use native.Mathlib.Omega.{arith}
 use lib.ListN.{length, take}
 use lib.Seq.{take-all, take-at}
-use Rattle.searching.specs.Search.{State, nothing, full, meet, meetAll, work, run, search, Neighbour, Decides, Kept}
+use Rattle.searching.specs.Search.{State, nothing, overfull, meet, meetAll, work, run, search, Neighbour, Decides, Kept}
 use Rattle.searching.proofs.Step.{meet-stop, meet-again, meet-new, meet-cases, meets-over, meet-fits, meets-fits}
 use Rattle.searching.proofs.Run.{run-next, run-stop, run-end, run-ends}
 use Rattle.searching.proofs.Grown.{Grown, Grown·trans, meet-grown, meets-grown, work-grown}
@@ -18,7 +18,7 @@ use Rattle.searching.proofs.Kept.{search-kept}
 -- s is full with n, and t came of the state before
 record Cut {A : Type 0} (n : ℕ) (s t : State A) : Type 0 where
   before : State A
-  is : s ≡ full before
+  is : s ≡ overfull before
   grown : Grown before t
   many : length (before .found) ≡ n
 
@@ -100,20 +100,21 @@ first : {A : Type 0} (n : ℕ) (l p q : List A) → l ≡ p ++ q → length p �
 first n l p q e h = rw e (sym (take-at p q n h))
 
 module _ {A : Type 0} (same : A → A → Bool) (decides : Decides same) (n m : ℕ) (le : n ≤ m) (nbrs : A → List A) (a : A)
-    where
-  kept : Kept n (Neighbour nbrs) a (search same n nbrs a)
-  kept = search-kept same decides n nbrs a
+  where
+    kept : Kept n (Neighbour nbrs) a (search same n nbrs a)
+    kept = search-kept same decides n nbrs a
 
-  ahead : (s t : State A) → Kept n (Neighbour nbrs) a s → Ahead n s t
-      → (s .found ≡ take n (t .found)) × (s .bytes ≡ take n (t .bytes))
-  ahead s t k (inl e) =
-      rw (← e)
-      (sym (take-all n (s .found) (k .fits)), sym (take-all n (s .bytes) (omega (arith, k .fits, k .paired))))
-  ahead s t k (inr c) =
-      let p : length (c .before .bytes) ≡ n = sym (ap (λ u. length (u .bytes)) (c .is)) ∙ k .paired ∙ ap (λ u. length (u .found)) (c .is) ∙ c .many in
-      (ap (λ u. u .found) (c .is) ∙ first n (t .found) (c .before .found) (c .grown .more) (c .grown .found) (c .many),
-      ap (λ u. u .bytes) (c .is) ∙ first n (t .bytes) (c .before .bytes) (c .grown .tail) (c .grown .bytes) p)
+    ahead : (s t : State A) → Kept n (Neighbour nbrs) a s → Ahead n s t
+        → (s .found ≡ take n (t .found)) × (s .bytes ≡ take n (t .bytes))
+    ahead s t k (inl e) =
+        rw (← e)
+        (sym (take-all n (s .found) (k .fits)), sym (take-all n (s .bytes) (omega (arith, k .fits, k .paired))))
+    ahead s t k (inr c) =
+        let p : length (c .before .bytes) ≡ n = sym (ap (λ u. length (u .bytes)) (c .is)) ∙ k .paired ∙ ap (λ u. length (u .found)) (c .is) ∙ c .many in (
+          ap (λ u. u .found) (c .is) ∙ first n (t .found) (c .before .found) (c .grown .more) (c .grown .found) (c .many),
+          ap (λ u. u .bytes) (c .is) ∙ first n (t .bytes) (c .before .bytes) (c .grown .tail) (c .grown .bytes) p,
+        )
 
-  pub prefix : (search same n nbrs a .found ≡ take n (search same m nbrs a .found))
-      × (search same n nbrs a .bytes ≡ take n (search same m nbrs a .bytes))
-  prefix = ahead (search same n nbrs a) (search same m nbrs a) kept (search-ahead same n m le nbrs a)
+    pub prefix : (search same n nbrs a .found ≡ take n (search same m nbrs a .found))
+        × (search same n nbrs a .bytes ≡ take n (search same m nbrs a .bytes))
+    prefix = ahead (search same n nbrs a) (search same m nbrs a) kept (search-ahead same n m le nbrs a)

@@ -1,5 +1,5 @@
--- Those found are worked, one after another. A loop keeps `W ≡ the state after what is left`: -next is a turn, -stop its end
--- once over, -end its end.
+-- Those found are worked in order. A loop keeps `W ≡ the state after what is left`: -next is a turn, -stop its end
+-- once it is over, -end its end at the last.
 -- Assumes nothing.
 use mathlib.Core.Path.{_≡_, refl, sym, ap, _∙_}
 use mathlib.Core.Bool.{Bool, true, false, not, and-false, true≢false}
@@ -9,7 +9,7 @@ use native.Mathlib.Numerals.{add-one}
 use native.Mathlib.Omega.{arith}
 use borrow.Author.Tests.{lt-ltb, le-ltb, ltb-true, ltb-false}
 use lib.ListN.{length}
-use Rattle.searching.specs.Search.{State, nothing, add, full, work, waits, runFor, run, search}
+use Rattle.searching.specs.Search.{State, nothing, add, overfull, work, waits, runFor, run, search}
 use Rattle.searching.proofs.Step.{meet-new, meet-full, meets-fits}
 
 module _ {A : Type 0} (k : ℕ) (s : State A) where
@@ -52,7 +52,7 @@ module _ {A : Type 0} (same : A → A → Bool) (room : ℕ) (nbrs : A → List 
   for-no zero k s e = refl
   for-no (suc d) k s e = rw (e, runFor)
 
-  -- so much fuel is enough: with any more the state is the same
+  -- any two numbers that are enough lead to the same state
   for-same : (d e k : ℕ) (s : State A) → length (s .found) ≤ room → room ≤ k + d → room ≤ k + e
       → runFor same room nbrs a d k s ≡ runFor same room nbrs a e k s
   for-same zero e k s h p q =
@@ -65,14 +65,15 @@ module _ {A : Type 0} (same : A → A → Bool) (room : ℕ) (nbrs : A → List 
       go (waits k s) refl
       (for-same d e (suc k) (work same room nbrs a k s) (work-fits k s h) (omega arith) (omega arith))
     where
-      go : (b : Bool) → waits k s ≡ b
-          → runFor same room nbrs a d (suc k) (work same room nbrs a k s)
-              ≡ runFor same room nbrs a e (suc k) (work same room nbrs a k s)
+      T : State A
+      T = work same room nbrs a k s
+
+      go : (b : Bool) → waits k s ≡ b → runFor same room nbrs a d (suc k) T ≡ runFor same room nbrs a e (suc k) T
           → runFor same room nbrs a (suc d) k s ≡ runFor same room nbrs a (suc e) k s
       go true w ih = for-yes d k s w ∙ ih ∙ sym (for-yes e k s w)
       go false w ih = for-no (suc d) k s w ∙ sym (for-no (suc e) k s w)
 
-  -- ---- without fuel
+  -- ---- to the end: all that there is room for are enough
 
   pub run-enough : (d k : ℕ) (s : State A) → length (s .found) ≤ room → room ≤ k + d
       → runFor same room nbrs a d k s ≡ run same room nbrs a k s
@@ -97,11 +98,11 @@ module _ {A : Type 0} (same : A → A → Bool) (room : ℕ) (nbrs : A → List 
 
   -- ---- the start
 
-  pub search-full : room ≡ 0 → search same room nbrs a ≡ full nothing
+  pub search-full : room ≡ 0 → search same room nbrs a ≡ overfull nothing
   unfolding search
   search-full z =
       let e = meet-full same room 0 nothing a refl (omega arith) (omega arith) in
-      run-stop (search same room nbrs a) 0 (full nothing) (ap (run same room nbrs a 0) e) refl
+      run-stop (search same room nbrs a) 0 (overfull nothing) (ap (run same room nbrs a 0) e) refl
 
   pub search-start : 0 < room → search same room nbrs a ≡ run same room nbrs a 0 (add 0 nothing a)
   unfolding search
@@ -111,7 +112,7 @@ module _ {A : Type 0} (same : A → A → Bool) (room : ℕ) (nbrs : A → List 
 
   module _ (P : ℕ → State A → Type 0)
       (turn : (k : ℕ) (s : State A) → s .over ≡ false → k < length (s .found) → P k s
-          → P (suc k) (work same room nbrs a k s)) where
+      → P (suc k) (work same room nbrs a k s)) where
     abbrev Done : State A → Type 0
     Done s = (k : ℕ) × P k s × (s .over ≡ false → length (s .found) ≤ k)
 
@@ -122,8 +123,10 @@ module _ {A : Type 0} (same : A → A → Bool) (room : ℕ) (nbrs : A → List 
     for-ends (suc d) k s h p q =
         go (waits k s) refl (λ t. for-ends d (suc k) (work same room nbrs a k s) (work-fits k s h) (omega arith) t)
       where
-        go : (b : Bool) → waits k s ≡ b
-            → (P (suc k) (work same room nbrs a k s) → Done (runFor same room nbrs a d (suc k) (work same room nbrs a k s)))
+        T : State A
+        T = work same room nbrs a k s
+
+        go : (b : Bool) → waits k s ≡ b → (P (suc k) T → Done (runFor same room nbrs a d (suc k) T))
             → Done (runFor same room nbrs a (suc d) k s)
         go true w ih = let y = waiting k s w in rw (for-yes d k s w) (ih (turn k s (y .0) (y .1) q))
         go false w ih = rw (for-no (suc d) k s w) (k, q, past k s w)

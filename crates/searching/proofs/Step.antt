@@ -1,26 +1,26 @@
--- Things are met, one and then all of a list. A loop keeps `W ≡ the state after what is left`: -next is a turn, -stop its
--- end once over, -end its end.
+-- A thing is met, and all of a list. A loop keeps `W ≡ the state after what is left`: -next is a turn, -stop its end
+-- once it is over, -end its end at the last.
 -- Assumes nothing.
-use mathlib.Core.Path.{_≡_, refl, sym, ap, _∙_, subst}
+use mathlib.Core.Path.{_≡_, refl, ap, _∙_}
 use mathlib.Core.Bool.{Bool, true, false, cond, and-false}
 use mathlib.Core.Logic.{_≢_}
 use mathlib.Core.List.{List, [], _∷_}
-use Prim.Native.Nat.{ℕ, zero, suc, _+_, _-_, _≤_, _<_}
+use Prim.Native.Nat.{ℕ, _+_, _≤_, _<_}
 use native.Mathlib.Numerals.{add-one}
 use native.Mathlib.Omega.{arith}
 use borrow.Author.Tests.{lt-ltb, le-ltb, ltb-true, ltb-false, eq-eqb, ne-eqb}
 use lib.Dec.{ltb, eqb}
 use lib.ListN.{length, getD, drop, drop-of-length-le}
 use lib.Seq.{drop-cons}
-use Rattle.searching.specs.Search.{State, add, full, placeAfter, again, indexIn, meet, meetAll}
+use Rattle.searching.specs.Search.{State, add, overfull, placeAfter, again, indexIn, meet, meetAll}
 use Rattle.searching.proofs.Once.{length-snoc}
 
 -- the branch that a test takes
-on-true : {A : Type 0} (t : Bool) (x y : A) → t ≡ true → cond t x y ≡ x
-on-true t x y e = rw e
+cond-true : {A : Type 0} (t : Bool) (x y : A) → t ≡ true → cond t x y ≡ x
+cond-true t x y e = rw e
 
-on-false : {A : Type 0} (t : Bool) (x y : A) → t ≡ false → cond t x y ≡ y
-on-false t x y e = rw e
+cond-false : {A : Type 0} (t : Bool) (x y : A) → t ≡ false → cond t x y ≡ y
+cond-false t x y e = rw e
 
 -- ---- the place after the ith is met again
 
@@ -43,35 +43,35 @@ module _ {A : Type 0} (same : A → A → Bool) (room : ℕ) where
 
     pub meet-stop : s .over ≡ true → meet same room b s y ≡ s
     unfolding meet
-    meet-stop o = on-true _ _ _ o
+    meet-stop o = cond-true _ _ _ o
 
     module _ (o : s .over ≡ false) where
       pub meet-again : indexIn same (s .found) y < length (s .found)
           → meet same room b s y ≡ again b s (indexIn same (s .found) y)
       unfolding meet
-      meet-again i = on-false _ _ _ o ∙ on-true _ _ _ (lt-ltb _ _ i)
+      meet-again i = cond-false _ _ _ o ∙ cond-true _ _ _ (lt-ltb _ _ i)
 
       pub meet-new : length (s .found) ≤ indexIn same (s .found) y → length (s .found) < room
           → meet same room b s y ≡ add b s y
       unfolding meet
-      meet-new i r = on-false _ _ _ o ∙ on-false _ _ _ (le-ltb _ _ i) ∙ on-true _ _ _ (lt-ltb _ _ r)
+      meet-new i r = cond-false _ _ _ o ∙ cond-false _ _ _ (le-ltb _ _ i) ∙ cond-true _ _ _ (lt-ltb _ _ r)
 
       pub meet-full : length (s .found) ≤ indexIn same (s .found) y → room ≤ length (s .found)
-          → meet same room b s y ≡ full s
+          → meet same room b s y ≡ overfull s
       unfolding meet
-      meet-full i r = on-false _ _ _ o ∙ on-false _ _ _ (le-ltb _ _ i) ∙ on-false _ _ _ (le-ltb _ _ r)
+      meet-full i r = cond-false _ _ _ o ∙ cond-false _ _ _ (le-ltb _ _ i) ∙ cond-false _ _ _ (le-ltb _ _ r)
 
-    -- what holds of the state in each case holds of the state after
+    -- what holds in each case holds of the state after
     pub meet-cases : (P : State A → Type 0) → (s .over ≡ true → P s)
         → (s .over ≡ false → indexIn same (s .found) y < length (s .found) → P (again b s (indexIn same (s .found) y)))
         → (s .over ≡ false → length (s .found) ≤ indexIn same (s .found) y → length (s .found) < room → P (add b s y))
-        → (s .over ≡ false → length (s .found) ≤ indexIn same (s .found) y → room ≤ length (s .found) → P (full s))
+        → (s .over ≡ false → length (s .found) ≤ indexIn same (s .found) y → room ≤ length (s .found) → P (overfull s))
         → P (meet same room b s y)
     meet-cases P stop known new none =
         go (s .over) refl (ltb (indexIn same (s .found) y) (length (s .found))) refl (ltb (length (s .found)) room) refl
       where
-        go : (t : Bool) → s .over ≡ t → (u : Bool) → ltb (indexIn same (s .found) y) (length (s .found)) ≡ u → (v : Bool)
-            → ltb (length (s .found)) room ≡ v → P (meet same room b s y)
+        go : (t : Bool) → s .over ≡ t → (u : Bool) → ltb (indexIn same (s .found) y) (length (s .found)) ≡ u
+            → (v : Bool) → ltb (length (s .found)) room ≡ v → P (meet same room b s y)
         go true o u i v r = rw (meet-stop o) (stop o)
         go false o true i v r =
             let l = ltb-true _ _ i in
@@ -104,7 +104,7 @@ module _ {A : Type 0} (same : A → A → Bool) (room : ℕ) where
     unfolding meetAll
     meets-end h = e ∙ ap (meetAll same room b s) (drop-of-length-le l h)
 
-  -- ---- what is found fits
+  -- ---- no more is found than there is room for
 
   pub meet-fits : (b : ℕ) (s : State A) (y : A) → length (s .found) ≤ room → length (meet same room b s y .found) ≤ room
   meet-fits b s y h =

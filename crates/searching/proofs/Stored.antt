@@ -1,22 +1,23 @@
 -- Each thing that was met is stored, and with the byte that it should have as long as there was no place.
 -- Assumes nothing.
-use mathlib.Core.Path.{_≡_, refl, sym, ap, _∙_}
-use mathlib.Core.Bool.{Bool, true, false, true≢false}
-use mathlib.Core.List.{List, [], _∷_, _++_, List·Memᴰ, List·Memᴰ·head, List·Memᴰ·tail}
+use mathlib.Core.Path.{_≡_, refl, sym, _∙_}
+use mathlib.Core.Bool.{Bool, false, true≢false}
+use mathlib.Core.List.{List, [], List·Memᴰ, List·Memᴰ·head, List·Memᴰ·tail}
 use Prim.Native.Nat.{ℕ, suc, _-_, _≤_, _<_}
 use native.Mathlib.Decide.{ℕ-discrete, decLt}
 use native.Mathlib.Omega.{arith}
 use lib.ListN.{length, getD}
 use lib.Seq.{getD-at}
-use Rattle.order.specs.Flags.{Reach, next}
-use Rattle.searching.specs.Search.{State, nothing, add, placeAfter, again, indexIn, meet, meetAll, work, run, search}
-use Rattle.searching.specs.Search.{Neighbour, Decides, Kept}
-use Rattle.searching.proofs.Once.{length-snoc, in-at}
+use Rattle.order.specs.Flags.{Reach}
+use Rattle.searching.specs.Search.{State, nothing, add, placeAfter, again, indexIn, meet, meetAll, work}
+use Rattle.searching.specs.Search.{search, Neighbour, Decides, Kept}
+use Rattle.searching.proofs.Once.{length-snoc}
 use Rattle.searching.proofs.Lookup.{index-at}
 use Rattle.searching.proofs.Step.{place-first, meet-cases}
 use Rattle.searching.proofs.Run.{run-ends}
-use Rattle.searching.proofs.Grown.{Grown, Grown·length, Grown·found, Grown·byte, again-grown, meets-grown, work-grown}
-use Rattle.searching.proofs.Kept.{meet-kept, work-kept, start-kept}
+use Rattle.searching.proofs.Grown.{Grown, Grown·length, Grown·found, Grown·byte, again-grown}
+use Rattle.searching.proofs.Grown.{meets-grown, work-grown}
+use Rattle.searching.proofs.Kept.{neighbours-reached, meet-kept, work-kept, start-kept}
 
 -- y stands at an index, and its byte is b as long as there was no place
 pub record Stored {A : Type 0} (d : A) (b : ℕ) (y : A) (s : State A) : Type 0 where
@@ -87,9 +88,10 @@ module _ {A : Type 0} (same : A → A → Bool) (decides : Decides same) (room :
     unfolding work
     work-stored k s i h o y n =
         meets-stored (1 - getD (s .bytes) k 0) (omega arith) s (nbrs (getD (s .found) k a)) y n
-        (λ z m. next (h .reached (getD (s .found) k a) (in-at (s .found) a k i)) m) h o
+        (neighbours-reached room nbrs a k s i h) h o
 
-    work-worked : (k : ℕ) (s : State A) → k < length (s .found) → Worked k s → Worked (suc k) (work same room nbrs a k s)
+    work-worked : (k : ℕ) (s : State A) → k < length (s .found) → Worked k s
+        → Worked (suc k) (work same room nbrs a k s)
     work-worked k s i w = record {
       kept = work-kept same decides room nbrs a k s i (w .kept);
       some = omega (arith, Grown·length g);

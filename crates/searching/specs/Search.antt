@@ -1,26 +1,28 @@
 -- A search along neighbours in the order found, with room for so many, that gives each thing found one of two
--- orientations.
+-- orientations: a byte, 0 even or 1 odd.
 --
--- State       found: what was found, in order. bytes: their orientations, 0 even and 1 odd. place: how many were known at
---             the first repeat with another byte than stored, 0 while there was none. over: one more than fits was met
+-- State       found: what was found, in order. bytes: the byte of each. place: how many were known at the first repeat
+--             with another byte than stored, 0 while there was none. over: one more was met than there is room for
 -- nothing     the state in which nothing was found
--- add         one more is found
--- full        one more was met than there is room for
--- again       the ith is met again, with the byte b
+-- add         a new thing is found, with the byte b
+-- overfull    one more was met than there is room for
+-- placeAfter  the place after the ith was met again, as one that should have the byte b
+-- again       the state after that: all but the place is kept
+-- waits       whether the kth is there to be worked
 -- indexIn     the first index at which a thing stands, the length where it does not
--- meet        a thing is met that should have the byte b: nothing once over; else again, or new while there is room
+-- meet        a thing is met that should have the byte b: nothing once over; a new one is added while there is room
 -- meetAll     things are met, in order
 -- work        the neighbours of the kth are met, with the other byte than its own
--- waits       whether the kth is there to be worked
--- run         the kth, the next, .. are worked while they are there; runFor is at most so many of them
+-- runFor      the kth and those after it are worked, at most d of them
+-- run         the kth and those after it are worked, as long as there are any and it is not over
 -- search      the start is met, with byte 0, and then all are worked
 -- Neighbour   y is a neighbour of x
--- Decides     a sameness test says true exactly of equal things
+-- Decides     a test of two things says true exactly of equal ones
 -- Once        nothing stands twice in a list
 -- More        n different things are reachable
--- Beyond      something is reachable that a list of so many does not have
+-- Beyond      a list has so many things, and one more is reachable
 -- Kept        what holds of each state of a search
--- Colouring   two colours of which each step from a reachable thing takes the other
+-- Colouring   two colours that each step from a reachable thing exchanges
 use mathlib.Core.Path.{_≡_}
 use mathlib.Core.Logic.{_↔_}
 use mathlib.Core.Bool.{Bool, true, false, cond, not, _&&_}
@@ -43,12 +45,11 @@ module _ {A : Type 0} where
   abbrev pub add : ℕ → State A → A → State A
   add b s y = record { found = s .found ++ (y ∷ []); bytes = s .bytes ++ (b ∷ []); place = s .place; over = s .over }
 
-  abbrev pub full : State A → State A
-  full s = record { found = s .found; bytes = s .bytes; place = s .place; over = true }
+  abbrev pub overfull : State A → State A
+  overfull s = record { found = s .found; bytes = s .bytes; place = s .place; over = true }
 
   unfoldable pub placeAfter : ℕ → State A → ℕ → ℕ
-  placeAfter b s i =
-      cond (eqb (s .place) 0 && not (eqb (getD (s .bytes) i 0) b)) (length (s .found)) (s .place)
+  placeAfter b s i = cond (eqb (s .place) 0 && not (eqb (getD (s .bytes) i 0) b)) (length (s .found)) (s .place)
 
   abbrev pub again : ℕ → State A → ℕ → State A
   again b s i = record { found = s .found; bytes = s .bytes; place = placeAfter b s i; over = s .over }
@@ -66,7 +67,8 @@ module _ {A : Type 0} (same : A → A → Bool) where
     meet b s y =
         cond (s .over) s
         (cond (ltb (indexIn (s .found) y) (length (s .found))) (again b s (indexIn (s .found) y))
-        (cond (ltb (length (s .found)) room) (add b s y) (full s)))
+        (cond (ltb (length (s .found)) room) (add b s y)
+        (overfull s)))
 
     unfoldable pub meetAll : ℕ → State A → List A → State A
     meetAll b s [] = s
@@ -105,10 +107,10 @@ module _ {A : Type 0} where
     pub reached : (x : A) → List·Memᴰ x things → Reach R a x
 
   pub record Beyond (room : ℕ) (R : A → A → Type 0) (a : A) (l : List A) : Type 0 where
-    pub thing : A
-    pub reached : Reach R a thing
-    pub missing : ¬ List·Memᴰ thing l
     pub many : length l ≡ room
+    pub thing : A
+    pub missing : ¬ List·Memᴰ thing l
+    pub reached : Reach R a thing
 
   pub record Kept (room : ℕ) (R : A → A → Type 0) (a : A) (s : State A) : Type 0 where
     pub once : Once (s .found)
