@@ -6,7 +6,7 @@ use mathlib.Core.Logic.{⊎-elim}
 use mathlib.Core.Bool.{Bool, false, true≢false}
 use mathlib.Core.List.{List, [], _∷_, _++_, List·Memᴰ, List·Memᴰ·head, List·Memᴰ·tail, List·Memᴰ·not-nil}
 use mathlib.Core.List.{List·Memᴰ·append-cases, List·Memᴰ·eq-of-singleton}
-use Prim.Native.Nat.{ℕ, zero, suc, _-_, _≤_, _<_}
+use Prim.Native.Nat.{ℕ, zero, suc, _≤_, _<_}
 use native.Mathlib.Decide.{ℕ-discrete}
 use native.Mathlib.Omega.{arith}
 use lib.ListN.{length, getD}
@@ -117,8 +117,7 @@ module _ {A : Type 0} (same : A → A → Bool) (decides : Decides same) (room :
         → Kept room (Neighbour nbrs) a (work same room nbrs a k s)
     unfolding work
     work-kept k s i h =
-        meets-kept (Neighbour nbrs) a (1 - getD (s .bytes) k 0) (omega arith) s (nbrs (getD (s .found) k a))
-        (neighbours-reached room nbrs a k s i h) h
+        meets-kept (Neighbour nbrs) a _ (omega arith) s _ (neighbours-reached room nbrs a k s i h) h
 
     pub start-kept : Kept room (Neighbour nbrs) a (meet same room 0 nothing a)
     start-kept = meet-kept (Neighbour nbrs) a 0 (omega arith) nothing a start (nothing-kept room (Neighbour nbrs) a)

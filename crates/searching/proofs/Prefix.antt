@@ -1,15 +1,16 @@
 -- With less room the search is the same until it is full: it holds the first things that a search with more room finds.
 -- Assumes nothing.
 use mathlib.Core.Path.{_≡_, refl, sym, ap, _∙_}
-use mathlib.Core.Logic.{_⊎_, inl, inr}
+use mathlib.Core.Logic.{_⊎_, inl, inr, ⊎-elim}
 use mathlib.Core.Bool.{Bool, true, false}
-use mathlib.Core.List.{List, [], _∷_, _++_}
-use Prim.Native.Nat.{ℕ, suc, _+_, _≤_, _<_}
+use mathlib.Core.List.{List, [], _∷_}
+use Prim.Native.Nat.{ℕ, suc, _≤_, _<_}
 use native.Mathlib.Numerals.{add-one}
 use native.Mathlib.Omega.{arith}
 use lib.ListN.{length, take}
 use lib.Seq.{take-all, take-at}
-use Rattle.searching.specs.Search.{State, nothing, overfull, meet, meetAll, work, run, search, Neighbour, Decides, Kept}
+use Rattle.searching.specs.Search.{State, nothing, overfull, meet, meetAll, work, run, search}
+use Rattle.searching.specs.Search.{Neighbour, Decides, Kept}
 use Rattle.searching.proofs.Step.{meet-stop, meet-again, meet-new, meet-cases, meets-over, meet-fits, meets-fits}
 use Rattle.searching.proofs.Run.{run-next, run-stop, run-end, run-ends}
 use Rattle.searching.proofs.Grown.{Grown, Grown·trans, meet-grown, meets-grown, work-grown}
@@ -95,26 +96,35 @@ module _ {A : Type 0} (same : A → A → Bool) (n m : ℕ) (le : n ≤ m) where
         go k t (inl p) d true o = inl (run-stop same n nbrs a W k t (p .1) o)
         go k t (inl p) d false o = inl (run-end same n nbrs a W k t (p .1) (d o))
 
--- the first n of a list that begins with n, and of one that has no more
-first : {A : Type 0} (n : ℕ) (l p q : List A) → l ≡ p ++ q → length p ≡ n → p ≡ take n l
-first n l p q e h = rw e (sym (take-at p q n h))
+module _ {A : Type 0} (n : ℕ) (s t : State A) where
+  -- the same states: all are the first n
+  same-first : length (s .found) ≤ n → length (s .bytes) ≡ length (s .found) → s ≡ t
+      → (s .found ≡ take n (t .found)) × (s .bytes ≡ take n (t .bytes))
+  same-first h p e = rw (← e) (sym (take-all n (s .found) h), sym (take-all n (s .bytes) (omega arith)))
 
-module _ {A : Type 0} (same : A → A → Bool) (decides : Decides same) (n m : ℕ) (le : n ≤ m) (nbrs : A → List A) (a : A)
+  cut-first : length (s .bytes) ≡ length (s .found) → Cut n s t
+      → (s .found ≡ take n (t .found)) × (s .bytes ≡ take n (t .bytes))
+  cut-first p c = (
+    rw (u .found) (f ∙ sym (take-at (c .before .found) (u .more) n (c .many))),
+    rw (u .bytes) (b ∙ sym (take-at (c .before .bytes) (u .tail) n (sym (ap length b) ∙ p ∙ ap length f ∙ c .many))),
+  )
+    where
+      u : Grown (c .before) t
+      u = c .grown
+
+      f : s .found ≡ c .before .found
+      f = ap (λ v. v .found) (c .is)
+
+      b : s .bytes ≡ c .before .bytes
+      b = ap (λ v. v .bytes) (c .is)
+
+-- The search with room for n finds the first n, with their bytes, that a search with more room finds.
+pub prefix : {A : Type 0} (same : A → A → Bool) (decides : Decides same) (n m : ℕ) → n ≤ m → (nbrs : A → List A) (a : A)
+    → (search same n nbrs a .found ≡ take n (search same m nbrs a .found))
+    × (search same n nbrs a .bytes ≡ take n (search same m nbrs a .bytes))
+prefix same decides n m le nbrs a =
+    ⊎-elim (same-first n (search same n nbrs a) (search same m nbrs a) (k .fits) (k .paired))
+    (cut-first n (search same n nbrs a) (search same m nbrs a) (k .paired)) (search-ahead same n m le nbrs a)
   where
-    kept : Kept n (Neighbour nbrs) a (search same n nbrs a)
-    kept = search-kept same decides n nbrs a
-
-    ahead : (s t : State A) → Kept n (Neighbour nbrs) a s → Ahead n s t
-        → (s .found ≡ take n (t .found)) × (s .bytes ≡ take n (t .bytes))
-    ahead s t k (inl e) =
-        rw (← e)
-        (sym (take-all n (s .found) (k .fits)), sym (take-all n (s .bytes) (omega (arith, k .fits, k .paired))))
-    ahead s t k (inr c) =
-        let p : length (c .before .bytes) ≡ n = sym (ap (λ u. length (u .bytes)) (c .is)) ∙ k .paired ∙ ap (λ u. length (u .found)) (c .is) ∙ c .many in (
-          ap (λ u. u .found) (c .is) ∙ first n (t .found) (c .before .found) (c .grown .more) (c .grown .found) (c .many),
-          ap (λ u. u .bytes) (c .is) ∙ first n (t .bytes) (c .before .bytes) (c .grown .tail) (c .grown .bytes) p,
-        )
-
-    pub prefix : (search same n nbrs a .found ≡ take n (search same m nbrs a .found))
-        × (search same n nbrs a .bytes ≡ take n (search same m nbrs a .bytes))
-    prefix = ahead (search same n nbrs a) (search same m nbrs a) kept (search-ahead same n m le nbrs a)
+    k : Kept n (Neighbour nbrs) a (search same n nbrs a)
+    k = search-kept same decides n nbrs a

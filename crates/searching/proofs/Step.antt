@@ -51,15 +51,15 @@ module _ {A : Type 0} (same : A → A → Bool) (room : ℕ) where
       unfolding meet
       meet-again i = cond-false _ _ _ o ∙ cond-true _ _ _ (lt-ltb _ _ i)
 
-      pub meet-new : length (s .found) ≤ indexIn same (s .found) y → length (s .found) < room
-          → meet same room b s y ≡ add b s y
-      unfolding meet
-      meet-new i r = cond-false _ _ _ o ∙ cond-false _ _ _ (le-ltb _ _ i) ∙ cond-true _ _ _ (lt-ltb _ _ r)
-
       pub meet-full : length (s .found) ≤ indexIn same (s .found) y → room ≤ length (s .found)
           → meet same room b s y ≡ overfull s
       unfolding meet
       meet-full i r = cond-false _ _ _ o ∙ cond-false _ _ _ (le-ltb _ _ i) ∙ cond-false _ _ _ (le-ltb _ _ r)
+
+      pub meet-new : length (s .found) ≤ indexIn same (s .found) y → length (s .found) < room
+          → meet same room b s y ≡ add b s y
+      unfolding meet
+      meet-new i r = cond-false _ _ _ o ∙ cond-false _ _ _ (le-ltb _ _ i) ∙ cond-true _ _ _ (lt-ltb _ _ r)
 
     -- what holds in each case holds of the state after
     pub meet-cases : (P : State A → Type 0) → (s .over ≡ true → P s)
@@ -104,7 +104,13 @@ module _ {A : Type 0} (same : A → A → Bool) (room : ℕ) where
     unfolding meetAll
     meets-end h = e ∙ ap (meetAll same room b s) (drop-of-length-le l h)
 
-  -- ---- no more is found than there is room for
+  -- ---- there is a byte for each, and no more is found than there is room for
+
+  pub meet-paired : (b : ℕ) (s : State A) (y : A) → length (s .bytes) ≡ length (s .found)
+      → length (meet same room b s y .bytes) ≡ length (meet same room b s y .found)
+  meet-paired b s y h =
+      meet-cases b s y (λ t. length (t .bytes) ≡ length (t .found)) (λ o. h) (λ o i. h)
+      (λ o i r. omega (arith, length-snoc (s .found) y, length-snoc (s .bytes) b)) (λ o i r. h)
 
   pub meet-fits : (b : ℕ) (s : State A) (y : A) → length (s .found) ≤ room → length (meet same room b s y .found) ≤ room
   meet-fits b s y h =

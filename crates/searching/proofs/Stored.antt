@@ -8,22 +8,21 @@ use native.Mathlib.Decide.{ℕ-discrete, decLt}
 use native.Mathlib.Omega.{arith}
 use lib.ListN.{length, getD}
 use lib.Seq.{getD-at}
-use Rattle.order.specs.Flags.{Reach}
 use Rattle.searching.specs.Search.{State, nothing, add, placeAfter, again, indexIn, meet, meetAll, work}
 use Rattle.searching.specs.Search.{search, Neighbour, Decides, Kept}
 use Rattle.searching.proofs.Once.{length-snoc}
 use Rattle.searching.proofs.Lookup.{index-at}
-use Rattle.searching.proofs.Step.{place-first, meet-cases}
+use Rattle.searching.proofs.Step.{place-first, meet-cases, meet-paired}
 use Rattle.searching.proofs.Run.{run-ends}
 use Rattle.searching.proofs.Grown.{Grown, Grown·length, Grown·found, Grown·byte, again-grown}
 use Rattle.searching.proofs.Grown.{meets-grown, work-grown}
-use Rattle.searching.proofs.Kept.{neighbours-reached, meet-kept, work-kept, start-kept}
+use Rattle.searching.proofs.Kept.{work-kept, start-kept}
 
 -- y stands at an index, and its byte is b as long as there was no place
 pub record Stored {A : Type 0} (d : A) (b : ℕ) (y : A) (s : State A) : Type 0 where
   pub index : ℕ
   pub known : index < length (s .found)
-  pub there : getD (s .found) index d ≡ y
+  pub stands : getD (s .found) index d ≡ y
   pub byte : s .place ≡ 0 → getD (s .bytes) index 0 ≡ b
 
 module _ {A : Type 0} (d : A) (b : ℕ) (y : A) where
@@ -31,13 +30,13 @@ module _ {A : Type 0} (d : A) (b : ℕ) (y : A) where
   Stored·grown g p r = record {
     index = r .index;
     known = omega (arith, Grown·length g, r .known);
-    there = Grown·found g d (r .index) (r .known) ∙ r .there;
+    stands = Grown·found g d (r .index) (r .known) ∙ r .stands;
     byte = λ z. Grown·byte g (r .index) (omega (arith, r .known)) ∙ r .byte (g .place z);
   }
 
   again-stored : (s : State A) (i : ℕ) → i < length (s .found) → getD (s .found) i d ≡ y → Stored d b y (again b s i)
   again-stored s i h e =
-      record { index = i; known = h; there = e; byte = λ z. go z (ℕ-discrete (getD (s .bytes) i 0) b) }
+      record { index = i; known = h; stands = e; byte = λ z. go z (ℕ-discrete (getD (s .bytes) i 0) b) }
     where
       go : placeAfter b s i ≡ 0 → Dec (getD (s .bytes) i 0 ≡ b) → getD (s .bytes) i 0 ≡ b
       go z (yes q) = q
@@ -47,7 +46,7 @@ module _ {A : Type 0} (d : A) (b : ℕ) (y : A) where
   add-stored s p = record {
     index = length (s .found);
     known = omega (arith, length-snoc (s .found) y);
-    there = getD-at (s .found) y [] d (length (s .found)) refl;
+    stands = getD-at (s .found) y [] d (length (s .found)) refl;
     byte = λ z. getD-at (s .bytes) b [] 0 (length (s .found)) p;
   }
 
@@ -61,20 +60,17 @@ module _ {A : Type 0} (same : A → A → Bool) (decides : Decides same) (room :
       (λ o i r e. add-stored d b y s p)
       (λ o i r e. absurd (true≢false e))
 
-  module _ (nbrs : A → List A) (a : A) where
-    meets-stored : (b : ℕ) → b ≤ 1 → (s : State A) (l : List A) (y : A) → List·Memᴰ y l
-        → ((x : A) → List·Memᴰ x l → Reach (Neighbour nbrs) a x) → Kept room (Neighbour nbrs) a s
-        → meetAll same room b s l .over ≡ false → Stored a b y (meetAll same room b s l)
-    unfolding meetAll
-    meets-stored b p s l y (List·Memᴰ·head {x = x} {xs = m} e) q h o =
-        let t = meet same room b s x in
-        let k = meet-kept same decides room (Neighbour nbrs) a b p s x (q x (List·Memᴰ·head refl)) h in
-        let g = meets-grown same room b t m in
-        rw e (Stored·grown a b x g (k .paired) (meet-stored a b s x (h .paired) (g .over o)))
-    meets-stored b p s l y (List·Memᴰ·tail {x = x} {xs = m} n) q h o =
-        meets-stored b p (meet same room b s x) m y n (λ z i. q z (List·Memᴰ·tail i))
-        (meet-kept same decides room (Neighbour nbrs) a b p s x (q x (List·Memᴰ·head refl)) h) o
+  meets-stored : (d : A) (b : ℕ) (s : State A) (l : List A) (y : A) → List·Memᴰ y l
+      → length (s .bytes) ≡ length (s .found) → meetAll same room b s l .over ≡ false
+      → Stored d b y (meetAll same room b s l)
+  unfolding meetAll
+  meets-stored d b s l y (List·Memᴰ·head {x = x} {xs = m} e) p o =
+      let g = meets-grown same room b (meet same room b s x) m in
+      rw e (Stored·grown d b x g (meet-paired same room b s x p) (meet-stored d b s x p (g .over o)))
+  meets-stored d b s l y (List·Memᴰ·tail {x = x} {xs = m} n) p o =
+      meets-stored d b (meet same room b s x) m y n (meet-paired same room b s x p) o
 
+  module _ (nbrs : A → List A) (a : A) where
     -- the first k were worked: all their neighbours are stored
     record Worked (k : ℕ) (s : State A) : Type 0 where
       kept : Kept room (Neighbour nbrs) a s
@@ -82,13 +78,11 @@ module _ {A : Type 0} (same : A → A → Bool) (decides : Decides same) (room :
       done : s .over ≡ false → (j : ℕ) → j < k → (y : A) → Neighbour nbrs (getD (s .found) j a) y
           → Stored a (1 - getD (s .bytes) j 0) y s
 
-    work-stored : (k : ℕ) (s : State A) → k < length (s .found) → Kept room (Neighbour nbrs) a s
-        → work same room nbrs a k s .over ≡ false → (y : A) → Neighbour nbrs (getD (s .found) k a) y
+    work-stored : (k : ℕ) (s : State A) → length (s .bytes) ≡ length (s .found) → work same room nbrs a k s .over ≡ false
+        → (y : A) → Neighbour nbrs (getD (s .found) k a) y
         → Stored a (1 - getD (s .bytes) k 0) y (work same room nbrs a k s)
     unfolding work
-    work-stored k s i h o y n =
-        meets-stored (1 - getD (s .bytes) k 0) (omega arith) s (nbrs (getD (s .found) k a)) y n
-        (neighbours-reached room nbrs a k s i h) h o
+    work-stored k s p o y n = meets-stored a _ s _ y n p o
 
     work-worked : (k : ℕ) (s : State A) → k < length (s .found) → Worked k s
         → Worked (suc k) (work same room nbrs a k s)
@@ -110,7 +104,7 @@ module _ {A : Type 0} (same : A → A → Bool) (decides : Decides same) (room :
             Stored·grown a (1 - getD (s .bytes) j 0) y g (w .kept .paired) (w .done (g .over o) j l y n)
         go o j m y n (no l) =
             let e : j ≡ k = omega arith in
-            rw e (work-stored k s i (w .kept) o y (rw e at n))
+            rw e (work-stored k s (w .kept .paired) o y (rw e at n))
 
     search-worked : (k : ℕ) × Worked k (search same room nbrs a)
         × (search same room nbrs a .over ≡ false → length (search same room nbrs a .found) ≤ k)
