@@ -1,0 +1,12 @@
+pub mod Once
+pub mod Lookup
+pub mod Chain
+pub mod Step
+pub mod Run
+pub mod Grown
+pub mod Kept
+pub mod Stored
+pub mod Found
+pub mod Coloured
+pub mod Orientation
+pub mod Prefix
