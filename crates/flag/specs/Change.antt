@@ -4,19 +4,20 @@
 -- other       the first number of a list that is not e; 0 where there is none
 -- between     the elements between those of a flag at the ranks r - 1 and r + 1
 -- changeAt    the flag with the other of those at rank r
+-- Neighbours  the numbers at the ranks r - 1 and r + 1 are elements that exist
 -- padded      a flag as a record of 16 numbers, 0 above the top
 -- changeTest  the refusals of a change: those of the closed test, 20, 21
 -- changedOf   what a change answers: on a refusal all numbers of the flag are 0
 use mathlib.Core.Bool.{Bool, not, cond, _&&_}
 use mathlib.Core.List.{List, [], _∷_, _++_}
-use Prim.Native.Nat.{ℕ, _+_, _-_}
+use Prim.Native.Nat.{ℕ, _+_, _-_, _<_}
 use lib.Dec.{ltb, eqb}
 use lib.ListN.{length, getD, set, replicate}
 use Rattle.order.specs.Lists.{has}
 use Rattle.listing.specs.declared.Answer.{Answer}
 use Rattle.listing.specs.Refusals.{notAFlag, outsideRanks}
 use Rattle.listing.specs.Answers.{plain, on, _orElse_, ifZero}
-use Rattle.listing.specs.Listing.{Listing, Limits, rank, subs, sups}
+use Rattle.listing.specs.Listing.{Listing, Limits, rank, count, subs, sups}
 use Rattle.valid.specs.Tests.{closed}
 use Rattle.flag.specs.declared.Changed.{Changed}
 use Rattle.flag.specs.Flags.{flagTest}
@@ -34,6 +35,12 @@ between L r f = common (sups L (r - 1) (getD f (r - 1) 0)) (subs L (r + 1) (getD
 
 unfoldable pub changeAt : Listing → ℕ → List ℕ → List ℕ
 changeAt L r f = set f r (other (getD f r 0) (between L r f))
+
+pub record Neighbours (L : Listing) (f : List ℕ) (r : ℕ) : Type 0 where
+  pub over-lowest : 0 < r
+  pub under-highest : r + 1 < length f
+  pub lower : getD f (r - 1) 0 < count L (r - 1)
+  pub upper : getD f (r + 1) 0 < count L (r + 1)
 
 abbrev pub padded : List ℕ → List ℕ
 padded f = f ++ replicate (16 - length f) 0

@@ -1,7 +1,99 @@
 // Chains of elements, on a listing that is known to be shaped.
+use listing::inner;
+use valid::incidence;
 ghost use mathlib.Core.Path.{_≡_};
+ghost use Prim.Native.Nat.{_+_, _-_, _<_};
+ghost use lib.ListN.{length, getD};
 ghost use Rattle.order.specs.Lists.{Ascending};
-ghost use Rattle.listing.specs.Listing.{listing, limits};
+ghost use Rattle.listing.specs.Listing.{listing, limits, before};
 ghost use Rattle.listing.specs.Shape.{Shaped};
-ghost use Rattle.flag.specs.Flags.{flagTest};
-ghost use Rattle.flag.specs.Change.{common, other};
+ghost use Rattle.valid.specs.Ascent.{Ascends};
+ghost use Rattle.flag.specs.Flags.{flagAt, flagTest};
+ghost use Rattle.flag.specs.Change.{common, other, between, Neighbours};
+
+// Whether an index that exists stands in the flag at rank r, which begins at place here, and over what stands below it.
+fn stands_at(counts: &[u16], ends: &[u16], inc: &[u16], flag: &[u16], here: usize, r: usize) -> bool
+    requires { ⌜ Shaped limits (listing (now counts) (now ends) (now inc)) ⌝ }
+    requires { ⌜ (here ≡ before (now counts) r) × (r < length (now counts)) × (length (now flag) ≡ length (now counts)) ⌝ }
+    ensures { λ t. ⌜ t ≡ flagAt (listing (now (counts .entry)) (now (ends .entry)) (now (inc .entry))) (now (flag .entry)) r ⌝ }
+{
+    let x = flag[r];
+    if counts[r] <= x {
+        return false;
+    }
+    if r == 0 {
+        return true;
+    }
+    incidence::contains(inner::side_of(ends, inc, here, x, 0), flag[r - 1])
+}
+
+// Whether the numbers are a flag: one existing index per rank, each a sub of the next.
+pub fn is_flag(counts: &[u16], ends: &[u16], inc: &[u16], flag: &[u16]) -> bool
+    requires { ⌜ Shaped limits (listing (now counts) (now ends) (now inc)) ⌝ }
+    ensures { λ t. ⌜ t ≡ flagTest (listing (now (counts .entry)) (now (ends .entry)) (now (inc .entry))) (now (flag .entry)) ⌝ }
+{
+    if flag.len() != counts.len() {
+        return false;
+    }
+    let mut here: usize = 0;
+    let mut r: usize = 0;
+    while r < counts.len() {
+        if !stands_at(counts, ends, inc, flag, here, r) {
+            return false;
+        }
+        here += inner::wide(counts[r]);
+        r += 1;
+    }
+    true
+}
+
+// The first number that two ascending lists share and that is not e; 0 where there is none. As in a merge, the list whose
+// number is the smaller goes on.
+pub fn other_between(below: &[u16], above: &[u16], e: u16) -> u16
+    requires { ⌜ Ascending (now below) ⌝ }
+    requires { ⌜ Ascending (now above) ⌝ }
+    ensures { λ x. ⌜ x ≡ other e (common (now (below .entry)) (now (above .entry))) ⌝ }
+{
+    let mut i: usize = 0;
+    let mut j: usize = 0;
+    while i < below.len() {
+        if above.len() <= j {
+            return 0;
+        }
+        let x = below[i];
+        let y = above[j];
+        if y < x {
+            j += 1;
+        } else if x < y {
+            i += 1;
+        } else if x == e {
+            i += 1;
+        } else {
+            return x;
+        }
+    }
+    0
+}
+
+// The index that the change at rank r puts in: the other of the two elements between those at the ranks r - 1, which begins
+// at place low, and r + 1, which begins at place high.
+pub fn change_index(
+    counts: &[u16],
+    ends: &[u16],
+    inc: &[u16],
+    flag: &[u16],
+    r: usize,
+    low: usize,
+    high: usize,
+) -> u16
+    requires { ⌜ Shaped limits (listing (now counts) (now ends) (now inc)) ⌝ }
+    requires { ⌜ Ascends (listing (now counts) (now ends) (now inc)) ⌝ }
+    requires { ⌜ (low ≡ before (now counts) (r - 1)) × (high ≡ before (now counts) (r + 1)) ⌝ }
+    requires { ⌜ Neighbours (listing (now counts) (now ends) (now inc)) (now flag) r ⌝ }
+    ensures { λ x. ⌜ x ≡ other (getD (now (flag .entry)) r 0)
+        (between (listing (now (counts .entry)) (now (ends .entry)) (now (inc .entry))) r (now (flag .entry))) ⌝ }
+{
+    let below = inner::side_of(ends, inc, low, flag[r - 1], 1);
+    let above = inner::side_of(ends, inc, high, flag[r + 1], 0);
+    other_between(below, above, flag[r])
+}

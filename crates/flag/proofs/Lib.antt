@@ -1,0 +1,2 @@
+pub mod FlagExact
+pub mod Merge
