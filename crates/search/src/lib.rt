@@ -1,4 +1,7 @@
 // The search for the flags of a cell.
+mod mask;
+mod row;
+
 use listing::Answer;
 
 // What a search answers: a refusal or 0; how many flags there are, how many came before the cell showed itself not
