@@ -1,3 +1,5 @@
 pub mod Low
 pub mod Ranks
 pub mod Rows
+pub mod Hash
+pub mod Chains

@@ -40,7 +40,7 @@ same-decides l m = (same-eq l m, λ e. rw e (same-refl m))
 
 -- ---- one row
 
-row-end : (k n w : ℕ) → k < n → k * w + w ≤ n * w
+pub row-end : (k n w : ℕ) → k < n → k * w + w ≤ n * w
 row-end k n w h = omega (arith, mul-le-mul-right w h, suc-mul k w)
 
 module _ (w : ℕ) (table : List ℕ) (k : ℕ) where
@@ -172,7 +172,7 @@ module _ (w : ℕ) (t : List ℕ) (n : ℕ) (f : List ℕ) (h : n * w + w ≤ le
   abbrev T : List ℕ
   T = paste t (n * w) f w
 
-  put-length : length T ≡ length t
+  pub put-length : length T ≡ length t
   put-length = length-paste t (n * w) f w h g
 
   put-first : take (n * w) T ≡ take (n * w) t

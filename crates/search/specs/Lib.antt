@@ -1,3 +1,5 @@
 pub mod Masks
 pub mod Rows
+pub mod Hash
+pub mod Index
 pub mod Searched

@@ -1,4 +1,5 @@
 // The search for the flags of a cell.
+mod index;
 mod mask;
 mod row;
 
