@@ -66,11 +66,11 @@ common-nil (x ∷ l) = common-nil l
 -- ---- the first that is not e
 
 module _ (e x : ℕ) (l : List ℕ) where
-  other-same : x ≡ e → other e (x ∷ l) ≡ other e l
+  pub other-same : x ≡ e → other e (x ∷ l) ≡ other e l
   unfolding other
   other-same h = rw (eq-eqb x e h)
 
-  other-found : (x ≡ e → ⊥) → other e (x ∷ l) ≡ x
+  pub other-found : (x ≡ e → ⊥) → other e (x ∷ l) ≡ x
   unfolding other
   other-found h = rw (ne-eqb x e h)
 

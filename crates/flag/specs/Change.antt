@@ -5,22 +5,26 @@
 -- between     the elements between those of a flag at the ranks r - 1 and r + 1
 -- changeAt    the flag with the other of those at rank r
 -- Neighbours  the numbers at the ranks r - 1 and r + 1 are elements that exist
+-- Changes     of exactly two elements between, one stands in the flag; the change is a flag again, differs from it at
+--             rank r exactly, leads back when it is made again, and is the only flag that differs so
 -- padded      a flag as a record of 16 numbers, 0 above the top
--- changeTest  the refusals of a change: those of the closed test, 20, 21
+-- changeTest  the refusals of a change: those of startTest, then 21
 -- changedOf   what a change answers: on a refusal all numbers of the flag are 0
+use mathlib.Core.Path.{_≡_}
 use mathlib.Core.Bool.{Bool, not, cond, _&&_}
 use mathlib.Core.List.{List, [], _∷_, _++_}
 use Prim.Native.Nat.{ℕ, _+_, _-_, _<_}
 use lib.Dec.{ltb, eqb}
 use lib.ListN.{length, getD, set, replicate}
-use Rattle.order.specs.Lists.{has}
+use Rattle.order.specs.Lists.{In, has}
+use Rattle.order.specs.Flags.{ChangedAt}
 use Rattle.listing.specs.declared.Answer.{Answer}
-use Rattle.listing.specs.Refusals.{notAFlag, outsideRanks}
+use Rattle.listing.specs.Refusals.{outsideRanks}
 use Rattle.listing.specs.Answers.{plain, on, _orElse_, ifZero}
 use Rattle.listing.specs.Listing.{Listing, Limits, rank, count, subs, sups}
-use Rattle.valid.specs.Tests.{closed}
+use Rattle.valid.specs.Dyadic.{Two}
 use Rattle.flag.specs.declared.Changed.{Changed}
-use Rattle.flag.specs.Flags.{flagTest}
+use Rattle.flag.specs.Flags.{startTest, IsFlag}
 
 unfoldable pub common : List ℕ → List ℕ → List ℕ
 common [] m = []
@@ -42,13 +46,20 @@ pub record Neighbours (L : Listing) (f : List ℕ) (r : ℕ) : Type 0 where
   pub lower : getD f (r - 1) 0 < count L (r - 1)
   pub upper : getD f (r + 1) 0 < count L (r + 1)
 
-abbrev pub padded : List ℕ → List ℕ
+pub record Changes (L : Listing) (f : List ℕ) (r : ℕ) : Type 0 where
+  pub two-between : Two (λ x. In x (between L r f))
+  pub one-stands : In (getD f r 0) (between L r f)
+  pub is-flag : IsFlag L (changeAt L r f)
+  pub changed : ChangedAt r f (changeAt L r f)
+  pub back : changeAt L r (changeAt L r f) ≡ f
+  pub only : (g : List ℕ) → IsFlag L g → ChangedAt r f g → g ≡ changeAt L r f
+
+unfoldable pub padded : List ℕ → List ℕ
 padded f = f ++ replicate (16 - length f) 0
 
 unfoldable pub changeTest : Limits → Listing → List ℕ → ℕ → Answer
 changeTest m L f r =
-    closed m L orElse
-    on (not (flagTest L f)) (plain notAFlag) orElse
+    startTest m L f orElse
     on (not (ltb 0 r && ltb r (rank L))) (plain outsideRanks)
 
 unfoldable pub changedOf : Limits → Listing → List ℕ → ℕ → Changed

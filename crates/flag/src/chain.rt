@@ -1,15 +1,18 @@
 // Chains of elements, on a listing that is known to be shaped.
+use listing::Answer;
 use listing::inner;
+use listing::refusal;
 use valid::incidence;
 ghost use mathlib.Core.Path.{_≡_};
-ghost use Prim.Native.Nat.{_+_, _-_, _<_};
+ghost use Prim.Native.Nat.{_+_, _-_, _≤_, _<_};
 ghost use lib.ListN.{length, getD};
 ghost use Rattle.order.specs.Lists.{Ascending};
 ghost use Rattle.listing.specs.Listing.{listing, limits, before};
 ghost use Rattle.listing.specs.Shape.{Shaped};
 ghost use Rattle.valid.specs.Ascent.{Ascends};
-ghost use Rattle.flag.specs.Flags.{flagAt, flagTest};
-ghost use Rattle.flag.specs.Change.{common, other, between, Neighbours};
+ghost use Rattle.valid.specs.Closed.{Closed};
+ghost use Rattle.flag.specs.Flags.{flagAt, flagTest, startTest, IsFlag};
+ghost use Rattle.flag.specs.Change.{common, other, between, changeAt, padded, Neighbours};
 
 // Whether an index that exists stands in the flag at rank r, which begins at place here, and over what stands below it.
 fn stands_at(counts: &[u16], ends: &[u16], inc: &[u16], flag: &[u16], here: usize, r: usize) -> bool
@@ -45,6 +48,35 @@ pub fn is_flag(counts: &[u16], ends: &[u16], inc: &[u16], flag: &[u16]) -> bool
         r += 1;
     }
     true
+}
+
+// What a change or a search asks before all else: the closed test, and that the numbers are a flag.
+pub fn check_flag(counts: &[u16], ends: &[u16], inc: &[u16], flag: &[u16]) -> Answer
+    ensures { λ a. ⌜ a ≡ startTest limits (listing (now (counts .entry)) (now (ends .entry)) (now (inc .entry)))
+        (now (flag .entry)) ⌝ }
+{
+    let a = valid::closed(counts, ends, inc);
+    if a.no != 0 {
+        return a;
+    }
+    if is_flag(counts, ends, inc, flag) {
+        return inner::plain(0);
+    }
+    inner::plain(refusal::NOT_A_FLAG)
+}
+
+// The place where rank r begins.
+pub fn place_of(counts: &[u16], r: usize) -> usize
+    requires { ⌜ (r ≤ length (now counts)) × (before (now counts) r < 65536) ⌝ }
+    ensures { λ p. ⌜ p ≡ before (now (counts .entry)) r ⌝ }
+{
+    let mut p: usize = 0;
+    let mut k: usize = 0;
+    while k < r {
+        p += inner::wide(counts[k]);
+        k += 1;
+    }
+    p
 }
 
 // The first number that two ascending lists share and that is not e; 0 where there is none. As in a merge, the list whose
@@ -96,4 +128,34 @@ pub fn change_index(
     let below = inner::side_of(ends, inc, low, flag[r - 1], 1);
     let above = inner::side_of(ends, inc, high, flag[r + 1], 0);
     other_between(below, above, flag[r])
+}
+
+// A flag as a record of 16 numbers, 0 above the top.
+pub fn pad(flag: &[u16]) -> [u16; 16]
+    requires { ⌜ length (now flag) ≤ 16 ⌝ }
+    ensures { λ a. ⌜ a ≡ padded (now (flag .entry)) ⌝ }
+{
+    let mut a = [0u16; 16];
+    let mut k: usize = 0;
+    while k < flag.len() {
+        a[k] = flag[k];
+        k += 1;
+    }
+    a
+}
+
+// The flag after the change at rank r, as a record of 16 numbers.
+pub fn changed_at(counts: &[u16], ends: &[u16], inc: &[u16], flag: &[u16], r: usize) -> [u16; 16]
+    requires { ⌜ Closed limits (listing (now counts) (now ends) (now inc)) ⌝ }
+    requires { ⌜ IsFlag (listing (now counts) (now ends) (now inc)) (now flag) ⌝ }
+    requires { ⌜ (0 < r) × (r < length (now counts) - 1) ⌝ }
+    ensures { λ a. ⌜ a ≡ padded (changeAt (listing (now (counts .entry)) (now (ends .entry)) (now (inc .entry))) r
+        (now (flag .entry))) ⌝ }
+{
+    let low = place_of(counts, r - 1);
+    let high = place_of(counts, r + 1);
+    let x = change_index(counts, ends, inc, flag, r, low, high);
+    let mut new = pad(flag);
+    new[r] = x;
+    new
 }

@@ -3,6 +3,13 @@
 pub mod chain;
 
 use listing::Answer;
+use listing::inner;
+use listing::refusal;
+ghost use mathlib.Core.Path.{_≡_};
+ghost use Rattle.listing.specs.Listing.{listing, limits};
+ghost use Rattle.flag.specs.Change.{changeTest, changedOf};
+ghost use Rattle.flag.specs.Orientations.{byteOf, ofByte, flipOf, signOf};
+ghost use Rattle.flag.specs.Events.{within, eventAt, nextAt, saidOf};
 
 // What a change answers: a refusal or 0, and the new flag, 0 above the top.
 #[repr(C)]
@@ -11,10 +18,85 @@ pub struct Changed {
     pub flag: [u16; 16],
 }
 
+// The refusals of a change: those of the closed test, 20, 21.
+fn check_change(counts: &[u16], ends: &[u16], inc: &[u16], flag: &[u16], r: u16) -> Answer
+    ensures { λ a. ⌜ a ≡ changeTest limits (listing (now (counts .entry)) (now (ends .entry)) (now (inc .entry)))
+        (now (flag .entry)) r ⌝ }
+{
+    let a = chain::check_flag(counts, ends, inc, flag);
+    if a.no != 0 {
+        return a;
+    }
+    let rank = counts.len() - 1;
+    if r == 0 {
+        return inner::plain(refusal::OUTSIDE_RANKS);
+    }
+    if rank <= inner::wide(r) {
+        return inner::plain(refusal::OUTSIDE_RANKS);
+    }
+    inner::plain(0)
+}
+
+// The change of a flag at rank r: of the two elements between those at the ranks r - 1 and r + 1, the other one is put in.
+pub fn change(counts: &[u16], ends: &[u16], inc: &[u16], flag: &[u16], r: u16) -> Changed
+    ensures { λ a. ⌜ a ≡ changedOf limits (listing (now (counts .entry)) (now (ends .entry)) (now (inc .entry)))
+        (now (flag .entry)) r ⌝ }
+{
+    let answer = check_change(counts, ends, inc, flag, r);
+    if answer.no != 0 {
+        let none = [0u16; 16];
+        return Changed { answer, flag: none };
+    }
+    let new = chain::changed_at(counts, ends, inc, flag, inner::wide(r));
+    Changed { answer, flag: new }
+}
+
 // The parity of a flag, which each change flips.
 pub enum Orientation {
     Even,
     Odd,
+}
+
+impl Orientation {
+    // The other parity.
+    pub fn flip(self) -> Orientation
+        ensures { λ o. ⌜ o ≡ flipOf self ⌝ }
+    {
+        match self {
+            Orientation::Even => Orientation::Odd,
+            Orientation::Odd => Orientation::Even,
+        }
+    }
+
+    // The sign that goes with it.
+    pub fn sign(self) -> f64
+        ensures { λ x. ⌜ x ≡ signOf self ⌝ }
+    {
+        match self {
+            Orientation::Even => 1.0,
+            Orientation::Odd => -1.0,
+        }
+    }
+
+    // Its byte, as a search stores it.
+    pub fn byte(self) -> u8
+        ensures { λ b. ⌜ b ≡ byteOf self ⌝ }
+    {
+        match self {
+            Orientation::Even => 0,
+            Orientation::Odd => 1,
+        }
+    }
+
+    // The parity that a byte stands for: 0 even, any other odd.
+    pub fn of_byte(b: u8) -> Orientation
+        ensures { λ o. ⌜ o ≡ ofByte b ⌝ }
+    {
+        if b == 0 {
+            return Orientation::Even;
+        }
+        Orientation::Odd
+    }
 }
 
 // An event of a search: a flag by its number, or that the cell is not orientable; Nothing past the last.
@@ -35,4 +117,76 @@ pub struct Said {
 #[repr(C)]
 pub struct Cursor {
     pub at: u32,
+}
+
+// Whether NonOrientable is among the events.
+pub fn is_within(count: u16, place: u16) -> bool
+    ensures { λ t. ⌜ t ≡ within count place ⌝ }
+{
+    if 1 <= place {
+        return place <= count;
+    }
+    false
+}
+
+// The event at a place of the row.
+pub fn event_at(at: u32, count: u16, place: u16) -> Event
+    ensures { λ e. ⌜ e ≡ eventAt at count place ⌝ }
+{
+    let n = count as u32;
+    let p = place as u32;
+    if is_within(count, place) {
+        if at < p {
+            return Event::Flag(at as u16);
+        }
+        if at == p {
+            return Event::NonOrientable;
+        }
+        if at <= n {
+            return Event::Flag((at - 1) as u16);
+        }
+        return Event::Nothing;
+    }
+    if at < n {
+        return Event::Flag(at as u16);
+    }
+    Event::Nothing
+}
+
+// The place after a place: the same past the last event.
+pub fn next_at(at: u32, count: u16, place: u16) -> u32
+    ensures { λ n. ⌜ n ≡ nextAt at count place ⌝ }
+{
+    let n = count as u32;
+    if is_within(count, place) {
+        if at < n + 1 {
+            return at + 1;
+        }
+        return at;
+    }
+    if at < n {
+        return at + 1;
+    }
+    at
+}
+
+// The next event; the cursor goes on to the place after it, and stays past the last.
+pub fn next_event(c: &mut Cursor, count: u16, place: u16) -> Event
+    ensures { λ e. ⌜ (e ≡ eventAt (now (c .entry) .at) count place)
+        × (now (c .exit) .at ≡ nextAt (now (c .entry) .at) count place) ⌝ }
+{
+    let at = c.at;
+    c.at = next_at(at, count, place);
+    event_at(at, count, place)
+}
+
+// An event as numbers, for callers that have no enum.
+pub fn numbers(e: Event) -> Said
+    ensures { λ s. ⌜ s ≡ saidOf e ⌝ }
+{
+    match e {
+        Event::Flag(i) => Said { kind: 1, flag: i },
+        Event::NonOrientable => Said { kind: 2, flag: 0 },
+        Event::Nothing => Said { kind: 0, flag: 0 },
+    }
 }

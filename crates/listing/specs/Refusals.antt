@@ -18,7 +18,8 @@
 -- productRanks, productElements          a product with too many ranks, elements
 -- productIncidences, outputShort         too many incidences; an output slice that is too short
 -- within                                 whether a number lies from one number to another, both counted in
--- band                                   the class of a number: 1 to 9 shape, 10 to 19 structure, 20 to 29 flags, 30 to 39 products
+-- band                                   the class of a number: 1 to 9 shape, 10 to 19 structure, 20 to 29 flags,
+--                                        30 to 39 products, all else nothing
 -- bandNo                                 a class as a number, for callers that have no enum
 use Prim.Native.Nat.{ℕ}
 use mathlib.Core.Bool.{Bool, cond, _&&_}

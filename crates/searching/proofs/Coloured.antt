@@ -65,7 +65,8 @@ module _ {A : Type 0} (same : A → A → Bool) (decides : Decides same) (room :
   -- a thing is met with the byte of its colour
   meet-toned : (s : State A) (y : A) → b ≡ byte y → Toned byte d s → Toned byte d (meet same room b s y)
   meet-toned s y e h =
-      meet-cases same room b s y (Toned byte d) (λ o. h) (λ o i. again-toned byte d b s h (indexIn same (s .found) y) (known i))
+      meet-cases same room b s y (Toned byte d) (λ o. h)
+      (λ o i. again-toned byte d b s h (indexIn same (s .found) y) (known i))
       (λ o i r. add-toned byte d b s h y e) (λ o i r. record { paired = h .paired; still = h .still; toned = h .toned })
     where
       known : indexIn same (s .found) y < length (s .found) → getD (s .bytes) (indexIn same (s .found) y) 0 ≡ b

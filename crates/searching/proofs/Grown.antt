@@ -92,6 +92,7 @@ module _ {A : Type 0} (same : A → A → Bool) (room : ℕ) where
     run-grown k s h =
         run-ends same room nbrs a (λ j. Grown s) (λ j t o i g. Grown·trans g (work-grown j t)) k s h (Grown·refl s) .1
 
+    -- with room for it the start is found first, and even
     start-grown : 0 < room → Grown (add 0 nothing a) (search same room nbrs a)
     start-grown h = rw (search-start same room nbrs a h) (run-grown 0 (add 0 nothing a) h)
 

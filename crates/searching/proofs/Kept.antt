@@ -18,6 +18,7 @@ use Rattle.searching.proofs.Lookup.{index-in}
 use Rattle.searching.proofs.Step.{place-kept, place-same, place-first, meet-cases}
 use Rattle.searching.proofs.Run.{run-ends}
 
+-- a byte more
 binary-snoc : (l : List ℕ) (b : ℕ) → ((k : ℕ) → getD l k 0 ≤ 1) → b ≤ 1 → (k : ℕ) → getD (l ++ (b ∷ [])) k 0 ≤ 1
 binary-snoc [] b h p zero = p
 binary-snoc [] b h p (suc k) = omega arith
@@ -86,6 +87,7 @@ module _ {A : Type 0} (room : ℕ) (R : A → A → Type 0) (a : A) where
     beyond = λ e. record { thing = y; reached = q; missing = n; many = omega (arith, h .fits) };
   }
 
+-- the neighbours of the kth are reachable
 pub neighbours-reached : {A : Type 0} (room : ℕ) (nbrs : A → List A) (a : A) (k : ℕ) (s : State A)
     → k < length (s .found) → Kept room (Neighbour nbrs) a s → (y : A) → Neighbour nbrs (getD (s .found) k a) y
     → Reach (Neighbour nbrs) a y

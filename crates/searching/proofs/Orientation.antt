@@ -35,12 +35,14 @@ module _ {A : Type 0} (same : A → A → Bool) (decides : Decides same) (room :
   abbrev byteOf : A → ℕ
   byteOf y = getD (S .bytes) (indexIn same (S .found) y) 0
 
+  -- it is the byte at any index at which the thing stands
   byte-at : (k : ℕ) (y : A) → k < length (S .found) → getD (S .found) k a ≡ y → byteOf y ≡ getD (S .bytes) k 0
   byte-at k y h e =
       ap (λ i. getD (S .bytes) i 0)
       (index-only same decides (S .found) a y k (facts .once) h (decides (getD (S .found) k a) y .1 e))
 
   module _ (o : S .over ≡ false) (z : S .place ≡ 0) where
+    -- each neighbour of the kth has the byte that the kth does not have
     pub bytes-flip : (k : ℕ) → k < length (S .found) → (y : A) → Neighbour nbrs (getD (S .found) k a) y
         → getD (S .bytes) (indexIn same (S .found) y) 0 ≡ 1 - getD (S .bytes) k 0
     bytes-flip k h y n =

@@ -52,7 +52,7 @@ module _ {A : Type 0} (same : A → A → Bool) (room : ℕ) (nbrs : A → List 
   for-no zero k s e = refl
   for-no (suc d) k s e = rw (e, runFor)
 
-  -- any two numbers that are enough lead to the same state
+  -- two numbers that are both enough, being no less than what there is room for after the first k
   for-same : (d e k : ℕ) (s : State A) → length (s .found) ≤ room → room ≤ k + d → room ≤ k + e
       → runFor same room nbrs a d k s ≡ runFor same room nbrs a e k s
   for-same zero e k s h p q =
@@ -73,8 +73,9 @@ module _ {A : Type 0} (same : A → A → Bool) (room : ℕ) (nbrs : A → List 
       go true w ih = for-yes d k s w ∙ ih ∙ sym (for-yes e k s w)
       go false w ih = for-no (suc d) k s w ∙ sym (for-no (suc e) k s w)
 
-  -- ---- to the end: all that there is room for are enough
+  -- ---- to the end
 
+  -- with any number that is enough
   pub run-enough : (d k : ℕ) (s : State A) → length (s .found) ≤ room → room ≤ k + d
       → runFor same room nbrs a d k s ≡ run same room nbrs a k s
   unfolding run

@@ -60,6 +60,7 @@ module _ {A : Type 0} (same : A → A → Bool) (decides : Decides same) (room :
       (λ o i r e. add-stored d b y s p)
       (λ o i r e. absurd (true≢false e))
 
+  -- not over: each of those that were met is stored
   meets-stored : (d : A) (b : ℕ) (s : State A) (l : List A) (y : A) → List·Memᴰ y l
       → length (s .bytes) ≡ length (s .found) → meetAll same room b s l .over ≡ false
       → Stored d b y (meetAll same room b s l)
@@ -78,8 +79,8 @@ module _ {A : Type 0} (same : A → A → Bool) (decides : Decides same) (room :
       done : s .over ≡ false → (j : ℕ) → j < k → (y : A) → Neighbour nbrs (getD (s .found) j a) y
           → Stored a (1 - getD (s .bytes) j 0) y s
 
-    work-stored : (k : ℕ) (s : State A) → length (s .bytes) ≡ length (s .found) → work same room nbrs a k s .over ≡ false
-        → (y : A) → Neighbour nbrs (getD (s .found) k a) y
+    work-stored : (k : ℕ) (s : State A) → length (s .bytes) ≡ length (s .found)
+        → work same room nbrs a k s .over ≡ false → (y : A) → Neighbour nbrs (getD (s .found) k a) y
         → Stored a (1 - getD (s .bytes) k 0) y (work same room nbrs a k s)
     unfolding work
     work-stored k s p o y n = meets-stored a _ s _ y n p o
@@ -116,7 +117,7 @@ module _ {A : Type 0} (same : A → A → Bool) (decides : Decides same) (room :
         k : Kept room (Neighbour nbrs) a (meet same room 0 nothing a)
         k = start-kept same decides room nbrs a
 
-    -- not over: each neighbour of the kth is stored with the other byte than the kth has
+    -- not over: each neighbour of the kth is stored with the byte that the kth does not have
     pub search-stored : search same room nbrs a .over ≡ false → (k : ℕ) → k < length (search same room nbrs a .found)
         → (y : A) → Neighbour nbrs (getD (search same room nbrs a .found) k a) y
         → Stored a (1 - getD (search same room nbrs a .bytes) k 0) y (search same room nbrs a)

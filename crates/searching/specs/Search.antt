@@ -12,7 +12,7 @@
 -- indexIn     the first index at which a thing stands, the length where it does not
 -- meet        a thing is met that should have the byte b: nothing once over; a new one is added while there is room
 -- meetAll     things are met, in order
--- work        the neighbours of the kth are met, with the other byte than its own
+-- work        the neighbours of the kth are met, each with the byte that the kth does not have
 -- runFor      the kth and those after it are worked, at most d of them
 -- run         the kth and those after it are worked, as long as there are any and it is not over
 -- search      the start is met, with byte 0, and then all are worked

@@ -2,26 +2,26 @@
 -- listing strictly ascends.
 -- Assumes nothing.
 use mathlib.Core.Path.{_≡_, refl, sym, ap, _∙_}
-use mathlib.Core.Bool.{Bool, true, false, not, _&&_}
-use mathlib.Core.List.{List, [], _∷_}
 use mathlib.Core.Logic.{_↔_, _⊎_, inl, inr}
-use Prim.Native.Nat.{ℕ, zero, suc, _+_, _≤_, _<_}
+use mathlib.Core.Bool.{true, false, not, _&&_}
+use mathlib.Core.List.{List, [], _∷_}
+use Prim.Native.Nat.{ℕ, _+_, _≤_, _<_}
 use native.Mathlib.Numerals.{add-one}
 use native.Mathlib.Omega.{arith}
 use borrow.Author.Tests.{leb-true, le-leb, lt-leb, not-false}
 use lib.Dec.{leb}
 use lib.ListN.{length, getD, drop, drop-of-length-le}
 use lib.Seq.{drop-cons}
-use Rattle.order.specs.Lists.{In, Ascending, occurs}
 use Rattle.order.proofs.Lists.{ascending-once}
-use Rattle.listing.specs.Refusals.{notAscending}
+use Rattle.order.specs.Lists.{In, Ascending}
 use Rattle.listing.specs.Answers.{fine, refusal}
 use Rattle.listing.specs.Listing.{Listing, count, side}
+use Rattle.listing.specs.Refusals.{notAscending}
 use Rattle.listing.proofs.Answers.{or-no, no-or, on-no, on-off, of-each, of-all}
 use Rattle.listing.proofs.Listing.{rank-there}
 use Rattle.valid.specs.Ascent.{climbs, sideAscent, elementAscent, ascentTest, Ascends}
 use Rattle.valid.specs.Dyadic.{Distinct}
-use Rattle.valid.proofs.Sequences.{and-true, at-sides}
+use Rattle.valid.proofs.Sequences.{and-true, at-sides, elements-exact}
 
 -- ---- a list, one place at a time
 
@@ -81,21 +81,23 @@ module _ (L : Listing) where
       → sideAscent L r i s ≡ refusal notAscending r i s 0
   side-falls r i s e h = rw (← e, h)
 
+  element-exact : (r i : ℕ) → elementAscent L r i .no ≡ 0 ↔ ((s : ℕ) → s < 2 → Ascending (side L s r i))
+  unfolding elementAscent
+  element-exact r i = (
+    λ e.
+        let p = or-no _ _ e in
+        at-sides (λ s. Ascending (side L s r i)) (side-exact r i 0 .0 (p .0)) (side-exact r i 1 .0 (p .1)),
+    λ a. no-or _ _ (side-exact r i 0 .1 (a 0 (omega arith))) (side-exact r i 1 .1 (a 1 (omega arith))),
+  )
+
   -- The ascent test answers 0 exactly if each list of each element strictly ascends.
   pub ascent-exact : ascentTest L .no ≡ 0 ↔ Ascends L
-  unfolding ascentTest elementAscent Ascends
-  ascent-exact = (there, back)
-    where
-      there : ascentTest L .no ≡ 0 → (s r i : ℕ) → s < 2 → i < count L r → Ascending (side L s r i)
-      there e s r i k h =
-          let f = of-each _ 0 (length (L .counts)) e r (omega arith) (rank-there L r i h) in
-          let p = or-no _ _ (of-each (elementAscent L r) 0 (count L r) f i (omega arith) h) in
-          at-sides (λ t. Ascending (side L t r i)) (side-exact r i 0 .0 (p .0)) (side-exact r i 1 .0 (p .1)) s k
-
-      back : ((s r i : ℕ) → s < 2 → i < count L r → Ascending (side L s r i)) → ascentTest L .no ≡ 0
-      back a =
-          of-all _ 0 (length (L .counts)) (λ r _ _. of-all (elementAscent L r) 0 (count L r) (λ i _ h.
-          no-or _ _ (side-exact r i 0 .1 (a 0 r i (omega arith) h)) (side-exact r i 1 .1 (a 1 r i (omega arith) h))))
+  unfolding ascentTest Ascends
+  ascent-exact =
+      let e = elements-exact L (elementAscent L) 0 (length (L .counts)) in (
+        λ z s r i k h. element-exact r i .0 (e .0 z r i (omega arith) (rank-there L r i h) h) s k,
+        λ a. e .1 (λ r i _ _ h. element-exact r i .1 (λ s k. a s r i k h)),
+      )
 
 -- In a listing whose lists ascend no list holds an index twice.
 pub ascends-distinct : (L : Listing) → Ascends L → Distinct L

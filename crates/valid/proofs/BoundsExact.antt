@@ -2,13 +2,12 @@
 -- Assumes nothing.
 use mathlib.Core.Path.{_≡_, ap}
 use mathlib.Core.Logic.{_↔_}
-use Prim.Native.Nat.{ℕ}
 use native.Mathlib.Omega.{arith}
 use borrow.Author.Tests.{eqb-true, eq-eqb, ne-eqb, not-false}
-use Rattle.listing.specs.declared.Answer.{Answer}
-use Rattle.listing.specs.Refusals.{notBounded}
 use Rattle.listing.specs.Answers.{fine, refusal}
 use Rattle.listing.specs.Listing.{Listing, rank, count}
+use Rattle.listing.specs.Refusals.{notBounded}
+use Rattle.listing.specs.declared.Answer.{Answer}
 use Rattle.listing.proofs.Answers.{on-no}
 use Rattle.valid.specs.Bounds.{boundedTest, Bounded}
 use Rattle.valid.proofs.Sequences.{and-true}

@@ -1,119 +1,58 @@
--- Test 2: the answers of an entry, of a list and of an element, and its exactness: it answers 0 exactly if the listing is
--- Incident.
+-- Test 2 is exact: it answers 0 exactly if the listing is Incident. An entry, then a list along its way, which serves
+-- subs and sups alike, then an element, then the whole.
 -- Assumes nothing.
 use mathlib.Core.Path.{_≡_, refl, sym, ap, _∙_}
+use mathlib.Core.Logic.{_↔_}
 use mathlib.Core.Bool.{Bool, true, false, _&&_}
 use mathlib.Core.List.{List}
-use mathlib.Core.Logic.{_↔_, _⊎_, inl, inr}
-use Prim.Native.Nat.{ℕ, zero, suc, _+_, _-_, _*_, _≤_, _<_}
+use Prim.Native.Nat.{ℕ, zero, suc, _+_, _-_, _*_, _<_}
 use native.Mathlib.Omega.{arith}
-use borrow.Author.Tests.{eqb-true, eqb-false, eq-eqb, ne-eqb, lt-ltb, le-ltb, ltb-true, ltb-false}
+use borrow.Author.Tests.{eqb-false, ne-eqb, lt-ltb, ltb-true, ltb-false}
 use lib.Dec.{ltb, eqb}
 use lib.ListN.{length}
 use Rattle.order.specs.Lists.{In, has}
 use Rattle.order.proofs.Lists.{has-yes}
 use Rattle.listing.specs.declared.Answer.{Answer}
-use Rattle.listing.specs.Answers.{fine, refusal, on, _orElse_}
+use Rattle.listing.specs.Answers.{refusal, on}
 use Rattle.listing.specs.Listing.{Listing, rank, count, below, entries, subs, sups}
-use Rattle.listing.proofs.Answers.{or-no, no-or, on-no, on-off, or-stop, or-fine, then-stop, then-go, in-each, in-all, of-each, of-all}
-use Rattle.listing.proofs.Listing.{start-more, rank-there}
+use Rattle.listing.proofs.Answers.{or-no, no-or, on-no, on-off, in-each, in-all}
+use Rattle.listing.proofs.Listing.{rank-there}
 use Rattle.valid.specs.declared.incidence.Way.{Way}
 use Rattle.valid.specs.Incidence.{entryTest, alongTest, elementTest, incidencesTest, Incident}
 use Rattle.valid.specs.Ways.{down, up, listTest}
-use Rattle.valid.proofs.Sequences.{and-off, some-in, in-some, or-assoc}
-
--- ---- an entry
-
-module _ (n : ℕ) (back : List ℕ) (missing notBack r i x : ℕ) where
-  pub entry-fine : x < n → has back i ≡ true → entryTest n back missing notBack r i x ≡ fine
-  unfolding entryTest
-  entry-fine h k = rw (lt-ltb _ _ h, k)
-
-  pub entry-oneway : x < n → has back i ≡ false → entryTest n back missing notBack r i x ≡ refusal notBack r i x 0
-  unfolding entryTest
-  entry-oneway h k = rw (lt-ltb _ _ h, k)
-
-  pub entry-missing : n ≤ x → entryTest n back missing notBack r i x ≡ refusal missing r i x 0
-  unfolding entryTest
-  entry-missing h = rw (le-ltb _ _ h)
-
--- ---- a list
-
-module _ (ends inc : List ℕ) (w : Way) (r i : ℕ) (list : List ℕ) where
-  pub list-none : 0 < w .none → w .asked ≡ true → eqb (length list) 0 ≡ true
-      → listTest ends inc w r i list ≡ refusal (w .none) r i 0 0
-  unfolding listTest
-  list-none h a e = rw (a, e) (or-stop (refusal (w .none) r i 0 0) _ (λ z. omega arith))
-
-  pub list-some : (w .asked ≡ false) ⊎ (eqb (length list) 0 ≡ false)
-      → listTest ends inc w r i list ≡ alongTest ends inc (w .n) (w .b) (w .s) (w .missing) (w .oneway) r i list
-  unfolding listTest
-  list-some (inl e) = rw e (or-fine fine _ refl)
-  list-some (inr e) = rw (and-off (w .asked) e) (or-fine fine _ refl)
-
-  pub list-same : {v : Way} {l : List ℕ} → v ≡ w → l ≡ list → listTest ends inc v r i l ≡ listTest ends inc w r i list
-  list-same e d = λ j. listTest ends inc (e j) r i (d j)
-
--- a way by its parts: which elements it may name
-pub way-same : (w : Way) {n b : ℕ} → n ≡ w .n → b ≡ w .b → record {
-  n = n;
-  b = b;
-  s = w .s;
-  asked = w .asked;
-  none = w .none;
-  missing = w .missing;
-  oneway = w .oneway;
-} ≡ w
-way-same w p q = λ j. record {
-  n = p j;
-  b = q j;
-  s = w .s;
-  asked = w .asked;
-  none = w .none;
-  missing = w .missing;
-  oneway = w .oneway;
-}
-
--- ---- an element: its subs along the way down, its sups along the way up
-
-module _ (L : Listing) (r i : ℕ) where
-  abbrev pub lower : Answer
-  lower = listTest (L .ends) (L .inc) (down (L .counts) r) r i (subs L r i)
-
-  abbrev pub upper : Answer
-  upper = listTest (L .ends) (L .inc) (up (L .counts) r) r i (sups L r i)
-
-  pub element-halves : elementTest L r i ≡ lower orElse upper
-  unfolding elementTest listTest
-  element-halves = sym (or-assoc _ _ _)
-
-  pub element-stop : {a : Answer} → a ≡ lower → (a .no ≡ 0 → ⊥) → a ≡ elementTest L r i
-  element-stop e h = then-stop _ e h ∙ sym element-halves
-
-  pub element-go : {a b : Answer} → a ≡ lower → a .no ≡ 0 → b ≡ upper → b ≡ elementTest L r i
-  element-go e z f = then-go e z f ∙ sym element-halves
-
--- ---- exactness of an entry and of a list
+use Rattle.valid.proofs.Sequences.{some-in, in-some, elements-exact}
+use Rattle.valid.proofs.Entries.{entry-fine, entry-oneway, entry-missing, lower, upper, element-halves}
 
 abbrev number : Answer → ℕ
 number a = a .no
 
+-- ---- an entry
+
 module _ (n : ℕ) (back : List ℕ) (missing notBack r i x : ℕ) (hm : 0 < missing) (hn : 0 < notBack) where
-  abbrev Entry : Answer
-  Entry = entryTest n back missing notBack r i x
+  abbrev entry : Answer
+  entry = entryTest n back missing notBack r i x
 
-  entry-exact : Entry .no ≡ 0 ↔ ((x < n) × In i back)
-  entry-exact = (λ e. go e (ltb x n) refl (has back i) refl, λ p. ap number (entry-fine n back missing notBack r i x (p .0) (has-yes i back .1 (p .1))))
+  entry-exact : entry .no ≡ 0 ↔ ((x < n) × In i back)
+  entry-exact = (there (ltb x n) refl (has back i) refl, back-again)
     where
-      go : Entry .no ≡ 0 → (b : Bool) → ltb x n ≡ b → (c : Bool) → has back i ≡ c → (x < n) × In i back
-      go e true p true q = (ltb-true x n p, has-yes i back .0 q)
-      go e true p false q = absurd (omega (arith, ap number (sym (entry-oneway n back missing notBack r i x (ltb-true x n p) q)) ∙ e))
-      go e false p c q = absurd (omega (arith, ap number (sym (entry-missing n back missing notBack r i x (ltb-false x n p))) ∙ e))
+      there : (b : Bool) → ltb x n ≡ b → (c : Bool) → has back i ≡ c → entry .no ≡ 0 → (x < n) × In i back
+      there true p true q e = (ltb-true x n p, has-yes i back .0 q)
+      there true p false q e =
+          let o = entry-oneway n back missing notBack r i x (ltb-true x n p) q in
+          absurd (omega (arith, ap number (sym o) ∙ e))
+      there false p c q e =
+          let o = entry-missing n back missing notBack r i x (ltb-false x n p) in
+          absurd (omega (arith, ap number (sym o) ∙ e))
 
--- what a list along its way must be: it holds something where asked, and its entries are there and lead back
-pub record Along (L : Listing) (w : Way) (i : ℕ) (list : List ℕ) : Type 0 where
-  pub some : w .asked ≡ true → (x : ℕ) × In x list
-  pub back : (x : ℕ) → In x list → (x < w .n) × In i (entries (L .ends) (L .inc) (2 * (w .b + x) + w .s))
+      back-again : (x < n) × In i back → entry .no ≡ 0
+      back-again p = ap number (entry-fine n back missing notBack r i x (p .0) (has-yes i back .1 (p .1)))
+
+-- ---- a list along its way
+
+-- what it must be: it holds something where asked, and its entries are there and lead back
+record Along (L : Listing) (w : Way) (i : ℕ) (list : List ℕ) : Type 0 where
+  some : w .asked ≡ true → (x : ℕ) × In x list
+  back : (x : ℕ) → In x list → (x < w .n) × In i (entries (L .ends) (L .inc) (2 * (w .b + x) + w .s))
 
 -- the refusals of a way are refusals
 record Refuses (w : Way) : Type 0 where
@@ -123,59 +62,67 @@ record Refuses (w : Way) : Type 0 where
 
 some-exact : (t : Bool) (l : List ℕ) (a : Answer) → (a .no ≡ 0 → ⊥)
     → on (t && eqb (length l) 0) a .no ≡ 0 ↔ (t ≡ true → (x : ℕ) × In x l)
-some-exact t l a z = (
-  λ e h. let q : eqb (length l) 0 ≡ false = rw h at (on-no (t && eqb (length l) 0) a z e) in some-in l (eqb-false (length l) 0 q),
-  λ f. on-off (t && eqb (length l) 0) a (go t f),
-)
+some-exact t l a z = (there, λ f. on-off (t && eqb (length l) 0) a (back t f))
   where
-    go : (t : Bool) → (t ≡ true → (x : ℕ) × In x l) → t && eqb (length l) 0 ≡ false
-    go true f = let p = f refl in ne-eqb (length l) 0 (in-some l (p .0) (p .1))
-    go false f = refl
+    there : on (t && eqb (length l) 0) a .no ≡ 0 → t ≡ true → (x : ℕ) × In x l
+    there e h =
+        let q : eqb (length l) 0 ≡ false = rw h at (on-no (t && eqb (length l) 0) a z e) in
+        some-in l (eqb-false (length l) 0 q)
+
+    back : (t : Bool) → (t ≡ true → (x : ℕ) × In x l) → t && eqb (length l) 0 ≡ false
+    back true f = let p = f refl in ne-eqb (length l) 0 (in-some l (p .0) (p .1))
+    back false f = refl
 
 module _ (L : Listing) (w : Way) (R : Refuses w) (r i : ℕ) (list : List ℕ) where
+  abbrev leads : ℕ → List ℕ
+  leads x = entries (L .ends) (L .inc) (2 * (w .b + x) + w .s)
+
+  at-entry : (x : ℕ) → entryTest (w .n) (leads x) (w .missing) (w .oneway) r i x .no ≡ 0 ↔ ((x < w .n) × In i (leads x))
+  at-entry x = entry-exact (w .n) (leads x) (w .missing) (w .oneway) r i x (R .missing) (R .oneway)
+
   list-exact : listTest (L .ends) (L .inc) w r i list .no ≡ 0 ↔ Along L w i list
   unfolding listTest alongTest
-  list-exact = (there, back)
-    where
-      at : (x : ℕ) → entryTest (w .n) (entries (L .ends) (L .inc) (2 * (w .b + x) + w .s)) (w .missing) (w .oneway) r i x .no ≡ 0
-          ↔ ((x < w .n) × In i (entries (L .ends) (L .inc) (2 * (w .b + x) + w .s)))
-      at x = entry-exact (w .n) _ (w .missing) (w .oneway) r i x (R .missing) (R .oneway)
+  list-exact =
+      let none = some-exact (w .asked) list (refusal (w .none) r i 0 0) (λ z. omega (arith, R .none)) in (
+        λ e.
+            let p = or-no _ _ e in
+            record { some = none .0 (p .0); back = λ x m. at-entry x .0 (in-each _ list (p .1) x m) },
+        λ a. no-or _ _ (none .1 (a .some)) (in-all _ list (λ x m. at-entry x .1 (a .back x m))),
+      )
 
-      none : on (w .asked && eqb (length list) 0) (refusal (w .none) r i 0 0) .no ≡ 0 ↔ (w .asked ≡ true → (x : ℕ) × In x list)
-      none = some-exact (w .asked) list (refusal (w .none) r i 0 0) (λ z. omega (arith, R .none))
-
-      there : listTest (L .ends) (L .inc) w r i list .no ≡ 0 → Along L w i list
-      there e =
-          let p = or-no _ _ e in
-          record { some = none .0 (p .0); back = λ x m. at x .0 (in-each _ list (p .1) x m) }
-
-      back : Along L w i list → listTest (L .ends) (L .inc) w r i list .no ≡ 0
-      back a = no-or _ _ (none .1 (a .some)) (in-all _ list (λ x m. at x .1 (a .back x m)))
-
--- ---- exactness of an element and of the test
+-- ---- an element, and the whole
 
 module _ (L : Listing) where
-  downward : (r : ℕ) → Refuses (down (L .counts) r)
-  downward r = record { none = omega arith; missing = omega arith; oneway = omega arith }
-
-  upward : (r : ℕ) → Refuses (up (L .counts) r)
-  upward r = record { none = omega arith; missing = omega arith; oneway = omega arith }
-
   abbrev Down : ℕ → ℕ → Type 0
   Down r i = Along L (down (L .counts) r) i (subs L r i)
 
   abbrev Up : ℕ → ℕ → Type 0
   Up r i = Along L (up (L .counts) r) i (sups L r i)
 
+  down-exact : (r i : ℕ) → lower L r i .no ≡ 0 ↔ Down r i
+  down-exact r i =
+      let R : Refuses (down (L .counts) r) = record {
+        none = omega arith;
+        missing = omega arith;
+        oneway = omega arith;
+      } in
+      list-exact L (down (L .counts) r) R r i (subs L r i)
+
+  up-exact : (r i : ℕ) → upper L r i .no ≡ 0 ↔ Up r i
+  up-exact r i =
+      let R : Refuses (up (L .counts) r) = record {
+        none = omega arith;
+        missing = omega arith;
+        oneway = omega arith;
+      } in
+      list-exact L (up (L .counts) r) R r i (sups L r i)
+
   element-exact : (r i : ℕ) → elementTest L r i .no ≡ 0 ↔ (Down r i × Up r i)
   element-exact r i = (
     λ e.
         let p = or-no _ _ (ap number (sym (element-halves L r i)) ∙ e) in
-        (list-exact L _ (downward r) r i (subs L r i) .0 (p .0), list-exact L _ (upward r) r i (sups L r i) .0 (p .1)),
-    λ p.
-        ap number (element-halves L r i)
-        ∙ no-or _ _ (list-exact L _ (downward r) r i (subs L r i) .1 (p .0))
-        (list-exact L _ (upward r) r i (sups L r i) .1 (p .1)),
+        (down-exact r i .0 (p .0), up-exact r i .0 (p .1)),
+    λ p. ap number (element-halves L r i) ∙ no-or _ _ (down-exact r i .1 (p .0)) (up-exact r i .1 (p .1)),
   )
 
   -- the elements of the rank below
@@ -208,14 +155,8 @@ module _ (L : Listing) where
   -- Test 2 answers 0 exactly if the listing is Incident.
   pub incidences-exact : incidencesTest L .no ≡ 0 ↔ Incident L
   unfolding incidencesTest
-  incidences-exact = (there, back)
-    where
-      there : incidencesTest L .no ≡ 0 → Incident L
-      there e = incident (λ r i h.
-          let f = of-each _ 0 (length (L .counts)) e r (omega arith) (rank-there L r i h) in
-          element-exact r i .0 (of-each (elementTest L r) 0 (count L r) f i (omega arith) h))
-
-      back : Incident L → incidencesTest L .no ≡ 0
-      back I =
-          of-all _ 0 (length (L .counts)) (λ r _ _. of-all (elementTest L r) 0 (count L r) (λ i _ h.
-          element-exact r i .1 (along I r i h)))
+  incidences-exact =
+      let e = elements-exact L (elementTest L) 0 (length (L .counts)) in (
+        λ z. incident (λ r i h. element-exact r i .0 (e .0 z r i (omega arith) (rank-there L r i h) h)),
+        λ I. e .1 (λ r i _ _ h. element-exact r i .1 (along I r i h)),
+      )

@@ -1,6 +1,12 @@
 pub mod Sequences
 pub mod Places
 pub mod BoundsExact
+pub mod Entries
 pub mod IncidenceExact
 pub mod AscentExact
 pub mod Walks
+pub mod Counting
+pub mod Twos
+pub mod DyadicExact
+pub mod ClosedExact
+pub mod Starred

@@ -1,9 +1,9 @@
 -- Where the lists of an element and of its neighbours stand in a shaped listing.
 -- Assumes nothing.
 use mathlib.Core.Path.{_≡_, ap}
+use mathlib.Core.List.{List}
 use Prim.Native.Nat.{ℕ, _+_, _-_, _*_, _≤_, _<_}
 use native.Mathlib.Omega.{arith}
-use mathlib.Core.List.{List}
 use lib.ListN.{length, getD}
 use Rattle.listing.specs.Listing.{Listing, Limits, count, before, entries, side, subs}
 use Rattle.listing.specs.Shape.{Shaped}

@@ -1,9 +1,9 @@
 -- Small laws of tests, lists and answers.
 -- Assumes nothing.
 use mathlib.Core.Path.{_≡_, refl, sym, ap, _∙_}
+use mathlib.Core.Logic.{_↔_, inl, inr}
 use mathlib.Core.Bool.{Bool, true, false, true≢false, cond, _&&_}
 use mathlib.Core.List.{List, [], _∷_}
-use mathlib.Core.Logic.{inl, inr}
 use Prim.Native.Nat.{ℕ, zero, suc, _+_, _-_, _≤_, _<_}
 use native.Mathlib.Nat.{not-suc-le-zero, le-of-suc-le-suc}
 use native.Mathlib.Numerals.{add-one}
@@ -14,7 +14,10 @@ use lib.Seq.{drop-cons}
 use Rattle.order.specs.Lists.{In, has}
 use Rattle.listing.specs.declared.Answer.{Answer}
 use Rattle.listing.specs.Answers.{_orElse_, firstFor, firstOf}
-use Rattle.listing.proofs.Answers.{or-fine, or-stop}
+use Rattle.listing.specs.Listing.{Listing, count}
+use Rattle.listing.proofs.Answers.{or-fine, or-stop, of-each, of-all}
+
+-- ---- tests
 
 pub and-true : (a b : Bool) → a && b ≡ true → (a ≡ true) × (b ≡ true)
 and-true true b e = (refl, e)
@@ -30,8 +33,9 @@ at-sides P p q zero h = p
 at-sides P p q (suc zero) h = q
 at-sides P p q (suc (suc s)) h = absurd (omega arith)
 
--- ---- looking for a number, one place at a time
+-- ---- lists
 
+-- looking for a number, one place at a time
 module _ (l : List ℕ) (k a : ℕ) where
   pub has-step : k < length l → has (drop k l) a ≡ cond (eqb (getD l k 0) a) true (has (drop (k + 1) l) a)
   unfolding has
@@ -48,7 +52,7 @@ in-at [] k h = absurd (not-suc-le-zero h)
 in-at (x ∷ l) zero h = inl refl
 in-at (x ∷ l) (suc k) h = inr (in-at l k (le-of-suc-le-suc h))
 
--- a list that holds something has a first number
+-- a list that is not empty holds something, and back
 pub some-in : (l : List ℕ) → (length l ≡ 0 → ⊥) → (x : ℕ) × In x l
 unfolding In
 some-in [] h = absurd (h refl)
@@ -83,3 +87,14 @@ module _ (f g : ℕ → Answer) where
   pub of-same : (i n : ℕ) → ((k : ℕ) → i ≤ k → k < n → f k ≡ g k) → firstOf f i n ≡ firstOf g i n
   unfolding firstOf
   of-same i n e = for-same (n - i) i (λ k l h. e k l (omega arith))
+
+-- a test of all elements of the ranks from a up to, not including, b passes exactly if it does at each
+pub elements-exact : (L : Listing) (f : ℕ → ℕ → Answer) (a b : ℕ)
+    → firstOf (λ r. firstOf (f r) 0 (count L r)) a b .no ≡ 0
+    ↔ ((r i : ℕ) → a ≤ r → r < b → i < count L r → f r i .no ≡ 0)
+elements-exact L f a b = (
+  λ e r i l h k.
+      let t = of-each (λ q. firstOf (f q) 0 (count L q)) a b e r l h in
+      of-each (f r) 0 (count L r) t i (omega arith) k,
+  λ g. of-all _ a b (λ r l h. of-all (f r) 0 (count L r) (λ i _ k. g r i l h k)),
+)

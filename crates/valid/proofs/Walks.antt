@@ -1,4 +1,5 @@
--- Laws of a walk that counts what it meets: what has been walked without refusal, one step or one list more, and the end.
+-- Laws of a walk that counts what it meets: what has been walked without refusal, one step or one list more, the end.
+-- Then the sections under an element as a whole.
 -- Assumes nothing.
 use mathlib.Core.Path.{_≡_, refl, sym, ap, _∙_, subst}
 use mathlib.Core.Bool.{Bool, true, false, cond}
@@ -9,12 +10,13 @@ use native.Mathlib.Omega.{arith}
 use borrow.Author.Tests.{eqb-true, eqb-false, eq-eqb, ne-eqb, le-leb, lt-leb}
 use lib.Dec.{leb, eqb}
 use lib.ListN.{length, getD, take, drop, set, length-set, replicate, length-replicate, getD-replicate}
-use lib.Seq.{drop-cons, take-suc, take-all, split-at, getD-set-same, getD-set-other}
+use lib.Seq.{take-suc, take-all, split-at, getD-set-same, getD-set-other}
 use Rattle.order.specs.Lists.{occurs}
-use Rattle.listing.specs.declared.Answer.{Answer}
 use Rattle.listing.specs.Answers.{fine, on, _orElse_, firstOf}
 use Rattle.listing.specs.Listing.{Listing, count, entries}
-use Rattle.listing.proofs.Answers.{or-fine, or-stop, or-no, no-or, on-off, stops, then-stop, then-go, of-stop, of-next, of-end}
+use Rattle.listing.specs.declared.Answer.{Answer}
+use Rattle.listing.proofs.Answers.{or-fine, or-stop, or-no, no-or, on-off, stops, then-stop, then-go}
+use Rattle.listing.proofs.Answers.{of-stop, of-next, of-end}
 use Rattle.valid.specs.Dyadic.{subsOfAll, thirdTest, seenAfter, loneTest, walk, sectionsTest, dyadicTest}
 use Rattle.valid.specs.Tally.{third, lone, Tally, Tallied, loneIn}
 use Rattle.valid.proofs.Sequences.{or-assoc, of-same}
@@ -207,7 +209,8 @@ lone-same f t seen m T h =
 -- ---- an element's sections: the third occurrence, then the index met once
 
 module _ (L : Listing) (r i : ℕ) where
-  pub sections-stop : {a : Answer} → a ≡ thirdTest (third r i) [] (walk L r i) → (a .no ≡ 0 → ⊥) → a ≡ sectionsTest L r i
+  pub sections-stop : {a : Answer} → a ≡ thirdTest (third r i) [] (walk L r i) → (a .no ≡ 0 → ⊥)
+      → a ≡ sectionsTest L r i
   unfolding sectionsTest
   sections-stop e h = then-stop _ e h
 

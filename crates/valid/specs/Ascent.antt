@@ -1,8 +1,10 @@
 -- The ascent test, 19: every list strictly ascends.
 --
--- climbs       the numbers strictly ascend, the first of them not below `from`
--- ascentTest   refusal 19 at the first list, by rank, index, subs before sups, that does not strictly ascend
--- Ascends      each list of each element strictly ascends
+-- climbs          the numbers strictly ascend, the first of them not below `from`
+-- sideAscent      refusal 19 at a list of an element that does not strictly ascend
+-- elementAscent   the same at an element: its subs, then its sups
+-- ascentTest      refusal 19 at the first list, by rank, index, subs before sups, that does not strictly ascend
+-- Ascends         each list of each element strictly ascends
 use mathlib.Core.Bool.{Bool, true, not, _&&_}
 use mathlib.Core.List.{List, [], _∷_}
 use Prim.Native.Nat.{ℕ, _+_, _<_}

@@ -29,7 +29,8 @@ alongTest ends inc n b s missing notBack r i =
 unfoldable pub elementTest : Listing → ℕ → ℕ → Answer
 elementTest L r i =
     on (ltb 0 r && eqb (length (subs L r i)) 0) (refusal noSubs r i 0 0) orElse
-    alongTest (L .ends) (L .inc) (below L r) (before (L .counts) (r - 1)) 1 subMissing subNotBack r i (subs L r i) orElse
+    alongTest (L .ends) (L .inc) (below L r) (before (L .counts) (r - 1)) 1 subMissing subNotBack r i (subs L r i)
+    orElse
     on (ltb r (rank L) && eqb (length (sups L r i)) 0) (refusal noSups r i 0 0) orElse
     alongTest (L .ends) (L .inc) (count L (r + 1)) (before (L .counts) (r + 1)) 0 supMissing supNotBack r i (sups L r i)
 

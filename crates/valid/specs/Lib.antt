@@ -6,3 +6,4 @@ pub mod Dyadic
 pub mod Tally
 pub mod Tests
 pub mod Closed
+pub mod Cells

@@ -1,7 +1,7 @@
 -- The two ways that test 2 looks from an element: down along its subs, up along its sups.
 --
--- Way        where the entries of a list lead: they may name n elements, which begin at place b and whose lists at side s
---            lead back; whether the list must hold anything; and the refusals
+-- Way        where the entries of a list lead: they may name n elements, which begin at place b and whose lists at
+--            side s lead back; whether the list must hold anything; and the refusals
 -- down, up   the way from rank r
 -- Fits       the elements of a way are there
 -- listTest   a list along its way: the refusal of an empty one, then its entries in order

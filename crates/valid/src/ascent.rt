@@ -71,7 +71,8 @@ fn check_element(counts: &[u16], ends: &[u16], inc: &[u16], here: usize, r: usiz
 fn check_rank(counts: &[u16], ends: &[u16], inc: &[u16], here: usize, r: usize) -> Answer
     requires { ⌜ Shaped limits (listing (now counts) (now ends) (now inc)) ⌝ }
     requires { ⌜ (here ≡ before (now counts) r) × (r < length (now counts)) ⌝ }
-    ensures { λ a. ⌜ a ≡ firstOf (elementAscent (listing (now (counts .entry)) (now (ends .entry)) (now (inc .entry))) r) 0
+    ensures { λ a. ⌜ a ≡ firstOf
+        (elementAscent (listing (now (counts .entry)) (now (ends .entry)) (now (inc .entry))) r) 0
         (getD (now (counts .entry)) r 0) ⌝ }
 {
     let n = counts[r];

@@ -15,22 +15,22 @@ ghost use Rattle.valid.specs.Incidence.{Incident};
 ghost use Rattle.valid.specs.Dyadic.{subsOfAll, sectionsTest, dyadicTest};
 ghost use Rattle.valid.specs.Tally.{third, lone, Tally, Tallied, loneIn, Walkable};
 
-// Counts the indices of a list, and refuses the first that is met a third time.
-fn tally_list(tally: &mut [u8; limit::ELEMENTS], list: &[u16], r: u16, i: u16) -> Answer
-    requires { ⌜ ((x : ℕ) → In x (now list) → x < limits .elements) ⌝ }
+// Counts the subs of one of an element's subs, and refuses the first that is met a third time.
+fn tally_list(tally: &mut [u8; limit::ELEMENTS], subs: &[u16], r: u16, i: u16) -> Answer
+    requires { ⌜ ((x : ℕ) → In x (now subs) → x < limits .elements) ⌝ }
     requires { ⌜ 2 ≤ r ⌝ }
     ensures { λ a. ⌜ ((seen : List ℕ) → Tally (limits .elements) (now (tally .entry)) seen
-        → Tallied (limits .elements) (now (tally .exit)) (third r i) seen (now (list .entry)) a) ⌝ }
+        → Tallied (limits .elements) (now (tally .exit)) (third r i) seen (now (subs .entry)) a) ⌝ }
 {
     let mut j: usize = 0;
-    while j < list.len() {
-        let x = list[j];
-        let at = inner::wide(x);
+    while j < subs.len() {
+        let sub_sub = subs[j];
+        let at = inner::wide(sub_sub);
         if 2 <= tally[at] {
             return Answer {
                 no: refusal::THIRD_BETWEEN,
                 a: r - 2,
-                b: x,
+                b: sub_sub,
                 c: r,
                 d: i,
             };
@@ -41,7 +41,7 @@ fn tally_list(tally: &mut [u8; limit::ELEMENTS], list: &[u16], r: u16, i: u16) -
     inner::plain(0)
 }
 
-// Counts the subs of an element's subs, in walking order. The lists of the subs begin at place b.
+// Counts the subs of an element's subs, in walking order. The lists of those subs begin at place b.
 fn tally_all(
     tally: &mut [u8; limit::ELEMENTS],
     ends: &[u16],
@@ -91,7 +91,7 @@ fn check_once(tally: &[u8; limit::ELEMENTS], n: u16, r: u16, i: u16) -> Answer
     inner::plain(0)
 }
 
-// The sections under element i of rank r: the rank below it begins at place b.
+// The sections under element i of rank r, in a tally of its own. The rank below begins at place b.
 fn check_sections(counts: &[u16], ends: &[u16], inc: &[u16], b: usize, r: usize, i: u16) -> Answer
     requires { ⌜ Shaped limits (listing (now counts) (now ends) (now inc)) ⌝ }
     requires { ⌜ Incident (listing (now counts) (now ends) (now inc)) ⌝ }
@@ -100,20 +100,21 @@ fn check_sections(counts: &[u16], ends: &[u16], inc: &[u16], b: usize, r: usize,
 {
     let here = b + inner::wide(inner::count_at(counts, r - 1));
     let subs = inner::side_of(ends, inc, here, i, 0);
-    let mut sub_subs = [0u8; limit::ELEMENTS];
-    let a = tally_all(&mut sub_subs, ends, inc, b, subs, r as u16, i);
+    let mut tally = [0u8; limit::ELEMENTS];
+    let a = tally_all(&mut tally, ends, inc, b, subs, r as u16, i);
     if a.no != 0 {
         return a;
     }
-    check_once(&sub_subs, inner::count_at(counts, r - 2), r as u16, i)
+    check_once(&tally, inner::count_at(counts, r - 2), r as u16, i)
 }
 
-// The elements of rank r: the rank below it begins at place b.
+// The elements of rank r. The rank below begins at place b.
 fn check_rank(counts: &[u16], ends: &[u16], inc: &[u16], b: usize, r: usize) -> Answer
     requires { ⌜ Shaped limits (listing (now counts) (now ends) (now inc)) ⌝ }
     requires { ⌜ Incident (listing (now counts) (now ends) (now inc)) ⌝ }
     requires { ⌜ (b ≡ before (now counts) (r - 1)) × (2 ≤ r) × (r < length (now counts)) ⌝ }
-    ensures { λ a. ⌜ a ≡ firstOf (sectionsTest (listing (now (counts .entry)) (now (ends .entry)) (now (inc .entry))) r) 0
+    ensures { λ a. ⌜ a ≡ firstOf
+        (sectionsTest (listing (now (counts .entry)) (now (ends .entry)) (now (inc .entry))) r) 0
         (getD (now (counts .entry)) r 0) ⌝ }
 {
     let n = counts[r];
@@ -129,7 +130,7 @@ fn check_rank(counts: &[u16], ends: &[u16], inc: &[u16], b: usize, r: usize) -> 
 }
 
 // The elements of the ranks 2 to high, by rank and then index.
-pub fn check_to(counts: &[u16], ends: &[u16], inc: &[u16], high: usize) -> Answer
+pub fn check_up_to(counts: &[u16], ends: &[u16], inc: &[u16], high: usize) -> Answer
     requires { ⌜ Shaped limits (listing (now counts) (now ends) (now inc)) ⌝ }
     requires { ⌜ Incident (listing (now counts) (now ends) (now inc)) ⌝ }
     requires { ⌜ high < length (now counts) ⌝ }
@@ -159,5 +160,5 @@ pub fn check_below_top(counts: &[u16], ends: &[u16], inc: &[u16]) -> Answer
     if rank == 0 {
         return inner::plain(0);
     }
-    check_to(counts, ends, inc, rank - 1)
+    check_up_to(counts, ends, inc, rank - 1)
 }

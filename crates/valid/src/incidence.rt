@@ -13,9 +13,9 @@ ghost use Rattle.listing.specs.Shape.{Shaped};
 ghost use Rattle.valid.specs.Incidence.{entryTest, alongTest, elementTest, incidencesTest};
 ghost use Rattle.valid.specs.Ways.{down, up, Fits, listTest};
 
-// Where the entries of a list lead: they may name n elements, which begin at place b and whose lists at side s lead back.
-// Whether the list must hold anything; and the refusals: of a list that holds nothing, of an entry that does not exist, and
-// of one that does not lead back.
+// Where the entries of a list lead: they may name n elements, which begin at place b and whose lists at side s lead
+// back. Whether the list must hold anything. And the refusals: of a list that holds nothing and must not, of an entry
+// that does not exist, and of one that does not lead back.
 pub struct Way {
     pub n: u16,
     pub b: usize,
@@ -172,7 +172,8 @@ fn check_element(counts: &[u16], ends: &[u16], inc: &[u16], here: usize, r: usiz
 fn check_rank(counts: &[u16], ends: &[u16], inc: &[u16], here: usize, r: usize) -> Answer
     requires { ⌜ Shaped limits (listing (now counts) (now ends) (now inc)) ⌝ }
     requires { ⌜ (here ≡ before (now counts) r) × (r < length (now counts)) ⌝ }
-    ensures { λ a. ⌜ a ≡ firstOf (elementTest (listing (now (counts .entry)) (now (ends .entry)) (now (inc .entry))) r) 0
+    ensures { λ a. ⌜ a ≡ firstOf
+        (elementTest (listing (now (counts .entry)) (now (ends .entry)) (now (inc .entry))) r) 0
         (getD (now (counts .entry)) r 0) ⌝ }
 {
     let n = counts[r];

@@ -1,5 +1,5 @@
-// The tests of a cell: those of the Rust's is_valid, and the closed test, which also looks at the top. Each entry takes any
-// three slices and tests their shape first; the modules hold the tests on a listing whose shape is known.
+// The tests of a cell: those of the Rust's is_valid, and the closed test, which also looks at the top. Each entry takes
+// any three slices and tests their shape first; the modules hold the tests of a listing whose shape is known.
 pub mod ascent;
 pub mod bounds;
 pub mod dyadic;
@@ -52,9 +52,10 @@ pub fn check_incidences(counts: &[u16], ends: &[u16], inc: &[u16]) -> Answer
     incidence::check_all(counts, ends, inc)
 }
 
-// The diamond at the ranks below the top. It means something only where subs and sups match up, so that is tested first.
+// The diamond at the ranks below the top. It means something only where subs and sups match up: that is tested first.
 pub fn is_dyadic(counts: &[u16], ends: &[u16], inc: &[u16]) -> Answer
-    ensures { λ r. ⌜ r ≡ tests.isDyadic limits (listing (now (counts .entry)) (now (ends .entry)) (now (inc .entry))) ⌝ }
+    ensures { λ r. ⌜ r ≡ tests.isDyadic limits
+        (listing (now (counts .entry)) (now (ends .entry)) (now (inc .entry))) ⌝ }
 {
     let s = listing::shape(counts, ends, inc);
     if s.no != 0 {
@@ -87,5 +88,5 @@ pub fn closed(counts: &[u16], ends: &[u16], inc: &[u16]) -> Answer
     if t.no != 0 {
         return t;
     }
-    dyadic::check_to(counts, ends, inc, counts.len() - 1)
+    dyadic::check_up_to(counts, ends, inc, counts.len() - 1)
 }

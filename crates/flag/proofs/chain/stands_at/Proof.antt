@@ -1,20 +1,18 @@
+-- `stands_at`: the index exists or does not; at the lowest rank that is all, and above it the subs are looked through.
+-- Assumes nothing.
+use mathlib.Core.Path.{_≡_, sym, ap, _∙_}
 use mathlib.Core.List.{List}
-use Rattle.valid.proofs.Places.{side-fits, side-at}
-use Rattle.listing.proofs.ShapeExact.{shaped-ends}
-use Rattle.listing.specs.Listing.{Listing, listing}
-use Rattle.order.specs.Lists.{has}
-use Rattle.flag.proofs.FlagExact.{missing-at, lowest-at, higher-at}
+use Prim.Native.Nat.{ℕ, _-_}
 use native.Mathlib.Omega.{arith}
-use mathlib.Core.Path.{_≡_, refl, sym, ap, _∙_}
-use Prim.Native.Nat.{ℕ, zero, suc, _+_, _-_, _*_, _≤_, _<_}
-use lib.ListN.{length, getD, take, drop}
 use borrow.Author.Needs.{needs}
+use lib.ListN.{getD}
+use Rattle.order.specs.Lists.{has}
+use Rattle.listing.specs.Listing.{Listing, listing}
+use Rattle.listing.proofs.ShapeExact.{shaped-ends}
+use Rattle.valid.proofs.Places.{side-fits, side-at}
+use Rattle.flag.proofs.FlagExact.{missing-at, lowest-at, higher-at}
 use Rattle.flag.proofs.chain.stands_at.Statement.{statement}
 use Rattle.flag.proofs.chain.stands_at.Tie as tie
-use Rattle.flag.proofs.chain.stands_at.Reads as reads
-use Rattle.flag.proofs.chain.stands_at.Lts as lts
-use Rattle.listing.proofs.inner.side_of.Reads as side-of-reads
-use Rattle.valid.proofs.incidence.contains.Reads as contains-reads
 
 abbrev L : tie.Start → Listing
 L s = listing (s .args .counts .now) (s .args .ends .now) (s .args .inc .now)
@@ -22,49 +20,48 @@ L s = listing (s .args .counts .now) (s .args .ends .now) (s .args .inc .now)
 mul-x : tie.Need-mul-x
 mul-x c = search needs
 
--- src/chain.rt:20:13
 shared-slice-read-x : tie.Need-shared-slice-read-x
 shared-slice-read-x c = search needs
 
--- src/chain.rt:21:8
 mul-if1 : tie.Need-mul-if1
 mul-if1 c = search needs
 
--- src/chain.rt:21:8
 shared-slice-read-if1 : tie.Need-shared-slice-read-if1
 shared-slice-read-if1 c = search needs
 
--- src/chain.rt:22:9
 returns : tie.Need-returns
 returns c = sym (missing-at _ _ _ (c .if1 .taken))
 
--- src/chain.rt:25:9
 returns-2 : tie.Need-returns-2
 returns-2 c = sym (lowest-at _ _ _ (c .before .if1 .left) (c .if2 .taken))
 
--- src/chain.rt:27:25
 side-of-requires : tie.Need-side-of-requires
-side-of-requires c κs = let s = c .before .before .before .before .before .before .before .before in (shaped-ends (L s) (s .pre .0), rw (s .pre .1 .0) (side-fits (L s) (s .pre .0) (s .args .r) _ 0 (c .before .if1 .left) (omega arith)))
+side-of-requires c κs =
+    let s = c .before .before .before .before .before .before .before .before in (
+      shaped-ends (L s) (s .pre .0),
+      rw (s .pre .1 .0) (side-fits (L s) (s .pre .0) (s .args .r) _ 0 (c .before .if1 .left) (omega arith)),
+    )
 
--- src/chain.rt:27:69
 sub-contains : tie.Need-sub-contains
 sub-contains c = search needs
 
--- src/chain.rt:27:64
 mul-contains : tie.Need-mul-contains
 mul-contains c = search needs
 
--- src/chain.rt:27:64
 shared-slice-read-contains : tie.Need-shared-slice-read-contains
 shared-slice-read-contains c = search needs
 
--- src/chain.rt:27:5
 contains-requires : tie.Need-contains-requires
 contains-requires c κs = search needs
 
--- src/chain.rt:15:1
 returns-3 : tie.Need-returns-3
-returns-3 c = let s = c .before .before .before .before .before .before .before .before .before .before .before in c .contains .ensures ∙ ap (λ (l : List ℕ). has l (getD (s .args .flag .now) (s .args .r - 1) 0)) (c .before .before .side-of .ensures ∙ side-at (L s) _ _ _ _ (s .pre .1 .0)) ∙ sym (higher-at (L s) _ _ (c .before .before .before .before .if1 .left) (c .before .before .before .if2 .left))
+returns-3 c =
+    let d = c .before .before .before .before in
+    let s = d .before .before .before .before .before .before .before in
+    let l = c .before .before .side-of .ensures ∙ side-at (L s) _ _ _ _ (s .pre .1 .0) in
+    c .contains .ensures
+    ∙ ap (λ (l : List ℕ). has l (getD (s .args .flag .now) (s .args .r - 1) 0)) l
+    ∙ sym (higher-at (L s) _ _ (d .if1 .left) (c .before .before .before .if2 .left))
 
 pub stands-at-spec : {M : Type 1} → statement M
 stands-at-spec =

@@ -1,74 +1,74 @@
-use Rattle.valid.proofs.Places.{few-before}
+-- Invariant: r is at most the number of ranks, rank r begins at place here, and the answer to the whole is the answer
+-- from rank r on. Measure: the ranks left.
+-- Assumes nothing.
+use mathlib.Core.Path.{_≡_, refl, sym}
+use Prim.Native.Nat.{_+_, _-_, _≤_}
+use native.Mathlib.Omega.{arith}
+use borrow.Author.Needs.{needs}
+use lib.ListN.{length, getD}
+use Rattle.listing.specs.Answers.{firstOf}
+use Rattle.listing.specs.Listing.{listing, before}
+use Rattle.listing.proofs.Answers.{of-return, of-turn, of-done}
 use Rattle.listing.proofs.Listing.{before-zero, before-next}
 use Rattle.valid.specs.Ascent.{elementAscent, ascentTest}
-use Rattle.listing.specs.Listing.{listing, before}
-use Rattle.listing.specs.Answers.{firstOf}
-use Rattle.listing.proofs.Answers.{of-return, of-turn, of-done}
-use borrow.Author.Needs.{needs}
-use native.Mathlib.Omega.{arith}
-use mathlib.Core.Path.{_≡_, refl, sym, ap, _∙_}
-use Prim.Native.Nat.{ℕ, zero, suc, _+_, _-_, _*_, _≤_, _<_}
-use lib.ListN.{length, getD, take, drop}
+use Rattle.valid.proofs.Places.{few-before}
 use Rattle.valid.proofs.ascent.check_all.Statement.{statement}
 use Rattle.valid.proofs.ascent.check_all.Tie as tie
-use Rattle.valid.proofs.ascent.check_all.Reads as reads
-use Rattle.valid.proofs.ascent.check_all.Lts as lts
-use Rattle.listing.proofs.inner.plain.Reads as plain-reads
-use Rattle.listing.proofs.inner.wide.Reads as wide-reads
-use Rattle.valid.proofs.ascent.check_rank.Reads as check-rank-reads
 
 abbrev Inv-loop : tie.InvT-loop
-Inv-loop counts ends inc here₀ r₀ here r = (r ≤ length counts) × (here ≡ before counts r) × (ascentTest (listing counts ends inc) ≡ firstOf (λ q. firstOf (elementAscent (listing counts ends inc) q) 0 (getD counts q 0)) r (length counts))
+Inv-loop counts ends inc here₀ r₀ here r =
+    (r ≤ length counts)
+    × (here ≡ before counts r)
+    × (ascentTest (listing counts ends inc)
+    ≡ firstOf (λ q. firstOf (elementAscent (listing counts ends inc) q) 0 (getD counts q 0)) r (length counts))
 
 abbrev μ-loop : tie.MeasureT-loop
 μ-loop counts ends inc here₀ r₀ here r = length counts - r
 
--- src/ascent.rt:96:5
 loop-holds : tie.Need-loop-holds Inv-loop μ-loop
 unfolding ascentTest
 loop-holds c = (omega arith, sym (before-zero (c .before .before .before .args .counts .now)), refl)
 
--- src/ascent.rt:97:13
 check-rank-requires : tie.Need-check-rank-requires Inv-loop μ-loop
 check-rank-requires c κs = search needs
 
--- src/ascent.rt:99:13
 returns : tie.Need-returns Inv-loop μ-loop
 returns c = search of-return
 
--- src/ascent.rt:101:29
 mul-wide : tie.Need-mul-wide Inv-loop μ-loop
 mul-wide c = search needs
 
--- src/ascent.rt:101:29
 shared-slice-read-wide : tie.Need-shared-slice-read-wide Inv-loop μ-loop
 shared-slice-read-wide c = search needs
 
--- src/ascent.rt:101:17
 wide-requires : tie.Need-wide-requires Inv-loop μ-loop
 wide-requires c κs = search needs
 
--- src/ascent.rt:101:9
 add-here : tie.Need-add-here Inv-loop μ-loop
-add-here c = let s = c .before .before .before .before .before .before .before .before .before .before in let r = c .before .before .before .before .before .before .loop .r in omega (arith, few-before (listing (s .args .counts .now) (s .args .ends .now) (s .args .inc .now)) (s .pre) (r + 1), before-next (s .args .counts .now) r)
+add-here c =
+    let s = c .before .before .before .before .before .before .before .before .before .before in
+    let l = s .args .counts .now in
+    let r = c .before .before .before .before .before .before .loop .r in
+    let f = few-before (listing l (s .args .ends .now) (s .args .inc .now)) (s .pre) (r + 1) in
+    omega (arith, f, before-next l r)
 
--- src/ascent.rt:102:9
 add-r : tie.Need-add-r Inv-loop μ-loop
 add-r c = search needs
 
--- src/ascent.rt:96:5
 loop-less : tie.Need-loop-less Inv-loop μ-loop
 loop-less c = search needs
 
--- src/ascent.rt:96:5
 loop-again : tie.Need-loop-again Inv-loop μ-loop
-loop-again c = let b = before-next (c .before .before .before .before .before .before .before .before .before .before .args .counts .now) (c .before .before .before .before .before .before .loop .r) in (omega arith, omega arith, of-turn _ _ _ _ _ (c .before .before .before .before .before .before .loop .inv .2) (c .before .before .before .before .check-rank .ensures) (c .before .before .before .before .before .loop-test .taken) (c .before .before .if1 .left))
+loop-again c =
+    let d = c .before .before .before .before in
+    let l = d .before .before .before .before .before .before .args .counts .now in
+    let b = before-next l (d .before .before .loop .r) in
+    let t = of-turn _ _ _ _ _ (d .before .before .loop .inv .2) (d .check-rank .ensures) in
+    (omega arith, omega arith, t (d .before .loop-test .taken) (c .before .before .if1 .left))
 
--- src/ascent.rt:104:5
 plain-requires : tie.Need-plain-requires Inv-loop μ-loop
 plain-requires c κs = search needs
 
--- src/ascent.rt:90:1
 returns-2 : tie.Need-returns-2 Inv-loop μ-loop
 returns-2 c = search of-done
 

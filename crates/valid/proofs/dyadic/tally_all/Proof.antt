@@ -1,81 +1,115 @@
-use Rattle.valid.proofs.Walks.{subsOf}
-use Rattle.valid.specs.Tally.{Tallied}
-use Rattle.valid.specs.Dyadic.{seenAfter}
+-- Invariant: j is at most the length, and whatever the tally counted before, the subs of the first j have been walked
+-- without refusal and are counted on top of it. Measure: what is left of the list.
+-- Assumes nothing.
 use mathlib.Core.List.{List}
-use Rattle.valid.proofs.Sequences.{in-at}
-use Rattle.valid.proofs.Walks.{Walked, walked-none, walk-more, walk-stop, walk-all, tallied-walked}
-use Rattle.valid.specs.Tally.{third, Tally}
-use Rattle.valid.specs.Dyadic.{subsOfAll}
-use borrow.Author.Needs.{needs}
+use Prim.Native.Nat.{ℕ, _-_, _≤_}
 use native.Mathlib.Omega.{arith}
-use mathlib.Core.Path.{_≡_, refl, sym, ap, _∙_}
-use Prim.Native.Nat.{ℕ, zero, suc, _+_, _-_, _*_, _≤_, _<_}
-use lib.ListN.{length, getD, take, drop}
+use borrow.Author.Needs.{needs}
+use lib.ListN.{length, getD, take}
+use Rattle.listing.specs.Listing.{limits}
+use Rattle.valid.specs.Dyadic.{seenAfter, subsOfAll}
+use Rattle.valid.specs.Tally.{Tallied, third, Tally}
+use Rattle.valid.proofs.Walks.{subsOf, Walked, walked-none, walk-more, walk-stop, walk-all, tallied-walked}
+use Rattle.valid.proofs.Sequences.{in-at}
 use Rattle.valid.proofs.dyadic.tally_all.Statement.{statement}
 use Rattle.valid.proofs.dyadic.tally_all.Tie as tie
-use Rattle.valid.proofs.dyadic.tally_all.Reads as reads
-use Rattle.valid.proofs.dyadic.tally_all.Lts as lts
-use Rattle.listing.proofs.inner.plain.Reads as plain-reads
-use Rattle.listing.proofs.inner.side_of.Reads as side-of-reads
-use Rattle.valid.proofs.dyadic.tally_list.Reads as tally-list-reads
 
 abbrev Inv-loop : tie.InvT-loop
-Inv-loop tally₀ ends inc b subs r i j₀ tally j = (j ≤ length subs) × ((seen : List ℕ) → Tally 4096 tally₀ seen → Walked 4096 (third r i) tally seen (subsOfAll ends inc b (take j subs)))
+Inv-loop tally₀ ends inc b subs r i j₀ tally j =
+    (j ≤ length subs)
+    × ((seen : List ℕ) → Tally (limits .elements) tally₀ seen
+    → Walked (limits .elements) (third r i) tally seen (subsOfAll ends inc b (take j subs)))
 
 abbrev μ-loop : tie.MeasureT-loop
 μ-loop tally₀ ends inc b subs r i j₀ tally j = length subs - j
 
--- what was tallied for one list
-one : (c : tie.After-tally-list Inv-loop μ-loop) (seen : List ℕ) → let s = c .before .before .before .before .before .before .before .before .before in let j = c .before .before .before .before .before .loop .j in
-    Tally 4096 (s .args .tally .now) seen
-    → Tallied 4096 (c .tally-list .last .0) (third (s .args .r) (s .args .i)) (seenAfter seen (subsOfAll (s .args .ends .now) (s .args .inc .now) (s .args .b) (take j (s .args .subs .now))))
-    (subsOf (s .args .ends .now) (s .args .inc .now) (s .args .b) (getD (s .args .subs .now) j 0)) (c .tally-list .result)
-one c seen T = rw (c .before .side-of .ensures) at (c .tally-list .ensures _ (c .before .before .before .before .before .loop .inv .1 seen T .tally))
+abbrev Here : Type 0
+Here = tie.After-tally-list Inv-loop μ-loop
 
--- src/dyadic.rt:61:5
+abbrev start : Here → tie.Start Inv-loop μ-loop
+start c = c .before .before .before .before .before .before .before .before .before
+
+abbrev at : Here → ℕ
+at c = c .before .before .before .before .before .loop .j
+
+-- the walk before the list at hand, and that list
+abbrev done : Here → List ℕ
+done c =
+    let s = start c .args in
+    subsOfAll (s .ends .now) (s .inc .now) (s .b) (take (at c) (s .subs .now))
+
+abbrev list : Here → List ℕ
+list c =
+    let s = start c .args in
+    subsOf (s .ends .now) (s .inc .now) (s .b) (getD (s .subs .now) (at c) 0)
+
+-- what was tallied for the list at hand
+one : (c : Here) (seen : List ℕ) → Tally (limits .elements) (start c .args .tally .now) seen
+    → Tallied (limits .elements) (c .tally-list .last .0) (third (start c .args .r) (start c .args .i))
+    (seenAfter seen (done c)) (list c) (c .tally-list .result)
+one c seen T =
+    let w = c .before .before .before .before .before .loop .inv .1 seen T in
+    rw (c .before .side-of .ensures) at (c .tally-list .ensures _ (w .tally))
+
 loop-holds : tie.Need-loop-holds Inv-loop μ-loop
 unfolding subsOfAll
 loop-holds c = (omega arith, λ seen T. walked-none _ seen T)
 
--- src/dyadic.rt:62:70
 mul-side-of : tie.Need-mul-side-of Inv-loop μ-loop
 mul-side-of c = search needs
 
--- src/dyadic.rt:62:70
 shared-slice-read-side-of : tie.Need-shared-slice-read-side-of Inv-loop μ-loop
 shared-slice-read-side-of c = search needs
 
--- src/dyadic.rt:62:41
 side-of-requires : tie.Need-side-of-requires Inv-loop μ-loop
-side-of-requires c κs = let s = c .before .before .before .before .before .before .before in (s .pre .0, s .pre .1 .0 .there _ (in-at (s .args .subs .now) (c .before .before .before .loop .j) (c .before .before .loop-test .taken)))
+side-of-requires c κs =
+    let s = c .before .before .before .before .before .before .before in
+    let m = in-at (s .args .subs .now) (c .before .before .before .loop .j) (c .before .before .loop-test .taken) in
+    (s .pre .0, s .pre .1 .0 .there _ m)
 
--- src/dyadic.rt:62:13
 tally-list-requires : tie.Need-tally-list-requires Inv-loop μ-loop
-tally-list-requires c κs = let s = c .before .before .before .before .before .before .before .before in (λ x m. s .pre .1 .0 .inside _ x (in-at (s .args .subs .now) (c .before .before .before .before .loop .j) (c .before .before .before .loop-test .taken)) (rw (c .side-of .ensures) at m), s .pre .1 .1)
+tally-list-requires c κs =
+    let d = c .before .before .before in
+    let s = d .before .before .before .before .before in
+    let m = in-at (s .args .subs .now) (d .before .loop .j) (d .loop-test .taken) in
+    (λ x k. s .pre .1 .0 .inside _ x m (rw (c .side-of .ensures) at k), s .pre .1 .1)
 
--- src/dyadic.rt:64:13
 returns : tie.Need-returns Inv-loop μ-loop
-returns c = λ seen T. let s = c .before .before .before .before .before .before .before .before .before .before .before .args in walk-stop (s .ends .now) (s .inc .now) (s .b) _ seen (s .subs .now) _ (c .before .before .before .before .before .before .before .loop .inv .1 seen T) (c .before .before .before .before .before .before .loop-test .taken) (one (c .before .before) seen T .answer) (c .if1 .taken)
+returns c =
+    λ seen T.
+    let d = c .before .before .before .before .before .before in
+    let s = d .before .before .before .before .before .args in
+    let w = d .before .loop .inv .1 seen T in
+    walk-stop (s .ends .now) (s .inc .now) (s .b) _ seen (s .subs .now) _ w (d .loop-test .taken)
+    (one (c .before .before) seen T .answer) (c .if1 .taken)
 
--- src/dyadic.rt:66:9
 add-j : tie.Need-add-j Inv-loop μ-loop
 add-j c = search needs
 
--- src/dyadic.rt:61:5
 loop-less : tie.Need-loop-less Inv-loop μ-loop
 loop-less c = search needs
 
--- src/dyadic.rt:61:5
 loop-again : tie.Need-loop-again Inv-loop μ-loop
-loop-again c = (omega arith, λ seen T. let s = c .before .before .before .before .before .before .before .before .before .before .before .args in walk-more (s .ends .now) (s .inc .now) (s .b) _ seen (s .subs .now) _ (c .before .before .before .before .before .before .before .loop .inv .1 seen T) (c .before .before .before .before .before .before .loop-test .taken) (tallied-walked (one (c .before .before) seen T) (c .if1 .left)))
+loop-again c = (
+  omega arith,
+  λ seen T.
+      let d = c .before .before .before .before .before .before in
+      let s = d .before .before .before .before .before .args in
+      let w = d .before .loop .inv .1 seen T in
+      walk-more (s .ends .now) (s .inc .now) (s .b) _ seen (s .subs .now) _ w (d .loop-test .taken)
+      (tallied-walked (one (c .before .before) seen T) (c .if1 .left)),
+)
 
--- src/dyadic.rt:68:5
 plain-requires : tie.Need-plain-requires Inv-loop μ-loop
 plain-requires c κs = search needs
 
--- src/dyadic.rt:44:1
 returns-2 : tie.Need-returns-2 Inv-loop μ-loop
-returns-2 c = λ seen T. let s = c .before .before .before .before .before .before .args in walk-all (s .ends .now) (s .inc .now) (s .b) _ seen (s .subs .now) _ (c .before .before .loop .inv .1 seen T) (c .before .loop-test .left) (c .plain .ensures)
+returns-2 c =
+    λ seen T.
+    let s = c .before .before .before .before .before .before .args in
+    let w = c .before .before .loop .inv .1 seen T in
+    walk-all (s .ends .now) (s .inc .now) (s .b) _ seen (s .subs .now) _ w (c .before .loop-test .left)
+    (c .plain .ensures)
 
 pub tally-all-spec : {M : Type 1} → statement M
 tally-all-spec =

@@ -1,0 +1,30 @@
+// The triangle with edge 1 struck from vertex 0's sups.
+pub const COUNTS: [u16; 4] = [1, 3, 3, 1];
+
+pub const ENDS: [u16; 16] = [0, 3, 4, 5, 6, 8, 9, 11, 13, 14, 16, 17, 19, 20, 23, 23];
+
+pub const INC: [u16; 23] = [
+    0,
+    1,
+    2,
+    0,
+    0,
+    0,
+    0,
+    2,
+    0,
+    1,
+    2,
+    0,
+    1,
+    0,
+    0,
+    2,
+    0,
+    1,
+    2,
+    0,
+    0,
+    1,
+    2,
+];

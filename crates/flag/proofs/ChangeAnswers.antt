@@ -1,0 +1,119 @@
+-- The answer of a change: of the tests before it, with their exactness, and as a whole.
+-- Assumes nothing.
+use mathlib.Core.Path.{_≡_, refl, sym, ap, _∙_}
+use mathlib.Core.Bool.{Bool, true, false, not, _&&_}
+use mathlib.Core.List.{List}
+use mathlib.Core.Logic.{_↔_}
+use Prim.Native.Nat.{ℕ, zero, suc, _≤_, _<_}
+use native.Mathlib.Omega.{arith}
+use borrow.Author.Tests.{lt-ltb, le-ltb, ltb-true, not-false}
+use lib.Dec.{ltb}
+use lib.ListN.{replicate}
+use Rattle.listing.specs.declared.Answer.{Answer}
+use Rattle.listing.specs.Refusals.{notAFlag, outsideRanks}
+use Rattle.listing.specs.Answers.{plain, fine, ifZero}
+use Rattle.listing.specs.Listing.{Listing, Limits, rank}
+use Rattle.listing.proofs.Answers.{or-no, no-or, on-no, on-off, then-go}
+use Rattle.valid.specs.Closed.{Closed}
+use Rattle.valid.specs.Tests.{closed}
+use Rattle.valid.proofs.ClosedExact.{closed-exact}
+use Rattle.valid.proofs.Sequences.{and-true, and-off}
+use Rattle.flag.specs.declared.Changed.{Changed}
+use Rattle.flag.specs.Flags.{flagTest, startTest, IsFlag}
+use Rattle.flag.specs.Change.{changeTest, changeAt, changedOf, padded, Changes}
+use Rattle.flag.proofs.FlagExact.{flag-exact}
+use Rattle.flag.proofs.Changes.{changes}
+
+-- ---- 20
+
+module _ (m : Limits) (L : Listing) (f : List ℕ) where
+  module _ {a b : Answer} (e : a ≡ closed m L) (z : a .no ≡ 0) where
+    pub start-fine : flagTest L f ≡ true → b ≡ fine → b ≡ startTest m L f
+    unfolding startTest
+    start-fine t k = then-go e z (rw t k)
+
+    pub start-none : flagTest L f ≡ false → b ≡ plain notAFlag → b ≡ startTest m L f
+    unfolding startTest
+    start-none t k = then-go e z (rw t k)
+
+  -- The tests before a change or a search answer 0 exactly if the listing is closed and the numbers are a flag of it.
+  pub start-exact : startTest m L f .no ≡ 0 ↔ (Closed m L × IsFlag L f)
+  unfolding startTest
+  start-exact = (there, back)
+    where
+      there : startTest m L f .no ≡ 0 → Closed m L × IsFlag L f
+      there e =
+          let p = or-no (closed m L) _ e in
+          let t = on-no (not (flagTest L f)) (plain notAFlag) (λ z. omega arith) (p .1) in
+          (closed-exact m L .0 (p .0), flag-exact L f .0 (not-false _ t))
+
+      back : Closed m L × IsFlag L f → startTest m L f .no ≡ 0
+      back h =
+          no-or (closed m L) _ (closed-exact m L .1 (h .0))
+          (on-off (not (flagTest L f)) (plain notAFlag) (ap not (flag-exact L f .1 (h .1))))
+
+-- ---- 21
+
+module _ (m : Limits) (L : Listing) (f : List ℕ) (r : ℕ) where
+  module _ {a b : Answer} (e : a ≡ startTest m L f) (z : a .no ≡ 0) where
+    pub change-fine : 0 < r → r < rank L → b ≡ fine → b ≡ changeTest m L f r
+    unfolding changeTest
+    change-fine h k g = then-go e z (rw (lt-ltb 0 r h, lt-ltb r (rank L) k) g)
+
+    pub change-lowest : r ≡ 0 → b ≡ plain outsideRanks → b ≡ changeTest m L f r
+    unfolding changeTest
+    change-lowest h g = then-go e z (rw (le-ltb 0 r (omega arith)) g)
+
+    pub change-highest : rank L ≤ r → b ≡ plain outsideRanks → b ≡ changeTest m L f r
+    unfolding changeTest
+    change-highest h g = then-go e z (rw (and-off _ (le-ltb r (rank L) h)) g)
+
+  -- A change is not refused exactly if the listing is closed, the numbers are a flag of it, and r lies between the ends.
+  pub change-exact : changeTest m L f r .no ≡ 0 ↔ (Closed m L × IsFlag L f × (0 < r) × (r < rank L))
+  unfolding changeTest
+  change-exact = (there, back)
+    where
+      outside : Bool
+      outside = not (ltb 0 r && ltb r (rank L))
+
+      there : changeTest m L f r .no ≡ 0 → Closed m L × IsFlag L f × (0 < r) × (r < rank L)
+      there e =
+          let p = or-no (startTest m L f) _ e in
+          let s = start-exact m L f .0 (p .0) in
+          let t = and-true _ _ (not-false _ (on-no outside (plain outsideRanks) (λ z. omega arith) (p .1))) in
+          (s .0, s .1, ltb-true 0 r (t .0), ltb-true r (rank L) (t .1))
+
+      back : Closed m L × IsFlag L f × (0 < r) × (r < rank L) → changeTest m L f r .no ≡ 0
+      back h =
+          no-or (startTest m L f) _ (start-exact m L f .1 (h .0, h .1))
+          (on-off outside (plain outsideRanks) (rw (lt-ltb 0 r (h .2), lt-ltb r (rank L) (h .3))))
+
+-- ---- the answer as a whole
+
+abbrev answered : Answer → List ℕ → Changed
+answered a l = record { answer = a; flag = l }
+
+module _ (m : Limits) (L : Listing) (f : List ℕ) (r : ℕ) where
+  module _ {a : Answer} {l : List ℕ} (e : a ≡ changeTest m L f r) where
+    pub changed-none : (a .no ≡ 0 → ⊥) → l ≡ replicate 16 0 → answered a l ≡ changedOf m L f r
+    unfolding changedOf
+    changed-none h k = rw (← e) (go (a .no) h)
+      where
+        go : (n : ℕ) → (n ≡ 0 → ⊥) → answered a l ≡ answered a (ifZero n (padded (changeAt L r f)) (replicate 16 0))
+        go zero g = absurd (g refl)
+        go (suc n) g = ap (answered a) k
+
+    pub changed-some : a .no ≡ 0 → l ≡ padded (changeAt L r f) → answered a l ≡ changedOf m L f r
+    unfolding changedOf
+    changed-some h k = rw (← e) (go (a .no) h)
+      where
+        go : (n : ℕ) → n ≡ 0 → answered a l ≡ answered a (ifZero n (padded (changeAt L r f)) (replicate 16 0))
+        go zero g = ap (answered a) k
+        go (suc n) g = absurd (omega arith)
+
+  -- Where a change is not refused, its flag is the one and only change there.
+  pub change-changes : changedOf m L f r .answer .no ≡ 0 → Changes L f r × (changedOf m L f r .flag ≡ padded (changeAt L r f))
+  unfolding changedOf
+  change-changes e =
+      let p = change-exact m L f r .0 e in
+      (changes L (p .0) r (p .2) (p .3) f (p .1), ap (λ (n : ℕ). ifZero n (padded (changeAt L r f)) (replicate 16 0)) e)
