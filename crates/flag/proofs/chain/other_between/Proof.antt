@@ -72,14 +72,19 @@ loop-less-3 c = search needs
 loop-again-3 : tie.Need-loop-again-3 Inv-loop μ-loop
 loop-again-3 c =
     let d = c .before .before .before .before .before in
-    let e = both-next _ _ _ _ _ (d .before .loop-test .taken) (d .if1 .left) (omega arith) (c .if4 .taken) in
-    (omega arith, omega arith, d .before .before .loop .inv .2 ∙ e)
+    let l = d .before .before in
+    (
+      omega arith,
+      omega arith,
+      l .loop .inv .2 ∙ both-next _ _ _ _ _ (d .before .loop-test .taken) (d .if1 .left) (omega arith) (c .if4 .taken),
+    )
 
 returns-2 : tie.Need-returns-2 Inv-loop μ-loop
 returns-2 c =
     let d = c .before .before .before .before .before in
-    let e = both-found _ _ _ _ _ (d .before .loop-test .taken) (d .if1 .left) (omega arith) (c .if4 .left) in
-    sym (d .before .before .loop .inv .2 ∙ e)
+    let l = d .before .before in
+    sym
+    (l .loop .inv .2 ∙ both-found _ _ _ _ _ (d .before .loop-test .taken) (d .if1 .left) (omega arith) (c .if4 .left))
 
 returns-3 : tie.Need-returns-3 Inv-loop μ-loop
 returns-3 c =
