@@ -3,3 +3,4 @@ pub mod Rows
 pub mod Hash
 pub mod Index
 pub mod Searched
+pub mod Held

@@ -1,7 +1,9 @@
 // The search for the flags of a cell.
+mod found;
 mod index;
 mod mask;
 mod row;
+//mod walk;
 
 use listing::Answer;
 
