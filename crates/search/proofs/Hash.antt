@@ -47,11 +47,14 @@ weights-next l r p h e k i = go (eqb k r) refl
         getD-set-other l r k v 0 d ∙ e k (omega arith)
 
 -- a number times its weight
-pub part-small : (l : List ℕ) → Weights l → (r x : ℕ) → r < 16 → x < 65536 → x * getD l r 0 ≤ 65536 * hashes
-part-small l e r x h i =
+pub times-small : (x v : ℕ) → x < 65536 → v < hashes → x * v ≤ 65536 * hashes
+times-small x v h i =
     let p : x ≤ 65536 = omega arith in
-    let q : getD l r 0 ≤ hashes = omega (arith, e .each r h, weight-small r) in
+    let q : v ≤ hashes = omega arith in
     mul-le-mul p q
+
+pub weights-small : (l : List ℕ) → Weights l → (r : ℕ) → r < 16 → getD l r 0 < hashes
+weights-small l e r h = omega (arith, e .each r h, weight-small r)
 
 -- ---- the sum
 

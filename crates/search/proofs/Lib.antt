@@ -5,3 +5,6 @@ pub mod Hash
 pub mod Chains
 pub mod Meets
 pub mod Begins
+pub mod AtHand
+pub mod Neighbours
+pub mod Works

@@ -42,6 +42,14 @@ pub fn sum_of(flag: &[u16; limit::RANKS], w: usize, weights: &[usize; limit::RAN
     s
 }
 
+// The hash of a flag after a number in it changes: the sum was that of the whole flag, and the weight is the number's.
+pub fn hash_changed(sum: usize, weight: usize, old: u16, new: u16) -> usize
+    requires { ⌜ (sum ≤ 16 * (65536 * hashes)) × (weight < hashes) × (old * weight ≤ sum + new * weight) ⌝ }
+    ensures { λ h. ⌜ h ≡ (sum + new * weight - old * weight) % hashes ⌝ }
+{
+    (sum + inner::wide(new) * weight - inner::wide(old) * weight) % HASHES
+}
+
 // The row of the flag at hand among the first n, n where it stands in none. Its hash is h.
 pub fn find(
     table: &[u16],

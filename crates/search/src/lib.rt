@@ -3,7 +3,7 @@ mod found;
 mod index;
 mod mask;
 mod row;
-//mod walk;
+mod walk;
 
 use listing::Answer;
 

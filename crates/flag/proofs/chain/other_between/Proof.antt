@@ -72,8 +72,7 @@ loop-less-3 c = search needs
 loop-again-3 : tie.Need-loop-again-3 Inv-loop μ-loop
 loop-again-3 c =
     let d = c .before .before .before .before .before in
-    let l = d .before .before in
-    (
+    let l = d .before .before in (
       omega arith,
       omega arith,
       l .loop .inv .2 ∙ both-next _ _ _ _ _ (d .before .loop-test .taken) (d .if1 .left) (omega arith) (c .if4 .taken),

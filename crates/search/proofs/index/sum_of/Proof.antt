@@ -7,7 +7,7 @@ use native.Mathlib.Omega.{arith}
 use borrow.Author.Needs.{needs}
 use lib.ListN.{getD, take, drop}
 use Rattle.search.specs.Hash.{hashes, sumFrom}
-use Rattle.search.proofs.Hash.{part-small, sum-next, sum-end}
+use Rattle.search.proofs.Hash.{times-small, weights-small, sum-next, sum-end}
 use Rattle.search.proofs.index.sum_of.Statement.{statement}
 use Rattle.search.proofs.index.sum_of.Tie as tie
 
@@ -24,7 +24,7 @@ part : (c : tie.After-s Inv-loop μ-loop)
     (c .before .before .before .before .loop .r) 0 ≤ 65536 * hashes
 part c =
     let s = c .before .before .before .before .before in
-    part-small (s .args .weights .now) (s .pre .2) _ _ (omega arith) (omega arith)
+    times-small _ _ (omega arith) (weights-small (s .args .weights .now) (s .pre .2) _ (omega arith))
 
 loop-holds : tie.Need-loop-holds Inv-loop μ-loop
 loop-holds c = (omega arith, omega arith, omega arith)
