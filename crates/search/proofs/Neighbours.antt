@@ -44,7 +44,7 @@ abbrev pub All : {A : Type 0} → (A → Type 0) → List A → Type 0
 All {A} P l = (x : A) → List·Memᴰ x l → P x
 
 module _ {A : Type 0} (same : A → A → Bool) (room b : ℕ) (P : A → Type 0) where
-  meet-all : (S : State A) (y : A) → All P (S .found) → P y → All P (meet same room b S y .found)
+  pub meet-all : (S : State A) (y : A) → All P (S .found) → P y → All P (meet same room b S y .found)
   meet-all S y h p =
       meet-cases same room b S y (λ T. All P (T .found)) (λ o. h) (λ o i. h)
       (λ o i r x m. ⊎-elim (h x) (last x) (List·Memᴰ·append-cases (S .found) m)) (λ o i r. h)

@@ -29,7 +29,7 @@ drop-more n m l k h e =
     let z : n + (m - n) ≡ m = omega arith in
     rw z at (sym (drop-drop (m - n) n l) ∙ ap (drop (m - n)) e ∙ drop-drop (m - n) n k)
 
-rest-trans : {w n m : ℕ} {t b t′ b′ t″ b″ : List ℕ} → n ≤ m → Rest w n t b t′ b′ → Rest w m t′ b′ t″ b″
+pub rest-trans : {w n m : ℕ} {t b t′ b′ t″ b″ : List ℕ} → n ≤ m → Rest w n t b t′ b′ → Rest w m t′ b′ t″ b″
     → Rest w m t b t″ b″
 rest-trans {w} {n} {m} {t} {b} {t′} {b′} h R Q = record {
   long = Q .long ∙ R .long;
@@ -48,7 +48,7 @@ moved-trans M N = record {
 }
 
 -- the same move, to a state that is the same
-moved-to : {w room : ℕ} {t b t′ b′ h x : List ℕ} {s r : Progress} {S T : State (List ℕ)}
+pub moved-to : {w room : ℕ} {t b t′ b′ h x : List ℕ} {s r : Progress} {S T : State (List ℕ)}
     → Moved w room t b s t′ b′ h x r S → S ≡ T → Moved w room t b s t′ b′ h x r T
 moved-to M e = record { state = M .state ∙ e; held = M .held; more = M .more; rest = M .rest }
 
