@@ -49,7 +49,7 @@ module _ (L : Listing) (C : Closed limits L) (flag : List ℕ) (sum : ℕ) (H : 
   unfolding changeAt
   hand-changed x e =
       let z : x ≡ other (getD f r 0) (between L r f) =
-          e ∙ ap₂ other (sym (at-w r (omega arith))) between-same in
+      e ∙ ap₂ other (sym (at-w r (omega arith))) between-same in
       take-set-lt w flag r x (omega arith) ∙ ap (set f r) z
 
   module _ (x v : ℕ) (e : v ≡ weight r) where

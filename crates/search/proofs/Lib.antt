@@ -10,3 +10,5 @@ pub mod Neighbours
 pub mod Works
 pub mod Runs
 pub mod Starts
+pub mod Numbers
+pub mod Outcomes

@@ -58,9 +58,13 @@ loop-less c = search needs
 
 -- src/walk.rt:51:5
 loop-again : tie.Need-loop-again Inv-loop μ-loop
-loop-again c = let l = c .before .before .before .loop in let s = c .before .before .before .before .before in
-    (omega arith, rw (c .wide .ensures .0, l .inv .1) (sym (before-next _ _)), omega (arith, l .inv .2), simp length-set (l .inv .3),
-    places-next (s .args .counts .now) (l .a) (l .r) (l .here) (omega (arith, l .inv .3)) (l .inv .1) (l .inv .4))
+loop-again c = let l = c .before .before .before .loop in let s = c .before .before .before .before .before in (
+  omega arith,
+  rw (c .wide .ensures .0, l .inv .1) (sym (before-next _ _)),
+  omega (arith, l .inv .2),
+  simp length-set (l .inv .3),
+  places-next (s .args .counts .now) (l .a) (l .r) (l .here) (omega (arith, l .inv .3)) (l .inv .1) (l .inv .4),
+)
 
 -- src/walk.rt:44:1
 returns : tie.Need-returns Inv-loop μ-loop

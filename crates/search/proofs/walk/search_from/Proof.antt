@@ -59,16 +59,24 @@ sum-of-requires c κs = let s = c .before .before .before .before .before .befor
 -- src/walk.rt:242:9
 meet-requires : tie.Need-meet-requires
 unfolding hashOf
-meet-requires c κs = let s = c .before .before .before .before .before .before .before .before .before .before .before .before .before .before .before .before .before in
-    ((s .pre .0 .shaped .few-ranks, rw (c .before .before .before .before .before .before .before .before .pad .ensures) (padded-length (s .args .first .now) (omega (arith, s .pre .1 .0 .one-each, s .pre .0 .shaped .few-ranks))),
-    ap (λ n. n % hashes) (c .before .before .before .before .before .sum-of .ensures .0)),
-    (held-none _ _ _ _ (s .pre .1 .1 .1 .0) (s .pre .1 .1 .1 .1) (s .pre .1 .1 .1 .2), refl))
+meet-requires c κs = let s = c .before .before .before .before .before .before .before .before .before .before .before .before .before .before .before .before .before in (
+  (
+    s .pre .0 .shaped .few-ranks,
+    rw (c .before .before .before .before .before .before .before .before .pad .ensures) (padded-length (s .args .first .now) (omega (arith, s .pre .1 .0 .one-each, s .pre .0 .shaped .few-ranks))),
+    ap (λ n. n % hashes) (c .before .before .before .before .before .sum-of .ensures .0),
+  ),
+  (held-none _ _ _ _ (s .pre .1 .1 .1 .0) (s .pre .1 .1 .1 .1) (s .pre .1 .1 .1 .2), refl),
+)
 
 -- src/walk.rt:254:5
 run-requires : tie.Need-run-requires
-run-requires c κs = let s = c .before .before .before .before .before .before .before .before .before .before .before .before .before .before .before .before .before .before .before .before .before .before .before .before .before .before .before .before in let M = met (c .before .before .before .before .before .before .before .before .before .before) in
-    (record { closed = s .pre .0; begins = c .before .before .before .before .before .before .before .before .before .before .before .before .before .before .before .before .before .before .before .before .before .places-of .ensures; weighs = c .before .before .before .before .before .before .before .before .before .before .before .before .before .before .before .before .before .before .before .before .weights .ensures }, (s .pre .1 .1 .0,
-    (M .held, first-flags (L s) (s .args .room) (s .args .mask) _ _ _ M (s .pre .1 .0))))
+run-requires c κs = let s = c .before .before .before .before .before .before .before .before .before .before .before .before .before .before .before .before .before .before .before .before .before .before .before .before .before .before .before .before in let M = met (c .before .before .before .before .before .before .before .before .before .before) in (
+  record { closed = s .pre .0; begins = c .before .before .before .before .before .before .before .before .before .before .before .before .before .before .before .before .before .before .before .before .before .places-of .ensures; weighs = c .before .before .before .before .before .before .before .before .before .before .before .before .before .before .before .before .before .before .before .before .weights .ensures },
+  (
+    s .pre .1 .1 .0,
+    (M .held, first-flags (L s) (s .args .room) (s .args .mask) _ _ _ M (s .pre .1 .0)),
+  ),
+)
 
 -- src/walk.rt:212:1
 same-length : tie.Need-same-length

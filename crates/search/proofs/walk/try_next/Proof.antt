@@ -58,9 +58,16 @@ element-copy-out-change-index-2 c = search needs
 -- src/walk.rt:82:9
 change-index-requires : tie.Need-change-index-requires
 change-index-requires c κs = let s = c .before .before .before .before .before .before .before .before .before .before .before in let R = s .pre .0 in let q = s .pre .1 .1 .0 in
-    rw (c .before .before .before .before .before .wide .ensures .0)
-    (R .closed .shaped, (R .closed .ascends, ((R .begins (s .args .r - 1) (omega arith), R .begins (s .args .r + 1) (omega arith)),
-    hand-neighbours (L s) (R .closed) (s .args .flag .now) (s .args .sum) (s .pre .1 .0) (s .args .r) (q .0) (q .1))))
+    rw (c .before .before .before .before .before .wide .ensures .0) (
+      R .closed .shaped,
+      (
+        R .closed .ascends,
+        (
+          (R .begins (s .args .r - 1) (omega arith), R .begins (s .args .r + 1) (omega arith)),
+          hand-neighbours (L s) (R .closed) (s .args .flag .now) (s .args .sum) (s .pre .1 .0) (s .args .r) (q .0) (q .1),
+        ),
+      ),
+    )
 
 -- src/walk.rt:91:38
 mul-hash-changed : tie.Need-mul-hash-changed
@@ -73,9 +80,11 @@ element-copy-out-hash-changed c = search needs
 -- src/walk.rt:91:9
 hash-changed-requires : tie.Need-hash-changed-requires
 hash-changed-requires c κs = let s = c .before .before .before .before .before .before .before .before .before .before .before .before .before in let R = s .pre .0 in let q = s .pre .1 .1 .0 in
-    rw (c .before .before .before .before .before .before .before .wide .ensures .0)
-    (omega (arith, s .pre .1 .0 .small, R .closed .shaped .few-ranks), weights-small (s .args .weights .now) (R .weighs) (s .args .r) (omega (arith, R .closed .shaped .few-ranks)),
-    hand-old (L s) (R .closed) (s .args .flag .now) (s .args .sum) (s .pre .1 .0) (s .args .r) (q .0) (q .1) _ _ (R .weighs .each (s .args .r) (omega (arith, R .closed .shaped .few-ranks))))
+    rw (c .before .before .before .before .before .before .before .wide .ensures .0) (
+      omega (arith, s .pre .1 .0 .small, R .closed .shaped .few-ranks),
+      weights-small (s .args .weights .now) (R .weighs) (s .args .r) (omega (arith, R .closed .shaped .few-ranks)),
+      hand-old (L s) (R .closed) (s .args .flag .now) (s .args .sum) (s .pre .1 .0) (s .args .r) (q .0) (q .1) _ _ (R .weighs .each (s .args .r) (omega (arith, R .closed .shaped .few-ranks))),
+    )
 
 -- src/walk.rt:92:5
 mul-flag : tie.Need-mul-flag
@@ -88,11 +97,15 @@ element-write-flag c = search needs
 -- src/walk.rt:93:9
 meet-requires : tie.Need-meet-requires
 meet-requires c κs = let s = c .before .before .before .before .before .before .before .before .before .before .before .before .before .before .before .before .before .before .before in let R = s .pre .0 in let q = s .pre .1 .1 .0 in
-    rw (c .before .before .before .before .before .before .before .before .before .before .before .before .before .wide .ensures .0)
-    ((R .closed .shaped .few-ranks, length-set (s .args .flag .now) _ _ ∙ s .pre .1 .0 .sixteen,
-    (rw (c .before .before .before .before .before .before .before .before .before .before .before .before .before .wide .ensures .0) at (c .before .before .before .before .before .hash-changed .ensures))
-    ∙ hand-hash (L s) (R .closed) (s .args .flag .now) (s .args .sum) (s .pre .1 .0) (s .args .r) (q .0) (q .1) _ _ (R .weighs .each (s .args .r) (omega (arith, R .closed .shaped .few-ranks)))),
-    (s .pre .1 .1 .1 .0, s .pre .1 .1 .1 .1))
+    rw (c .before .before .before .before .before .before .before .before .before .before .before .before .before .wide .ensures .0) (
+      (
+        R .closed .shaped .few-ranks,
+        length-set (s .args .flag .now) _ _ ∙ s .pre .1 .0 .sixteen,
+        (rw (c .before .before .before .before .before .before .before .before .before .before .before .before .before .wide .ensures .0) at (c .before .before .before .before .before .hash-changed .ensures))
+            ∙ hand-hash (L s) (R .closed) (s .args .flag .now) (s .args .sum) (s .pre .1 .0) (s .args .r) (q .0) (q .1) _ _ (R .weighs .each (s .args .r) (omega (arith, R .closed .shaped .few-ranks))),
+      ),
+      (s .pre .1 .1 .1 .0, s .pre .1 .1 .1 .1),
+    )
 
 -- src/walk.rt:94:5
 mul-flag-2 : tie.Need-mul-flag-2
@@ -112,10 +125,11 @@ same-length-2 c = search needs
 
 -- src/walk.rt:50:1
 returns : tie.Need-returns
-returns c = let s = c .before .before .before .before .before .before .before .before .before .before .before .before .before .before .before .before .before .before .before .before .before .before .before .before in let R = s .pre .0 in let q = s .pre .1 .1 .0 in let z = c .before .before .before .before .before .before .before .before .before .before .before .before .before .before .before .before .before .before .wide .ensures .0 in
-    (put-back (s .args .flag .now) _ _,
-    rw (hand-changed (L s) (R .closed) (s .args .flag .now) (s .args .sum) (s .pre .1 .0) (s .args .r) (q .0) (q .1) (c .before .before .before .before .before .before .before .before .before .before .before .before .change-index .result) (rw z at (c .before .before .before .before .before .before .before .before .before .before .before .before .change-index .ensures)))
-    at (rw z at (c .before .before .before .before .meet .ensures)))
+returns c = let s = c .before .before .before .before .before .before .before .before .before .before .before .before .before .before .before .before .before .before .before .before .before .before .before .before in let R = s .pre .0 in let q = s .pre .1 .1 .0 in let z = c .before .before .before .before .before .before .before .before .before .before .before .before .before .before .before .before .before .before .wide .ensures .0 in (
+  put-back (s .args .flag .now) _ _,
+  rw (hand-changed (L s) (R .closed) (s .args .flag .now) (s .args .sum) (s .pre .1 .0) (s .args .r) (q .0) (q .1) (c .before .before .before .before .before .before .before .before .before .before .before .before .change-index .result) (rw z at (c .before .before .before .before .before .before .before .before .before .before .before .before .change-index .ensures)))
+      at (rw z at (c .before .before .before .before .meet .ensures)),
+)
 
 pub try-next-spec : {M : Type 1} → statement M
 try-next-spec =

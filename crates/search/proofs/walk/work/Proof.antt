@@ -66,10 +66,11 @@ wide-requires c κs = search needs
 
 -- src/walk.rt:129:5
 get-row-requires : tie.Need-get-row-requires Inv-loop μ-loop
-get-row-requires c κs = let s = c .before .before .before .before .before .before .before .before in
-    (s .pre .0 .closed .shaped .few-ranks,
-    rw (c .before .before .wide .ensures .0) (omega (arith, row-end (s .args .k) (s .args .start .count) (length (s .args .counts .now)) (s .pre .1 .1 .1 .1 .0), s .pre .1 .1 .0 .indexed .fits)),
-    refl)
+get-row-requires c κs = let s = c .before .before .before .before .before .before .before .before in (
+  s .pre .0 .closed .shaped .few-ranks,
+  rw (c .before .before .wide .ensures .0) (omega (arith, row-end (s .args .k) (s .args .start .count) (length (s .args .counts .now)) (s .pre .1 .1 .1 .1 .0), s .pre .1 .1 .0 .indexed .fits)),
+  refl,
+)
 
 -- src/walk.rt:130:9
 sum-of-requires : tie.Need-sum-of-requires Inv-loop μ-loop
@@ -113,9 +114,16 @@ without-requires c κs = (c .lowest .ensures .1, rw (c .lowest .ensures .0) (low
 
 -- src/walk.rt:140:9
 try-next-requires : tie.Need-try-next-requires Inv-loop μ-loop
-try-next-requires c κs = let s = c .before .before .before .before .before .before .before .before .before .before .before .before .before .before .before .before .before .before .before .before .before .before .before .before in
-    (s .pre .0, (hand (c .before .before .before .before .before .before .before .before .before .before), (working-rank (L s) _ _ _ (c .before .before .before .before .before .before .before .before .before .before .loop .inv .1) (some-left (c .before .before .before .before .before .before .before .before .before) (c .before .before .before .before .before .before .before .before .if1 .taken)) (c .before .before .before .before .before .before .lowest .result) (c .before .before .before .before .before .before .lowest .ensures .0),
-    (c .before .before .before .before .before .before .before .before .before .before .loop .inv .1 .moved .held, c .before .before .before .before .before .before .before .if2 .left))))
+try-next-requires c κs = let s = c .before .before .before .before .before .before .before .before .before .before .before .before .before .before .before .before .before .before .before .before .before .before .before .before in (
+  s .pre .0,
+  (
+    hand (c .before .before .before .before .before .before .before .before .before .before),
+    (
+      working-rank (L s) _ _ _ (c .before .before .before .before .before .before .before .before .before .before .loop .inv .1) (some-left (c .before .before .before .before .before .before .before .before .before) (c .before .before .before .before .before .before .before .before .if1 .taken)) (c .before .before .before .before .before .before .lowest .result) (c .before .before .before .before .before .before .lowest .ensures .0),
+      (c .before .before .before .before .before .before .before .before .before .before .loop .inv .1 .moved .held, c .before .before .before .before .before .before .before .if2 .left),
+    ),
+  ),
+)
 
 -- src/walk.rt:134:5
 loop-less : tie.Need-loop-less Inv-loop μ-loop
@@ -123,10 +131,11 @@ loop-less c = omega (arith, c .before .before .before .before .before .before .b
 
 -- src/walk.rt:134:5
 loop-again : tie.Need-loop-again Inv-loop μ-loop
-loop-again c = let s = c .before .before .before .before .before .before .before .before .before .before .before .before .before .before .before .before .before .before .before .before .before .before .before .before .before .before .before .before .before in
-    (c .before .before .before .before .try-next .ensures .0 ∙ c .before .before .before .before .before .before .before .before .before .before .before .before .before .before .before .loop .inv .0,
-    working-next (L s) _ _ _ (c .before .before .before .before .before .before .before .before .before .before .before .before .before .before .before .loop .inv .1) (some-left (c .before .before .before .before .before .before .before .before .before .before .before .before .before .before) (c .before .before .before .before .before .before .before .before .before .before .before .before .before .if1 .taken)) (c .before .before .before .before .before .before .before .before .before .before .before .lowest .result) (c .before .before .before .before .before .before .before .before .before .before .before .lowest .ensures .0) (c .before .before .before .before .before .before .before .before .before .before .without .result) (c .before .before .before .before .before .before .before .before .before .before .without .ensures)
-    (rw (byte-is (c .before .before .before .before .before .before .before .before .before .before .before .before .before .before .before), row-is (c .before .before .before .before .before .before .before .before .before .before .before .before .before .before .before)) at (c .before .before .before .before .try-next .ensures .1)))
+loop-again c = let s = c .before .before .before .before .before .before .before .before .before .before .before .before .before .before .before .before .before .before .before .before .before .before .before .before .before .before .before .before .before in (
+  c .before .before .before .before .try-next .ensures .0 ∙ c .before .before .before .before .before .before .before .before .before .before .before .before .before .before .before .loop .inv .0,
+  working-next (L s) _ _ _ (c .before .before .before .before .before .before .before .before .before .before .before .before .before .before .before .loop .inv .1) (some-left (c .before .before .before .before .before .before .before .before .before .before .before .before .before .before) (c .before .before .before .before .before .before .before .before .before .before .before .before .before .if1 .taken)) (c .before .before .before .before .before .before .before .before .before .before .before .lowest .result) (c .before .before .before .before .before .before .before .before .before .before .before .lowest .ensures .0) (c .before .before .before .before .before .before .before .before .before .before .without .result) (c .before .before .before .before .before .before .before .before .before .before .without .ensures)
+      (rw (byte-is (c .before .before .before .before .before .before .before .before .before .before .before .before .before .before .before), row-is (c .before .before .before .before .before .before .before .before .before .before .before .before .before .before .before)) at (c .before .before .before .before .try-next .ensures .1)),
+)
 
 -- src/walk.rt:99:1
 same-length-3 : tie.Need-same-length-3 Inv-loop μ-loop
