@@ -131,15 +131,14 @@ module _ (min max : Bool) (P Q : Factor) (upP upQ counts₀ ends₀ inc₀ : Lis
         → (counts₁ ≡ over (W .counts) counts₀) × ((ends₁ ≡ over (W .ends) ends₀) × (inc₂ ≡ over (W .inc) inc₀))
     built-all inc₂ f =
         let hp = plan .ranks-P .0 in
-        let hq = plan .ranks-Q .0 in
-        (
+        let hq = plan .ranks-Q .0 in (
           rw counts-are (holds-over (countsOf min max (P .counts) (Q .counts)) counts₀ counts₁ counts-room hc),
           (
             rw (built-ends P Q hp hq min max)
-            (whole-ends lists (W .counts) size ends₀ inc₀ ends₁ inc₁ row (plan .room-for-ends) (plan .room-for-inc)
-            elements derives),
+                (whole-ends lists (W .counts) size ends₀ inc₀ ends₁ inc₁ row (plan .room-for-ends) (plan .room-for-inc)
+                elements derives),
             rw (built-inc P Q hp hq min max)
-            (whole-inc lists (W .counts) size ends₀ inc₀ ends₁ inc₁ row (plan .room-for-ends) (plan .room-for-inc)
-            elements derives inc₂ (rw (part-is, en) at f)),
+                (whole-inc lists (W .counts) size ends₀ inc₀ ends₁ inc₁ row (plan .room-for-ends) (plan .room-for-inc)
+                elements derives inc₂ (rw (part-is, en) at f)),
           ),
         )

@@ -40,7 +40,7 @@ module _ (min max : Bool) (p q : List ℕ) where
       let a′ : a ≡ 0 + length (when min 1) = omega (arith, when-length min 1) in
       let b′ : b ≡ a + length (table sizes n) = omega (arith, table-length sizes n) in
       let k₂ : Holds a (table sizes n) d₁ d₂ =
-          laid-holds a d₁ d₂ (table sizes n) _ n (table-length sizes n) (λ j h. sym (table-at sizes n j h)) l₂ in
+      laid-holds a d₁ d₂ (table sizes n) _ n (table-length sizes n) (λ j h. sym (table-at sizes n j h)) l₂ in
       let k₃ : Holds b (when max 1) d₂ d₃ = when-laid max 1 b d₂ d₃ l₃ in
       holds-then 0 d d₁ (when min 1) (table sizes n ++ when max 1) d₃ (when-laid min 1 0 d d₁ l₁)
       (rw a′ at (holds-then a d₁ d₂ (table sizes n) (when max 1) d₃ k₂ (rw b′ at k₃)))

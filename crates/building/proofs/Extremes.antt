@@ -138,8 +138,7 @@ module _ (min max : Bool) (P Q : Factor) (upP upQ : List ℕ) (re ri : ℕ) (pla
     pub max-asked : (2 * (e′ + bit max) ≤ re) × ((at + cond max k 0 ≤ ri) × (at + cond max k 0 < 65536))
     max-asked =
         let s = sizes in
-        let r = max-room in
-        (
+        let r = max-room in (
           omega (arith, plan .room-for-ends),
           (omega (arith, plan .room-for-inc), omega (arith, plan .incidences)),
         )

@@ -55,7 +55,7 @@ module _ (first n from to k t : ℕ) (inc next inc′ next′ : List ℕ) (ht : 
       let e : from + d ≡ t = omega arith in
       s .rest t
       (λ x j h i q.
-        omega (arith, length-replicate (occurs x (take d l)) k, occurs-some x l d, apart .below x h))
+      omega (arith, length-replicate (occurs x (take d l)) k, occurs-some x l d, apart .below x h))
       ∙ sym (getD-take (to - from) (drop from inc) d 0 (omega arith) ∙ getD-drop from inc d 0 ∙ ap (λ (p : ℕ). getD inc p 0) e)
 
   -- there is room at its cursor
@@ -87,13 +87,13 @@ module _ (first n from to k t : ℕ) (inc next inc′ next′ : List ℕ) (ht : 
         strewn-then first n _ _ _ _ _ from next next′ inc inc′ inc″ s r s′ apart
         (λ y. sym (length-replicate (occurs y (take d l)) k))
         (λ y h.
-          omega (
-            arith,
-            length-replicate (occurs y (take d l)) k,
-            length-replicate (occurs y (x ∷ [])) k,
-            more y,
-            occurs-some y l (t + 1 - from),
-          ))
+        omega (
+          arith,
+          length-replicate (occurs y (take d l)) k,
+          length-replicate (occurs y (x ∷ [])) k,
+          more y,
+          occurs-some y l (t + 1 - from),
+        ))
         (λ y. ap (λ (m : ℕ). replicate m k) (more y)
         ∙ sym (replicate-append-replicate (occurs y (take d l)) (occurs y (x ∷ [])) k))
 
@@ -174,7 +174,7 @@ module _ (first n here m k : ℕ) (ends inc next inc′ next′ : List ℕ) (goo
       rw z
       (between-same from′ to′ inc inc′ (s .same-length)
       (λ p h _. s .rest p (λ x j hx hj e.
-        omega (arith, apart .below x hx, gather-le f x k m (omega arith), rise))))
+      omega (arith, apart .below x hx, gather-le f x k m (omega arith), rise))))
 
   at-cursor : (x : ℕ) → x < n → getD next′ (first + x) 0 + occurs x (between inc′ from′ to′)
       ≡ getD next (first + x) 0 + length (gather f x (k + 1))
@@ -209,11 +209,11 @@ module _ (first n here m k : ℕ) (ends inc next inc′ next′ : List ℕ) (goo
         let e : k + 1 ≡ suc k = omega arith in
         strewn-then first n _ _ _ _ _ (start ends (2 * here)) next next′ inc inc′ inc″ s r s′ apart (λ y. refl)
         (λ y h.
-          omega (
-            arith,
-            length-replicate (occurs y (between inc′ from′ to′)) k,
-            ap (occurs y) rank-list,
-            gather-next f y k,
-            gather-le f y (k + 1) m (omega arith),
-          ))
+        omega (
+          arith,
+          length-replicate (occurs y (between inc′ from′ to′)) k,
+          ap (occurs y) rank-list,
+          gather-next f y k,
+          gather-le f y (k + 1) m (omega arith),
+        ))
         (λ y. rw (e, rank-list))

@@ -83,8 +83,8 @@ module _ (low : Bool) (left : List ℕ) (loff scale : ℕ) (right : List ℕ) (r
       let a′ : a ≡ at + length (when low 0) = omega (arith, when-length low 0) in
       let b′ : b ≡ a + length (map F left) = omega (arith, length-map left F) in
       let k₂ : Holds a (map F left) d₁ d₂ =
-          laid-holds a d₁ d₂ (map F left) _ _ (length-map left F) (λ j h. sym (getD-map F left j h)) l₂ in
+      laid-holds a d₁ d₂ (map F left) _ _ (length-map left F) (λ j h. sym (getD-map F left j h)) l₂ in
       let k₃ : Holds b (map G right) d₂ d₃ =
-          laid-holds b d₂ d₃ (map G right) _ _ (length-map right G) (λ j h. sym (getD-map G right j h)) l₃ in
+      laid-holds b d₂ d₃ (map G right) _ _ (length-map right G) (λ j h. sym (getD-map G right j h)) l₃ in
       holds-then at d d₁ (when low 0) (map F left ++ map G right) d₃ (when-laid low 0 at d d₁ l₁)
       (rw a′ at (holds-then a d₁ d₂ (map F left) (map G right) d₃ k₂ (rw b′ at k₃)))

@@ -41,7 +41,7 @@ module _ (counts ends inc : List ℕ) (ready : Fillable counts ends inc) where
       go (yes a) = omega (arith, ends-before e e′ a (omega arith))
       go (no a) =
           let m : start ends (suc (2 * e′)) ≤ start ends (suc (2 * e)) =
-              start-le ends inc (ready .lists) (suc (2 * e′)) (suc (2 * e)) (omega arith) (omega (arith, ready .two-each)) in
+          start-le ends inc (ready .lists) (suc (2 * e′)) (suc (2 * e)) (omega arith) (omega (arith, ready .two-each)) in
           omega arith
 
   -- ---- with the sups of the ranks below r filled in
@@ -55,7 +55,7 @@ module _ (counts ends inc : List ℕ) (ready : Fillable counts ends inc) where
         rw z
         (between-same (start ends (2 * e)) (getD ends (2 * e) 0) inc inc′ (v .same-length)
         (λ p a b. v .rest p (λ i x j hi hx hj q.
-          not-subs (before counts i + x) e p j (before-lt counts i x hx) h a b q (omega (arith, ready .room i x hx)))))
+        not-subs (before counts i + x) e p j (before-lt counts i x hx) h a b q (omega (arith, ready .room i x hx)))))
 
     -- so the same sups are gathered
     pub gathers : (x : ℕ)
@@ -111,7 +111,7 @@ module _ (counts ends inc : List ℕ) (ready : Fillable counts ends inc) where
               arith,
               fits x h,
               ends-before (first + x) here (omega (arith, before-next counts r))
-              (omega (arith, before-all counts (r + 1))),
+                  (omega (arith, before-all counts (r + 1))),
             );
       }
 
@@ -122,15 +122,15 @@ module _ (counts ends inc : List ℕ) (ready : Fillable counts ends inc) where
             ≡ getD inc′ (getD ends (2 * (before counts i + x)) 0 + j) 0
         earlier i x j hi hx hj =
             s .rest _ (λ y k hy hk q.
-              omega (
-                arith,
-                ready .room i x hx,
-                ends-before (before counts i + x) (first + y)
-                (omega (arith, before-next counts i, before-le counts (i + 1) r (omega arith)))
-                (omega (arith, there y hy)),
-                subs-sups (first + y) (there y hy),
-                cursors (first + y) (omega arith) (there y hy),
-              ))
+            omega (
+              arith,
+              ready .room i x hx,
+              ends-before (before counts i + x) (first + y)
+                  (omega (arith, before-next counts i, before-le counts (i + 1) r (omega arith)))
+                  (omega (arith, there y hy)),
+              subs-sups (first + y) (there y hy),
+              cursors (first + y) (omega arith) (there y hy),
+            ))
 
         next-at : (i x j : ℕ) → i < r + 1 → x < getD counts i 0 → j < length (gathered counts ends inc i x)
             → getD inc″ (getD ends (2 * (before counts i + x)) 0 + j) 0 ≡ getD (gathered counts ends inc i x) j 0
@@ -151,7 +151,7 @@ module _ (counts ends inc : List ℕ) (ready : Fillable counts ends inc) where
           at = next-at;
           rest = λ p out.
               s .rest p (λ x j hx hj q.
-                out r x j (omega arith) (rw (← en) hx) (rw (← sups-are x) hj) (q ∙ ap (λ (k : ℕ). k + j) (cursor x hx)))
+              out r x j (omega arith) (rw (← en) hx) (rw (← sups-are x) hj) (q ∙ ap (λ (k : ℕ). k + j) (cursor x hx)))
               ∙ v .rest p (λ i x j hi hx hj q. out i x j (omega arith) hx hj q);
         }
 

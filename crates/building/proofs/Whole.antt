@@ -152,9 +152,9 @@ module _ (lists : ℕ → List ℕ) (counts : List ℕ) (N : ℕ) (ends₀ inc�
         → getD inc′ p 0 ≡ getD inc p 0
     stays p out =
         f .rest p (λ i x j hi hx hj q.
-          let h : before counts i + x < N = omega (arith, before-lt counts i x hx) in
-          out (before counts i + x) j h (rw (← sups-are i x hx) hj)
-          (q ∙ ap (λ (k : ℕ). k + j) (sups-start (before counts i + x) h)))
+        let h : before counts i + x < N = omega (arith, before-lt counts i x hx) in
+        out (before counts i + x) j h (rw (← sups-are i x hx) hj)
+        (q ∙ ap (λ (k : ℕ). k + j) (sups-start (before counts i + x) h)))
 
     sups-at : (e j : ℕ) → e < N → j < length (lists (2 * e + 1))
         → getD inc′ (starts lists (2 * e + 1) + j) 0 ≡ getD (lists (2 * e + 1)) j 0
@@ -168,14 +168,14 @@ module _ (lists : ℕ → List ℕ) (counts : List ℕ) (N : ℕ) (ends₀ inc�
         at i x hi hx q =
             let l′ : j < length (gathered counts E inc i x) = rw (sups-are i x hx, ← q) l in
             let g : getD inc′ (getD E (2 * (before counts i + x)) 0 + j) 0 ≡ getD (gathered counts E inc i x) j 0 =
-                f .at i x j hi hx l′ in
+            f .at i x j hi hx l′ in
             rw (sups-are i x hx, ← q, sups-start e h) at g
 
     subs-at : (e j : ℕ) → e < N → j < length (lists (2 * e))
         → getD inc′ (starts lists (2 * e) + j) 0 ≡ getD (lists (2 * e)) j 0
     subs-at e j h l =
         stays (starts lists (2 * e) + j) (λ e′ j′ h′ l′ q.
-          omega (arith, part-same (lengths lists) (2 * e) (2 * e′ + 1) j j′ l l′ q))
+        omega (arith, part-same (lengths lists) (2 * e) (2 * e′ + 1) j j′ l l′ q))
         ∙ row .subs-done e j h l
 
     list-at : (t j : ℕ) → t < 2 * N → j < length (lists t) → getD inc′ (starts lists t + j) 0 ≡ getD (lists t) j 0
@@ -202,11 +202,11 @@ module _ (lists : ℕ → List ℕ) (counts : List ℕ) (N : ℕ) (ends₀ inc�
         rest : (p : ℕ) → length (joined lists (2 * N)) ≤ p → getD inc′ p 0 ≡ getD inc₀ p 0
         rest p h =
             stays p (λ e j he hj q.
-              omega (
-                arith,
-                joined-length lists (2 * N),
-                sum-lt (lengths lists) (2 * e + 1) (2 * N) j (omega arith) hj,
-              ))
+            omega (
+              arith,
+              joined-length lists (2 * N),
+              sum-lt (lengths lists) (2 * e + 1) (2 * N) j (omega arith) hj,
+            ))
             ∙ row .inc-rest p (omega (arith, joined-length lists (2 * N)))
 
   pub whole-ends : ends ≡ over (table (λ t. sum (lengths lists) (suc t)) (2 * N)) ends₀
@@ -214,5 +214,5 @@ module _ (lists : ℕ → List ℕ) (counts : List ℕ) (N : ℕ) (ends₀ inc�
       let n = table-length (λ t. sum (lengths lists) (suc t)) (2 * N) in
       over-is (table (λ t. sum (lengths lists) (suc t)) (2 * N)) ends₀ ends (row .ends-length) (omega arith)
       (λ t h.
-        row .ends-done t (omega arith) ∙ sym (table-at (λ u. sum (lengths lists) (suc u)) (2 * N) t (omega arith)))
+      row .ends-done t (omega arith) ∙ sym (table-at (λ u. sum (lengths lists) (suc u)) (2 * N) t (omega arith)))
       (λ t h. row .ends-rest t (omega arith))

@@ -124,7 +124,15 @@ fn cap_of(max: bool, p: &[u16], q: &[u16], i: usize, j: usize) -> usize
 }
 
 // What the pairs of the ranks i and j have in common. Their rank begins at the element `start`.
-pub fn block_of(min: bool, max: bool, p: &[u16], q: &[u16], start: usize, i: usize, j: usize) -> Block
+pub fn block_of(
+    min: bool,
+    max: bool,
+    p: &[u16],
+    q: &[u16],
+    start: usize,
+    i: usize,
+    j: usize,
+) -> Block
     requires { ⌜ (i + j ≤ 64) × (length (now p) ≤ 16) × (length (now q) ≤ 16) ⌝ }
     requires { ⌜ start ≡ bit min + pairsTo (now p) (now q) (i + j) ⌝ }
     requires { ⌜ start + pairsIn (now p) (now q) (i + j) i ≤ 65536 ⌝ }

@@ -77,7 +77,18 @@ pub fn build(
     sups::tally(&mut upq, q, qends, qinc, base);
     let ranks = put_counts(min, max, p, q, &mut *counts);
     let n = pairs::put_elements(
-        min, max, p, pends, pinc, q, qends, qinc, &upp, &upq, &mut *ends, &mut *inc,
+        min,
+        max,
+        p,
+        pends,
+        pinc,
+        q,
+        qends,
+        qinc,
+        &upp,
+        &upq,
+        &mut *ends,
+        &mut *inc,
     );
     sups::fill(&counts[..ranks], &ends[..2 * n], &mut *inc);
 }

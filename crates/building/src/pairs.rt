@@ -85,7 +85,19 @@ fn put_pair(
     let e = get_element_index(block, a, b);
     let loff = block.left + b;
     let roff = block.right + a * block.step;
-    put::put_element(&mut *ends, &mut *inc, e, at, block.low, left, loff, block.width, right, roff, sups)
+    put::put_element(
+        &mut *ends,
+        &mut *inc,
+        e,
+        at,
+        block.low,
+        left,
+        loff,
+        block.width,
+        right,
+        roff,
+        sups,
+    )
 }
 
 // The pairs of element a of rank i with all elements of rank j, from place `at` on. Returns the place after them.
@@ -124,7 +136,25 @@ fn put_row(
     let mut b: usize = 0;
     while b < n {
         to = put_pair(
-            min, max, p, pends, pinc, q, qends, qinc, upp, upq, &mut *ends, &mut *inc, block, left, i, a, j, b, to,
+            min,
+            max,
+            p,
+            pends,
+            pinc,
+            q,
+            qends,
+            qinc,
+            upp,
+            upq,
+            &mut *ends,
+            &mut *inc,
+            block,
+            left,
+            i,
+            a,
+            j,
+            b,
+            to,
         );
         b += 1;
     }
@@ -169,7 +199,25 @@ fn put_block(
     let mut to = at;
     let mut a: usize = 0;
     while a < n {
-        to = put_row(min, max, p, pends, pinc, q, qends, qinc, upp, upq, &mut *ends, &mut *inc, block, i, a, j, to);
+        to = put_row(
+            min,
+            max,
+            p,
+            pends,
+            pinc,
+            q,
+            qends,
+            qinc,
+            upp,
+            upq,
+            &mut *ends,
+            &mut *inc,
+            block,
+            i,
+            a,
+            j,
+            to,
+        );
         a += 1;
     }
     to
@@ -207,7 +255,22 @@ fn put_rank(
     let mut i: usize = 0;
     while i <= rank {
         to = put_block(
-            min, max, p, pends, pinc, q, qends, qinc, upp, upq, &mut *ends, &mut *inc, start, i, rank - i, to,
+            min,
+            max,
+            p,
+            pends,
+            pinc,
+            q,
+            qends,
+            qinc,
+            upp,
+            upq,
+            &mut *ends,
+            &mut *inc,
+            start,
+            i,
+            rank - i,
+            to,
         );
         i += 1;
     }
@@ -243,7 +306,23 @@ fn put_ranks(
     let mut to = at;
     let mut rank: usize = 0;
     while rank < ranks {
-        to = put_rank(min, max, p, pends, pinc, q, qends, qinc, upp, upq, &mut *ends, &mut *inc, start, rank, to);
+        to = put_rank(
+            min,
+            max,
+            p,
+            pends,
+            pinc,
+            q,
+            qends,
+            qinc,
+            upp,
+            upq,
+            &mut *ends,
+            &mut *inc,
+            start,
+            rank,
+            to,
+        );
         start += block::pairs_in(p, q, rank, rank + 1);
         rank += 1;
     }
@@ -274,7 +353,21 @@ pub fn put_elements(
 {
     let lowest = block::pairs_in(p, q, 0, 1);
     let at = put::put_min(&mut *ends, min, lowest);
-    let to = put_ranks(min, max, p, pends, pinc, q, qends, qinc, upp, upq, &mut *ends, &mut *inc, at);
+    let to = put_ranks(
+        min,
+        max,
+        p,
+        pends,
+        pinc,
+        q,
+        qends,
+        qinc,
+        upp,
+        upq,
+        &mut *ends,
+        &mut *inc,
+        at,
+    );
     let ranks = p.len() + q.len() - 1;
     let e = block::bit_of(min) + block::pairs_to(p, q, ranks);
     let highest = block::pairs_in(p, q, ranks - 1, ranks);

@@ -39,7 +39,15 @@ fn tally_list(up: &mut [u16], first: usize, n: usize, list: &[u16])
 }
 
 // Counts the entries of the subs of m elements, which begin at the place `here` of the lists.
-fn tally_rank(up: &mut [u16], first: usize, n: usize, ends: &[u16], inc: &[u16], here: usize, m: usize)
+fn tally_rank(
+    up: &mut [u16],
+    first: usize,
+    n: usize,
+    ends: &[u16],
+    inc: &[u16],
+    here: usize,
+    m: usize,
+)
     requires { ⌜ first + n ≤ length (now up) ⌝ }
     requires { ⌜ Ends (now ends) (now inc) ⌝ }
     requires { ⌜ 2 * (here + m) ≤ length (now ends) ⌝ }
@@ -51,7 +59,12 @@ fn tally_rank(up: &mut [u16], first: usize, n: usize, ends: &[u16], inc: &[u16],
 {
     let mut a: usize = 0;
     while a < m {
-        tally_list(&mut *up, first, n, inner::list_of(ends, inc, 2 * (here + a)));
+        tally_list(
+            &mut *up,
+            first,
+            n,
+            inner::list_of(ends, inc, 2 * (here + a)),
+        );
         a += 1;
     }
 }
@@ -96,7 +109,15 @@ fn fill_entry(inc: &mut [u16], next: &mut [u16], first: usize, n: usize, x: usiz
 }
 
 // Writes k at the cursor of each entry of the list from place `from` up to place `to`.
-fn fill_element(inc: &mut [u16], next: &mut [u16], first: usize, n: usize, from: usize, to: usize, k: usize)
+fn fill_element(
+    inc: &mut [u16],
+    next: &mut [u16],
+    first: usize,
+    n: usize,
+    from: usize,
+    to: usize,
+    k: usize,
+)
     requires { ⌜ (first + n ≤ length (now next)) × (k < 65536) ⌝ }
     requires { ⌜ (from ≤ to) × (to ≤ length (now inc)) × (to < 65536) ⌝ }
     requires { ⌜ Apart first n (λ x. occurs x (between (now inc) from to)) from (now next) ⌝ }
@@ -115,7 +136,15 @@ fn fill_element(inc: &mut [u16], next: &mut [u16], first: usize, n: usize, from:
 
 // Fills in the sups of n elements, whose cursors stand from place `first` on, from the subs of the m elements over them,
 // which begin at the place `here` of the lists.
-fn fill_rank(ends: &[u16], inc: &mut [u16], next: &mut [u16], first: usize, n: usize, here: usize, m: usize)
+fn fill_rank(
+    ends: &[u16],
+    inc: &mut [u16],
+    next: &mut [u16],
+    first: usize,
+    n: usize,
+    here: usize,
+    m: usize,
+)
     requires { ⌜ (first + n ≤ length (now next)) × (m < 65536) ⌝ }
     requires { ⌜ Ends (now ends) (now inc) ⌝ }
     requires { ⌜ 2 * (here + m) ≤ length (now ends) ⌝ }

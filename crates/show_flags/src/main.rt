@@ -15,10 +15,15 @@ fn numbers(list: &[u16]) {
     }
 }
 
+// A byte as a wider number.
+fn wide(b: u8) -> u16 {
+    b as u16
+}
+
 // The bytes of a slice.
 fn bytes(list: &[u8]) {
     for i in 0..list.len() {
-        number(list[i] as u16);
+        number(wide(list[i]));
     }
 }
 
@@ -36,26 +41,62 @@ fn answer(name: &[u8], s: Searched) {
     io::write_all(STDOUT_FILENO, b"\n");
 }
 
-// A search, with a table for flags of at most 48 numbers in all, shown whole.
-fn small(
-    name: &[u8],
-    counts: &[u16],
-    ends: &[u16],
-    inc: &[u16],
-    first: &[u16],
-    mask: u16,
-    room: usize,
-) {
-    let mut table = [999u16; 24];
-    let mut odd = [9u8; 8];
-    let n = if room <= 8 { room } else { 8 };
-    let s = search::search(counts, ends, inc, first, mask, &mut table, &mut odd[..n]);
+// What a search of the triangle answered and left in its two slices.
+fn shown(name: &[u8], s: Searched, table: &[u16], odd: &[u8]) {
     answer(name, s);
     io::write_all(STDOUT_FILENO, b"  table");
-    numbers(&table);
+    numbers(table);
     io::write_all(STDOUT_FILENO, b"\n  orientations");
-    bytes(&odd);
+    bytes(odd);
     io::write_all(STDOUT_FILENO, b"\n");
+}
+
+// The triangle, with room for six flags and more.
+fn room_for_all(name: &[u8], mask: u16) {
+    let mut table = [999u16; 26];
+    let mut odd = [9u8; 8];
+    let s = search::search(
+        &cells::triangle::COUNTS,
+        &cells::triangle::ENDS,
+        &cells::triangle::INC,
+        &[0, 0, 0, 0],
+        mask,
+        &mut table,
+        &mut odd,
+    );
+    shown(name, s, &table, &odd);
+}
+
+// The triangle, with room for five flags and three numbers more.
+fn room_for_five(name: &[u8], mask: u16) {
+    let mut table = [999u16; 23];
+    let mut odd = [9u8; 8];
+    let s = search::search(
+        &cells::triangle::COUNTS,
+        &cells::triangle::ENDS,
+        &cells::triangle::INC,
+        &[0, 0, 0, 0],
+        mask,
+        &mut table,
+        &mut odd,
+    );
+    shown(name, s, &table, &odd);
+}
+
+// The triangle, with room for no flag.
+fn no_room(name: &[u8], mask: u16) {
+    let mut table = [999u16; 3];
+    let mut odd = [9u8; 8];
+    let s = search::search(
+        &cells::triangle::COUNTS,
+        &cells::triangle::ENDS,
+        &cells::triangle::INC,
+        &[0, 0, 0, 0],
+        mask,
+        &mut table,
+        &mut odd,
+    );
+    shown(name, s, &table, &odd);
 }
 
 // A search, with room for all.
@@ -89,28 +130,12 @@ fn triangle() {
     change(b"triangle, change at 2", &c, &e, &i, &[0, 0, 0, 0], 2);
     change(b"triangle, change at 3", &c, &e, &i, &[0, 0, 0, 0], 3);
     change(b"triangle, no flag", &c, &e, &i, &[0, 2, 0, 0], 1);
-    small(b"triangle, mask 6", &c, &e, &i, &[0, 0, 0, 0], 6, 8);
-    small(
-        b"triangle, mask 6, room for five",
-        &c,
-        &e,
-        &i,
-        &[0, 0, 0, 0],
-        6,
-        5,
-    );
-    small(
-        b"triangle, mask 6, no room",
-        &c,
-        &e,
-        &i,
-        &[0, 0, 0, 0],
-        6,
-        0,
-    );
-    small(b"triangle, mask 2", &c, &e, &i, &[0, 0, 0, 0], 2, 8);
-    small(b"triangle, mask 0", &c, &e, &i, &[0, 0, 0, 0], 0, 8);
-    small(b"triangle, mask 8", &c, &e, &i, &[0, 0, 0, 0], 8, 8);
+    room_for_all(b"triangle, mask 6", 6);
+    room_for_five(b"triangle, mask 6, room for five", 6);
+    no_room(b"triangle, mask 6, no room", 6);
+    room_for_all(b"triangle, mask 2", 2);
+    room_for_all(b"triangle, mask 0", 0);
+    room_for_all(b"triangle, mask 8", 8);
 }
 
 // Cells that show themselves not orientable, and the largest search.

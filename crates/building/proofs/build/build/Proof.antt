@@ -51,8 +51,7 @@ slice-aggregate-tally c = search needs
 tally-requires : tie.Need-tally-requires
 tally-requires c κs = let s = c .before .before .before .before .before .before .before .before .before .before .before in
     let e = c .before .bit-of .ensures in
-    let g = sound s in
-    (
+    let g = sound s in (
       omega (arith, g .ranks-P, bit-le (s .args .min)),
       (g .lists-P, (omega (arith, g .ends-P), (g .few-P, zeros 4096))),
     )
@@ -65,8 +64,7 @@ slice-aggregate-tally-2 c = search needs
 tally-requires-2 : tie.Need-tally-requires-2
 tally-requires-2 c κs = let s = c .before .before .before .before .before .before .before .before .before .before .before .before .before .before in
     let e = c .before .before .before .before .bit-of .ensures in
-    let g = sound s in
-    (
+    let g = sound s in (
       omega (arith, g .ranks-Q, bit-le (s .args .min)),
       (g .lists-Q, (omega (arith, g .ends-Q), (g .few-Q, zeros 4096))),
     )

@@ -67,11 +67,10 @@ loop-less c = search needs
 loop-again : tie.Need-loop-again Inv-loop μ-loop
 loop-again c = let a = c .before .before .before .before .before .before .args in
     let l = c .before .before .loop .inv .1 in
-    let e : c .before .before .loop .k + 1 ≡ suc (c .before .before .loop .k) = omega arith in
-    (
+    let e : c .before .before .loop .k + 1 ≡ suc (c .before .before .loop .k) = omega arith in (
       omega arith,
       laid-next _ _ _ _ _ _ l (omega (arith, c .before .before .before .before .before .before .pre))
-      (c .pairs-in .ensures ∙ ap (pairsIn (a .p .now) (a .q .now) (c .before .before .loop .k)) e),
+          (c .pairs-in .ensures ∙ ap (pairsIn (a .p .now) (a .q .now) (c .before .before .loop .k)) e),
     )
 
 -- src/build.rt:26:5

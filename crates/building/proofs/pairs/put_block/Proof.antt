@@ -62,8 +62,7 @@ loop-holds c = let s = c .before .before .before .before .before .before .before
 -- src/pairs.rt:171:9
 put-row-requires : tie.Need-put-row-requires Inv-loop μ-loop
 put-row-requires c κs = let s = c .before .before .before .before .before .before .before .before .before .before .before .before .before .before .before .before .before .before .before in
-    let v = c .before .before .before .loop .inv in
-    (
+    let v = c .before .before .before .loop .inv in (
       plan-room (s .pre .0) _ _ (v .2 .ends-length) (v .2 .inc-length),
       (c .before .before .before .before .before .before .before .before .block-of .ensures, (omega (arith, v .1), v .2 .place)),
     )

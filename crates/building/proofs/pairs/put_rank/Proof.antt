@@ -29,8 +29,7 @@ loop-holds c = let s = c .before .before .before .before .before .before .before
 put-block-requires : tie.Need-put-block-requires Inv-loop μ-loop
 put-block-requires c κs = let s = c .before .before .before .before .before .before .before .before .before .before .before .before .before .before in
     let v = c .before .before .before .loop .inv in
-    let e : c .before .before .before .loop .i + (s .args .rank - c .before .before .before .loop .i) ≡ s .args .rank = omega arith in
-    (
+    let e : c .before .before .before .loop .i + (s .args .rank - c .before .before .before .loop .i) ≡ s .args .rank = omega arith in (
       plan-room (s .pre .0) _ _ (v .1 .ends-length) (v .1 .inc-length),
       (omega (arith, s .pre .1 .0), (rw e (s .pre .1 .1 .0), rw e (v .1 .place))),
     )

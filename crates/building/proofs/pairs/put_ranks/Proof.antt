@@ -50,8 +50,7 @@ loop-holds c = let s = c .before .before .before .before .before .before .before
 -- src/pairs.rt:245:9
 put-rank-requires : tie.Need-put-rank-requires Inv-loop μ-loop
 put-rank-requires c κs = let s = c .before .before .before .before .before .before .before .before .before .before .before .before .before .before .before in
-    let v = c .before .before .before .loop .inv in
-    (
+    let v = c .before .before .before .loop .inv in (
       plan-room (s .pre .0) _ _ (v .2 .ends-length) (v .2 .inc-length),
       (omega arith, (v .1, v .2 .place)),
     )
@@ -83,8 +82,7 @@ loop-less c = search needs
 -- src/pairs.rt:244:5
 loop-again : tie.Need-loop-again Inv-loop μ-loop
 loop-again c = let s = c .before .before .before .before .before .before .before .before .before .before .before .before .before .before .before .before .before .before .before .before .before .args in
-    let v = c .before .before .before .before .before .before .before .before .before .loop .inv in
-    (
+    let v = c .before .before .before .before .before .before .before .before .before .loop .inv in (
       omega arith,
       omega (arith, v .1, c .pairs-in .ensures, pairs-next (s .p .now) (s .q .now) (c .before .before .before .before .before .before .before .before .before .loop .rank)),
       put-then _ _ _ _ _ _ _ _ _ _ _ _ (v .2) (c .before .before .before .before .before .put-rank .ensures),

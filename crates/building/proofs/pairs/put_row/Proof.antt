@@ -54,8 +54,7 @@ loop-holds c = let s = c .before .before .before .before .before .before .before
 -- src/pairs.rt:126:9
 put-pair-requires : tie.Need-put-pair-requires Inv-loop μ-loop
 put-pair-requires c κs = let s = c .before .before .before .before .before .before .before .before .before .before .before .before .before .before .before .before in
-    let v = c .before .before .before .loop .inv in
-    (
+    let v = c .before .before .before .loop .inv in (
       plan-room (s .pre .0) _ _ (v .2 .ends-length) (v .2 .inc-length),
       (
         s .pre .1 .0,
@@ -63,7 +62,7 @@ put-pair-requires c κs = let s = c .before .before .before .before .before .bef
           (s .pre .1 .1 .0, omega (arith, v .1)),
           (
             left-used _ _ (P s) (Q s) _ _ _ _ (s .pre .0) _ _ _ _ (s .pre .1 .0) refl (s .pre .1 .1 .0) _
-            (c .before .before .before .before .used-subs .ensures),
+                (c .before .before .before .before .used-subs .ensures),
             v .2 .place,
           ),
         ),

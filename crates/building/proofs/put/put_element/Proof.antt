@@ -99,15 +99,14 @@ same-length-2 c = search needs
 
 -- src/put.rt:56:1
 returns : tie.Need-returns
-returns c = let w = written c in
-    (
-      omega arith,
-      (
-        subs-laid _ _ _ _ _ _ _ _ _ _ _ _ _ (c .before .before .before .before .before .before .before .before .before .before .put-if .ensures .0) (c .before .before .before .before .before .before .put-scaled .ensures .0)
+returns c = let w = written c in (
+  omega arith,
+  (
+    subs-laid _ _ _ _ _ _ _ _ _ _ _ _ _ (c .before .before .before .before .before .before .before .before .before .before .put-if .ensures .0) (c .before .before .before .before .before .before .put-scaled .ensures .0)
         (c .before .before .before .before .before .before .before .before .before .before .put-if .ensures .1) (c .before .before .before .before .before .before .put-scaled .ensures .1) (c .before .before .put-scaled2 .ensures .1),
-        rw w,
-      ),
-    )
+    rw w,
+  ),
+)
 
 pub put-element-spec : {M : Type 1} → statement M
 put-element-spec =

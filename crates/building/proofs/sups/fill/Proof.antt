@@ -32,8 +32,7 @@ slice-aggregate-fill-ranks c = search needs
 fill-ranks-requires : tie.Need-fill-ranks-requires
 fill-ranks-requires c κs = let s = c .before .before .before .before .before .before .before .before .before in
     let l = c .before .before .before .set-cursors .ensures in
-    let n = c .before .before .before .before .before .elements-before .ensures in
-    (
+    let n = c .before .before .before .before .before .elements-before .ensures in (
       s .pre,
       (
         omega (arith, l .same-length, s .pre .few),

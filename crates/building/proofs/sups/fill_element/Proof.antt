@@ -43,8 +43,7 @@ entry c =
 loop-holds : tie.Need-loop-holds Inv-loop μ-loop
 loop-holds c = let s = c .before .before in
     let e : s .args .from - s .args .from ≡ 0 = omega arith in
-    rw e
-    (
+    rw e (
       omega arith,
       omega (arith, s .pre .1 .0),
       raised-none _ _ _ _ (λ x h. occurs-nil x),
@@ -69,8 +68,7 @@ fill-entry-requires c κs = let s = c .before .before .before .before .before .b
     let v = c .before .before .before .before .before .loop .inv in
     let m = entry (c .before .before) in
     let b = s .pre .1 .0 in
-    let r = element-room _ _ _ _ _ _ _ _ _ _ (inside (c .before .before)) (s .pre .1 .1) (v .3) (v .2) _ m in
-    (
+    let r = element-room _ _ _ _ _ _ _ _ _ _ (inside (c .before .before)) (s .pre .1 .1) (v .3) (v .2) _ m in (
       (omega (arith, v .2 .same-length, s .pre .0), s .pre .0 .1),
       (λ h. omega (arith, r h, v .3 .same-length), λ h. omega (arith, r h)),
     )
@@ -89,8 +87,7 @@ loop-again c = let s = c .before .before .before .before .before .before .before
     let v = c .before .before .before .before .before .before .before .before .before .before .loop .inv in
     let w = c .before .before .before .before .fill-entry .ensures in
     let m = entry (c .before .before .before .before .before .before .before) in
-    let i = inside (c .before .before .before .before .before .before .before) in
-    (
+    let i = inside (c .before .before .before .before .before .before .before) in (
       omega arith,
       omega arith,
       element-raised _ _ _ _ _ _ _ _ _ _ i (s .pre .1 .1) (v .3) (v .2) _ _ _ m (w .0) (w .1),
@@ -112,7 +109,7 @@ returns c = let a = c .before .before .before .before .args in
     let e : c .before .loop .t ≡ a .to = omega arith in
     let l = between (a .inc .now) (a .from) (a .to) in
     let f : take (c .before .loop .t - a .from) l ≡ l =
-        rw e (take-all (a .to - a .from) l (omega (arith, length-take (a .to - a .from) (drop (a .from) (a .inc .now))))) in
+    rw e (take-all (a .to - a .from) l (omega (arith, length-take (a .to - a .from) (drop (a .from) (a .inc .now))))) in
     (rw f at (v .2), rw f at (v .3))
 
 pub fill-element-spec : {M : Type 1} → statement M

@@ -70,8 +70,7 @@ same-length-2 c = search needs
 -- src/sups.rt:82:1
 returns : tie.Need-returns
 returns c = let s = c .before .before .before .before .before in
-    rw (c .wide .ensures .0)
-    (
+    rw (c .wide .ensures .0) (
       raised-one _ _ _ _ (c .before .before .if1 .taken) (s .pre .0 .0),
       strewn-one _ _ _ _ (s .args .next .now) _ (c .before .before .if1 .taken) (s .pre .1 .0 (c .before .before .if1 .taken)),
     )

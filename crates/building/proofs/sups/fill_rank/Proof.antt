@@ -61,8 +61,7 @@ fill-element-requires c κs = let s = c .before .before .before .before .before 
     let h : e < length (s .args .ends .now) = omega (arith, s .pre .1 .1 .0) in
     let b = rank-apart _ _ _ _ _ _ _ _ _ _ g (s .pre .1 .1 .0) (c .before .before .before .before .before .loop-test .taken) (s .pre .1 .1 .1) (v .2) (v .1) in
     let p = c .before .before .before .before .start-of .ensures in
-    let q = c .before .before .wide .ensures in
-    (
+    let q = c .before .before .wide .ensures in (
       omega (arith, v .1 .same-length, s .pre .0),
       (omega (arith, g .rising e h, g .inside e h, v .2 .same-length), rw (p, q .0) b),
     )
@@ -84,8 +83,7 @@ loop-again c = let s = c .before .before .before .before .before .before .before
     let q = c .before .before .before .before .before .before .before .wide .ensures .0 in
     let r = rw (p, q) at (w .0) in
     let t = rw (p, q) at (w .1) in
-    let i = c .before .before .before .before .before .before .before .before .before .before .loop-test .taken in
-    (
+    let i = c .before .before .before .before .before .before .before .before .before .before .loop-test .taken in (
       omega arith,
       rank-raised _ _ _ _ _ _ _ _ _ _ (s .pre .1 .0) (s .pre .1 .1 .0) i (s .pre .1 .1 .1) (v .2) (v .1) _ _ r t,
       rank-strewn _ _ _ _ _ _ _ _ _ _ (s .pre .1 .0) (s .pre .1 .1 .0) i (s .pre .1 .1 .1) (v .2) (v .1) _ _ r t,

@@ -39,14 +39,13 @@ places c =
 
 -- src/sups.rt:164:5
 loop-holds : tie.Need-loop-holds Inv-loop μ-loop
-loop-holds c = let s = c .before .before .before .before in
-    (
-      s .pre .0 .ranks .0,
-      sym (before-zero (s .args .counts .now)),
-      refl,
-      λ e h l. s .pre .1 .1 e l,
-      filled-none _ _ _ (s .pre .0),
-    )
+loop-holds c = let s = c .before .before .before .before in (
+  s .pre .0 .ranks .0,
+  sym (before-zero (s .args .counts .now)),
+  refl,
+  λ e h l. s .pre .1 .1 e l,
+  filled-none _ _ _ (s .pre .0),
+)
 
 -- src/sups.rt:164:11
 add-loop : tie.Need-add-loop Inv-loop μ-loop
@@ -88,8 +87,7 @@ add-fill-rank c = let p = places c in omega (arith, c .before .before .before .b
 fill-rank-requires : tie.Need-fill-rank-requires Inv-loop μ-loop
 fill-rank-requires c κs = let s = c .before .before .before .before .before .before .before .before .before .before .before .before in
     let p = places c in
-    let v = c .before .before .before .before .before .before .before .loop .inv in
-    (
+    let v = c .before .before .before .before .before .before .before .loop .inv in (
       omega (arith, v .2, s .pre .1 .0, c .before .before .wide2 .ensures .1),
       (
         lists-stay _ _ _ (s .pre .0) _ _ (v .4),
@@ -117,8 +115,7 @@ loop-again : tie.Need-loop-again Inv-loop μ-loop
 loop-again c = let s = c .before .before .before .before .before .before .before .before .before .before .before .before .before .before .before .before .before in
     let p = places (c .before .before .before .before .before) in
     let v = c .before .before .before .before .before .before .before .before .before .before .before .before .loop .inv in
-    let w = c .before .before .before .before .fill-rank .ensures in
-    (
+    let w = c .before .before .before .before .fill-rank .ensures in (
       c .before .before .before .before .before .before .before .before .before .before .before .loop-test .taken,
       p .0,
       w .0 .same-length ∙ v .2,

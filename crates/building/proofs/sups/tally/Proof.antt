@@ -90,8 +90,7 @@ add-tally-rank-2 c = let p = places c in omega (arith, c .before .before .before
 tally-rank-requires : tie.Need-tally-rank-requires Inv-loop μ-loop
 tally-rank-requires c κs = let s = c .before .before .before .before .before .before .before .before .before .before .before in
     let p = places c in
-    let v = c .before .before .before .before .before .before .loop .inv in
-    (
+    let v = c .before .before .before .before .before .before .loop .inv in (
       omega (arith, v .2, s .pre .1 .1 .1 .0),
       (s .pre .1 .0, (omega (arith, s .pre .1 .1 .0), rw (p .0) (v .3 .few))),
     )
@@ -113,8 +112,7 @@ loop-again : tie.Need-loop-again Inv-loop μ-loop
 loop-again c = let s = c .before .before .before .before .before .before .before .before .before .before .before .before .before .before in
     let p = places (c .before .before .before) in
     let v = c .before .before .before .before .before .before .before .before .before .loop .inv in
-    let w = c .before .before .tally-rank .ensures in
-    (
+    let w = c .before .before .tally-rank .ensures in (
       c .before .before .before .before .before .before .before .before .loop-test .taken,
       omega (arith, p .0),
       w .0 .same-length ∙ v .2,

@@ -53,11 +53,10 @@ loop-less c = search needs
 -- src/sups.rt:32:5
 loop-again : tie.Need-loop-again Inv-loop μ-loop
 loop-again c = let v = c .before .before .before .before .before .before .before .loop .inv in
-    let l = c .before .before .before .before .before .before .before .before .before .before .args .list .now in
-    (
+    let l = c .before .before .before .before .before .before .before .before .before .before .args .list .now in (
       omega arith,
       raised-then _ _ _ _ _ _ _ _ (v .1) (c .before .before .tally-entry .ensures)
-      (λ y. rw (c .before .before .before .wide .ensures .0) (occurs-take y l (c .before .before .before .before .before .before .before .loop .t) (c .before .before .before .before .before .before .loop-test .taken))),
+          (λ y. rw (c .before .before .before .wide .ensures .0) (occurs-take y l (c .before .before .before .before .before .before .before .loop .t) (c .before .before .before .before .before .before .loop-test .taken))),
     )
 
 -- src/sups.rt:26:1

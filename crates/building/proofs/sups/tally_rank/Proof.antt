@@ -45,11 +45,10 @@ list-of-requires c κs = let s = c .before .before .before .before .before .befo
 tally-list-requires : tie.Need-tally-list-requires Inv-loop μ-loop
 tally-list-requires c κs = let s = c .before .before .before .before .before .before .before in
     let v = c .before .before .before .loop .inv in
-    let e = s .args .here + c .before .before .before .loop .a in
-    (
+    let e = s .args .here + c .before .before .before .loop .a in (
       omega (arith, v .1 .same-length, s .pre .0),
       rank-few _ _ (s .pre .1 .0) e (omega (arith, s .pre .1 .1 .0)) (c .before .before .before .loop .up) (v .2) _ (c .list-of .ensures)
-      (omega (arith, c .before .before .before .before .before .shared-slice-known .given (2 * e))),
+          (omega (arith, c .before .before .before .before .before .shared-slice-known .given (2 * e))),
     )
 
 -- src/sups.rt:52:9
@@ -65,13 +64,12 @@ loop-again : tie.Need-loop-again Inv-loop μ-loop
 loop-again c = let s = c .before .before .before .before .before .before .before .before .before .before in
     let v = c .before .before .before .before .before .before .loop .inv in
     let e = s .args .here + c .before .before .before .before .before .before .loop .a in
-    let z : s .args .here + (c .before .before .before .before .before .before .loop .a + 1) ≡ e + 1 = omega arith in
-    (
+    let z : s .args .here + (c .before .before .before .before .before .before .loop .a + 1) ≡ e + 1 = omega arith in (
       omega arith,
       rank-next _ _ (s .pre .1 .0) _ _ _ _ _ _ _ _ (v .1) (c .before .before .tally-list .ensures) (c .before .before .before .list-of .ensures),
       rw z
-      (rank-most _ _ (s .pre .1 .0) e (omega (arith, s .pre .1 .1 .0)) (c .before .before .before .before .before .before .loop .up) (v .2) _ (c .before .before .before .list-of .ensures)
-      _ _ _ (c .before .before .tally-list .ensures)),
+          (rank-most _ _ (s .pre .1 .0) e (omega (arith, s .pre .1 .1 .0)) (c .before .before .before .before .before .before .loop .up) (v .2) _ (c .before .before .before .list-of .ensures)
+          _ _ _ (c .before .before .tally-list .ensures)),
     )
 
 -- src/sups.rt:39:1
