@@ -47,7 +47,7 @@ room-here : (c : tie.After-room-of) → c .room-of .result
     ≡ roomOf limits (L (c .before .before .before .before .before .before .before .before .before .before .before .before)) (length (c .before .before .before .before .before .before .before .before .before .before .before .before .args .table .now)) (length (c .before .before .before .before .before .before .before .before .before .before .before .before .args .bytes .now))
 room-here c =
     c .room-of .ensures
-    ∙ room-is (L (c .before .before .before .before .before .before .before .before .before .before .before .before)) (length (c .before .before .before .before .before .before .before .before .before .before .before .before .args .table .now)) (length (c .before .before .before .before .before .before .before .before .before .before .before .before .args .bytes .now))
+    ∙ room-is limits (L (c .before .before .before .before .before .before .before .before .before .before .before .before)) (length (c .before .before .before .before .before .before .before .before .before .before .before .before .args .table .now)) (length (c .before .before .before .before .before .before .before .before .before .before .before .before .args .bytes .now))
     (started (c .before .before .before) .0 .shaped .some-rank)
 
 room-held : (c : tie.After-room-of) → let s = c .before .before .before .before .before .before .before .before .before .before .before .before in
@@ -55,7 +55,7 @@ room-held : (c : tie.After-room-of) → let s = c .before .before .before .befor
     × (c .room-of .result ≤ length (s .args .bytes .now)) × (c .room-of .result ≤ limits .flags)
 room-held c =
     let s = c .before .before .before .before .before .before .before .before .before .before .before .before in
-    room-fits (length (s .args .table .now)) (length (s .args .bytes .now)) (length (s .args .counts .now)) _
+    room-fits limits (length (s .args .table .now)) (length (s .args .bytes .now)) (length (s .args .counts .now)) _
     (c .room-of .ensures)
 
 -- the search has come to its end
@@ -84,7 +84,7 @@ refused-requires c κs = search needs
 -- src/lib.rt:49:9
 returns : tie.Need-returns
 returns c = let s = c .before .before .before .before .before .before .before .before .before .before in
-    let o = outcome-start (L s) (s .args .first .now) (s .args .mask) (s .args .table .now) (s .args .bytes .now) (c .before .before .before .check-flag .result) (c .before .before .before .check-flag .ensures) (c .before .if1 .taken) in
+    let o = outcome-start limits (L s) (s .args .first .now) (s .args .mask) (s .args .table .now) (s .args .bytes .now) (c .before .before .before .check-flag .result) (c .before .before .before .check-flag .ensures) (c .before .if1 .taken) in
     (c .refused .ensures ∙ o .answer, (o .flags, o .turns))
 
 -- src/lib.rt:52:26
@@ -106,7 +106,7 @@ refused-requires-2 c κs = search needs
 -- src/lib.rt:53:9
 returns-2 : tie.Need-returns-2
 returns-2 c = let s = c .before .before .before .before .before .before .before .before .before .before .before .before .before in
-    let o = outcome-mask (L s) (s .args .first .now) (s .args .mask) (s .args .table .now) (s .args .bytes .now) (start-fine (c .before .before .before .before)) (sym (c .before .before .before .fits2 .ensures) ∙ not-true _ (c .before .before .if2 .taken)) in
+    let o = outcome-mask limits (L s) (s .args .first .now) (s .args .mask) (s .args .table .now) (s .args .bytes .now) (start-fine (c .before .before .before .before)) (sym (c .before .before .before .fits2 .ensures) ∙ not-true _ (c .before .before .if2 .taken)) in
     (c .refused2 .ensures ∙ ap refusedAs (c .before .plain .ensures) ∙ o .answer, (o .flags, o .turns))
 
 -- src/lib.rt:55:9
@@ -137,7 +137,7 @@ same-length-2 c = search needs
 -- src/lib.rt:58:9
 returns-3 : tie.Need-returns-3
 returns-3 c = let s = c .before .before .before .before .before .before .before .before .before .before .before .before .before .before .before .before .before .before .before .before .before .before in
-    let o = outcome-over (L s) (s .args .first .now) (s .args .mask) (s .args .table .now) (s .args .bytes .now) (start-fine (c .before .before .before .before .before .before .before .before .before .before .before .before .before)) (mask-fine (c .before .before .before .before .before .before .before .before .before .before .before)) (ended (c .before .before .before .before .before .before .before)) (within (c .before .before .before .before .before .before .before)) (c .before .before .if3 .taken) in
+    let o = outcome-over limits (L s) (s .args .first .now) (s .args .mask) (s .args .table .now) (s .args .bytes .now) (start-fine (c .before .before .before .before .before .before .before .before .before .before .before .before .before)) (mask-fine (c .before .before .before .before .before .before .before .before .before .before .before)) (ended (c .before .before .before .before .before .before .before)) (within (c .before .before .before .before .before .before .before)) (c .before .before .if3 .taken) in
     (c .refused3 .ensures ∙ ap refusedAs (c .before .plain2 .ensures) ∙ o .answer, (o .flags, o .turns))
 
 -- src/lib.rt:60:5
@@ -155,7 +155,7 @@ same-length-4 c = search needs
 -- src/lib.rt:29:1
 returns-4 : tie.Need-returns-4
 returns-4 c = let s = c .before .before .before .before .before .before .before .before .before .before .before .before .before .before .before .before .before .before .before .before .before in
-    let o = outcome-found (L s) (s .args .first .now) (s .args .mask) (s .args .table .now) (s .args .bytes .now) (start-fine (c .before .before .before .before .before .before .before .before .before .before .before .before)) (mask-fine (c .before .before .before .before .before .before .before .before .before .before)) (ended (c .before .before .before .before .before .before)) (within (c .before .before .before .before .before .before)) (c .before .if3 .left) in
+    let o = outcome-found limits (L s) (s .args .first .now) (s .args .mask) (s .args .table .now) (s .args .bytes .now) (start-fine (c .before .before .before .before .before .before .before .before .before .before .before .before)) (mask-fine (c .before .before .before .before .before .before .before .before .before .before)) (ended (c .before .before .before .before .before .before)) (within (c .before .before .before .before .before .before)) (c .before .if3 .left) in
     (c .found .ensures ∙ o .answer, (o .flags, o .turns))
 
 pub search-spec : {M : Type 1} → statement M
