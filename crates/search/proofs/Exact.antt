@@ -4,7 +4,7 @@ use mathlib.Core.Path.{_≡_, refl, sym, ap, _∙_}
 use mathlib.Core.Bool.{Bool, true, false, true≢false, cond}
 use mathlib.Core.Logic.{_≢_, _↔_, _⊎_, inl, inr}
 use mathlib.Core.List.{List, [], _∷_, _++_, List·Memᴰ}
-use Prim.Native.Nat.{ℕ, zero, suc, _+_, _-_, _*_, _≤_, _<_}
+use Prim.Native.Nat.{ℕ, zero, suc, _+_, _-_, _≤_, _<_}
 use native.Mathlib.Decide.{ℕ-discrete}
 use native.Mathlib.Omega.{arith}
 use borrow.Author.Tests.{ne-eqb}
@@ -17,14 +17,14 @@ use Rattle.listing.specs.Answers.{plain, fine}
 use Rattle.listing.specs.Listing.{Listing, Limits, rank}
 use Rattle.flag.specs.Flags.{IsFlag, startTest}
 use Rattle.flag.proofs.ChangeAnswers.{start-exact}
-use Rattle.searching.specs.Search.{State, search, Neighbour, More, Kept, Colouring}
+use Rattle.searching.specs.Search.{State, Neighbour, More, Kept, Colouring}
 use Rattle.searching.proofs.Once.{in-at}
 use Rattle.searching.proofs.Lookup.{index-only}
 use Rattle.searching.proofs.Run.{search-full}
 use Rattle.searching.proofs.Grown.{start-even, start-first}
 use Rattle.searching.proofs.Kept.{search-kept}
 use Rattle.searching.proofs.Found.{found-exact, found-count, over-exact, over-full}
-use Rattle.searching.proofs.Orientation.{bytes-flip, place-exact, place-some}
+use Rattle.searching.proofs.Orientation.{bytes-flip, place-exact}
 use Rattle.searching.proofs.Prefix.{prefix}
 use Rattle.search.specs.declared.Searched.{Searched}
 use Rattle.search.specs.Masks.{maskFits}
@@ -98,7 +98,8 @@ module _ {m : Limits} {L : Listing} {first : List ℕ} {mask : ℕ} (T : Taken m
     some-room = go (ℕ-discrete room 0)
       where
         go : Dec (room ≡ 0) → 0 < room
-        go (yes z) = absurd (true≢false (ap (λ s. s .over) (sym (search-full sameList room (neighbours L mask) first z)) ∙ o))
+        go (yes z) =
+            absurd (true≢false (ap (λ s. s .over) (sym (search-full sameList room (neighbours L mask) first z)) ∙ o))
         go (no z) = omega arith
 
     all-found : (f : List ℕ) → Reach (Leads L mask) first f → List·Memᴰ f (S .found)
@@ -131,7 +132,8 @@ module _ {m : Limits} {L : Listing} {first : List ℕ} {mask : ℕ} (T : Taken m
     turned z j k h i l =
         let y = getD (S .found) k [] in
         let n = of-leads T _ y (flag-found _ (in-at (S .found) [] j h) .0) l in
-        let b = bytes-flip sameList same-decides room (neighbours L mask) first o z j h y (rw (at-any (S .found) [] first j h) at n) in
+        let b = bytes-flip sameList same-decides room (neighbours L mask) first o z j h y
+        (rw (at-any (S .found) [] first j h) at n) in
         let x = index-only sameList same-decides (S .found) [] y k (kept .once) i (same-decides y y .1 refl) in
         rw x at b
 
@@ -150,8 +152,10 @@ module _ {m : Limits} {L : Listing} {first : List ℕ} {mask : ℕ} (T : Taken m
         rw (start-even sameList room (neighbours L mask) first some-room .1) refl,
       );
       exchanged = λ e j k h i l.
-          rw (List·getD-append (S .bytes) rest 0 k (omega (arith, kept .paired)),
-          List·getD-append (S .bytes) rest 0 j (omega (arith, kept .paired)))
+          rw (
+            List·getD-append (S .bytes) rest 0 k (omega (arith, kept .paired)),
+            List·getD-append (S .bytes) rest 0 j (omega (arith, kept .paired)),
+          )
           (turned (orient-one (S .place) .0 e) j k h i l);
     }
 
@@ -276,7 +280,7 @@ module _ (m : Limits) (L : Listing) (first : List ℕ) (mask : ℕ) (table bytes
       let n = fine-number T o in
       let other : number m L first mask table bytes ≢ 22 = λ e. omega arith in
       let few : ¬ More (suc (room m L first mask table bytes)) (Leads L mask) first =
-          λ q. true≢false (sym (over-more T .1 q) ∙ o) in
+      λ q. true≢false (sym (over-more T .1 q) ∙ o) in
       record {
         answered = (λ e. (T, few), λ p. n);
         full = (λ e. absurd (other e), λ p. absurd (few (p .1)));

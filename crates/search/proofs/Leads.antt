@@ -1,12 +1,11 @@
 -- The neighbours of a flag are the flags that a change leads to, so that the same is reachable, counted and coloured.
 -- Assumes nothing.
-use mathlib.Core.Path.{_≡_, refl, sym}
+use mathlib.Core.Path.{_≡_}
 use mathlib.Core.Logic.{_↔_}
-use mathlib.Core.List.{List, List·Memᴰ, Memᴰ·map, Memᴰ·of-map, Memᴰ·cast}
+use mathlib.Core.List.{List, Memᴰ·map, Memᴰ·of-map, Memᴰ·cast}
 use Prim.Native.Nat.{ℕ, _<_}
-use Rattle.order.specs.Lists.{In}
 use Rattle.order.specs.Flags.{Reach, start, next}
-use Rattle.listing.specs.Listing.{Listing, Limits, rank}
+use Rattle.listing.specs.Listing.{Listing, Limits}
 use Rattle.flag.specs.Flags.{IsFlag}
 use Rattle.flag.specs.Change.{changeAt, Changes}
 use Rattle.flag.proofs.Changes.{changes}

@@ -1,16 +1,16 @@
 -- What a search answers and writes, in each of its cases.
 -- Assumes nothing.
 use mathlib.Core.Path.{_≡_, refl, sym, ap, _∙_}
-use mathlib.Core.Bool.{true, false, not, cond}
+use mathlib.Core.Bool.{true, false}
 use mathlib.Core.List.{List, _++_}
 use Prim.Native.Nat.{ℕ, zero, suc, _+_, _-_, _*_, _/_, _≤_, _<_, min}
 use native.Mathlib.Nat.{mul-le-mul-right, div-mul-le-self}
 use native.Mathlib.Omega.{arith}
 use borrow.Author.Tests.{eq-eqb, ne-eqb}
-use lib.ListN.{length, take, drop, take-append-drop}
+use lib.ListN.{length, drop, take-append-drop}
 use lib.Seq.{length-take-le}
 use Rattle.listing.specs.declared.Answer.{Answer}
-use Rattle.listing.specs.Answers.{plain, fine, ifZero, on, _orElse_}
+use Rattle.listing.specs.Answers.{plain, fine, ifZero, on}
 use Rattle.listing.specs.Listing.{Listing, Limits, rank}
 use Rattle.listing.proofs.Answers.{or-fine, or-stop}
 use Rattle.flag.specs.Flags.{startTest}
@@ -21,7 +21,6 @@ use Rattle.search.specs.Masks.{maskFits}
 use Rattle.search.specs.Searched.{flatten, foundBy}
 use Rattle.search.specs.Outcome.{refusedAs, foundAs, roomOf, searchTest, searchedOf, after, searchedBy}
 use Rattle.search.specs.Outcome.{tableAfter, bytesAfter}
-use Rattle.search.specs.Rows.{rows}
 use Rattle.search.specs.Held.{stateOf, Ended}
 use Rattle.search.proofs.Rows.{rows-length, rows-flat}
 use Rattle.search.proofs.Numbers.{start-most}
@@ -103,12 +102,15 @@ module _ (m : Limits) (L : Listing) (first : List ℕ) (mask : ℕ) (table bytes
   pub outcome-start : (a : Answer) → a ≡ startTest m L first → (a .no ≡ 0 → ⊥) → Outcome (refusedAs a) table bytes
   unfolding searchTest
   outcome-start a e h =
-      none a (e ∙ sym (or-stop (startTest m L first) _ (rw (← e) h))) h (λ k. omega (arith, start-most m L first, ap (λ x. x .no) e))
+      none a (e ∙ sym (or-stop (startTest m L first) _ (rw (← e) h))) h
+      (λ k. omega (arith, start-most m L first, ap (λ x. x .no) e))
 
   module _ (z : startTest m L first .no ≡ 0) where
     pub outcome-mask : maskFits (rank L) mask ≡ false → Outcome (refusedAs (plain 21)) table bytes
     unfolding searchTest
-    outcome-mask f = none (plain 21) (sym (or-fine (startTest m L first) _ z ∙ rw f (or-stop (plain 21) _ (λ k. omega arith)))) (λ k. omega arith) (λ k. omega arith)
+    outcome-mask f =
+        none (plain 21) (sym (or-fine (startTest m L first) _ z ∙ rw f (or-stop (plain 21) _ (λ k. omega arith))))
+        (λ k. omega arith) (λ k. omega arith)
 
     -- ---- what was found is written
 
@@ -153,10 +155,16 @@ module _ (m : Limits) (L : Listing) (first : List ℕ) (mask : ℕ) (table bytes
             let w = length (L .counts) in
             let n = p .count * w in
             let i : n ≤ length table′ = omega (arith, mul-le-mul-right w (E .fits), E .rest .long) in
-            rw (← ap (λ S. S .found) (E .state), rows-flat w table′ (p .count), length-take-le n table′ i, ← E .rest .past)
+            rw (
+              ← ap (λ S. S .found) (E .state),
+              rows-flat w table′ (p .count),
+              length-take-le n table′ i,
+              ← E .rest .past,
+            )
             (take-append-drop n table′)
 
-        bytes-found : foundBy L first mask room .bytes ++ drop (length (foundBy L first mask room .bytes)) bytes ≡ bytes′
+        bytes-found : foundBy L first mask room .bytes ++ drop
+            (length (foundBy L first mask room .bytes)) bytes ≡ bytes′
         unfolding stateOf
         bytes-found =
             let i : p .count ≤ length bytes′ = omega (arith, E .fits, E .rest .bytes-long) in
