@@ -1,15 +1,15 @@
 -- The flag at hand, in an array of sixteen numbers: one number of it is changed.
 -- Assumes nothing.
-use mathlib.Core.Path.{_≡_, refl, sym, ap, ap₂, _∙_}
+use mathlib.Core.Path.{_≡_, sym, ap, ap₂, _∙_}
 use mathlib.Core.List.{List}
 use Prim.Native.Nat.{ℕ, _+_, _-_, _*_, _%_, _≤_, _<_}
 use native.Mathlib.Omega.{arith}
-use lib.ListN.{length, getD, take, set, length-set}
+use lib.ListN.{length, getD, take, set}
 use lib.Seq.{length-take-le, getD-take, take-set-lt, set-set, set-getD}
 use Rattle.listing.specs.Listing.{Listing, limits, rank, subs, sups}
 use Rattle.valid.specs.Closed.{Closed}
 use Rattle.flag.specs.Change.{common, other, between, changeAt, Neighbours}
-use Rattle.search.specs.Hash.{hashes, weight, sumFrom, hashOf}
+use Rattle.search.specs.Hash.{hashes, weight, hashOf}
 use Rattle.search.specs.Held.{AtHand}
 use Rattle.search.proofs.Hash.{old-inside, hash-changed}
 
@@ -42,7 +42,8 @@ module _ (L : Listing) (C : Closed limits L) (flag : List ℕ) (sum : ℕ) (H : 
   between-same : between L r flag ≡ between L r f
   unfolding between
   between-same =
-      ap₂ common (ap (sups L (r - 1)) (sym (at-w (r - 1) (omega arith)))) (ap (subs L (r + 1)) (sym (at-w (r + 1) (omega arith))))
+      ap₂ common (ap (sups L (r - 1)) (sym (at-w (r - 1) (omega arith))))
+      (ap (subs L (r + 1)) (sym (at-w (r + 1) (omega arith))))
 
   -- the flag with the number that the change puts in
   pub hand-changed : (x : ℕ) → x ≡ other (getD flag r 0) (between L r flag) → take w (set flag r x) ≡ changeAt L r f

@@ -12,3 +12,6 @@ pub mod Runs
 pub mod Starts
 pub mod Numbers
 pub mod Outcomes
+pub mod Leads
+pub mod Flat
+pub mod Exact

@@ -1,18 +1,18 @@
 -- The flag at hand is met: in each case the table, the bytes and the progress after it stand for the state after it.
 -- Assumes nothing.
-use mathlib.Core.Path.{_≡_, refl, sym, ap, ap₂, _∙_}
+use mathlib.Core.Path.{_≡_, refl, sym, ap, _∙_}
 use mathlib.Core.Bool.{true, false}
 use mathlib.Core.List.{List, [], _∷_, _++_}
-use Prim.Native.Nat.{ℕ, suc, _+_, _*_, _≤_, _<_}
+use Prim.Native.Nat.{ℕ, _+_, _*_, _≤_, _<_}
 use native.Mathlib.Numerals.{add-one}
 use native.Mathlib.Omega.{arith}
-use lib.ListN.{length, getD, take, drop, set, length-set}
+use lib.ListN.{length, getD, take, set, length-set}
 use lib.Seq.{paste, getD-take, take-suc-set, drop-set-lt}
-use Rattle.searching.specs.Search.{State, add, overfull, placeAfter, again, indexIn, meet}
+use Rattle.searching.specs.Search.{State, placeAfter, again, indexIn, meet}
 use Rattle.searching.proofs.Step.{place-kept, place-same, place-first, meet-again, meet-full, meet-new}
 use Rattle.search.specs.declared.found.Progress.{Progress}
 use Rattle.search.specs.Rows.{rows}
-use Rattle.search.specs.Hash.{hashes, hashOf}
+use Rattle.search.specs.Hash.{hashOf}
 use Rattle.search.specs.Searched.{sameList}
 use Rattle.search.specs.Held.{stateOf, Held, Rest, Moved}
 use Rattle.search.proofs.Hash.{hash-small}
@@ -43,7 +43,8 @@ module _ (w room : ℕ) (table bytes : List ℕ) (s : Progress) (o : s .over ≡
     pub known-after : (s .place ≡ 0 → ⊥)
         → stateOf w table bytes s ≡ meet sameList room b (stateOf w table bytes s) y
     unfolding stateOf
-    known-after n = sym (known ∙ again-is (stateOf w table bytes s) b k (s .place) (place-kept b (stateOf w table bytes s) k n))
+    known-after n =
+        sym (known ∙ again-is (stateOf w table bytes s) b k (s .place) (place-kept b (stateOf w table bytes s) k n))
 
     stored : getD (take (s .count) bytes) k 0 ≡ getD bytes k 0
     stored = getD-take (s .count) bytes k 0 h
@@ -51,7 +52,8 @@ module _ (w room : ℕ) (table bytes : List ℕ) (s : Progress) (o : s .over ≡
     pub known-same : getD bytes k 0 ≡ b → stateOf w table bytes s ≡ meet sameList room b (stateOf w table bytes s) y
     unfolding stateOf
     known-same q =
-        sym (known ∙ again-is (stateOf w table bytes s) b k (s .place) (place-same b (stateOf w table bytes s) k (stored ∙ q)))
+        sym (known
+        ∙ again-is (stateOf w table bytes s) b k (s .place) (place-same b (stateOf w table bytes s) k (stored ∙ q)))
 
     pub known-first : s .place ≡ 0 → (getD bytes k 0 ≡ b → ⊥)
         → stateOf w table bytes (record { count = s .count; place = s .count; over = false })
@@ -72,7 +74,8 @@ module _ (w room : ℕ) (table bytes : List ℕ) (s : Progress) (o : s .over ≡
         ≡ meet sameList room b (stateOf w table bytes s) y
     unfolding stateOf
     new-full r =
-        sym (meet-full sameList room b (stateOf w table bytes s) y o unknown (omega (arith, rows-length w table (s .count))))
+        sym (meet-full sameList room b (stateOf w table bytes s) y o unknown
+        (omega (arith, rows-length w table (s .count))))
 
     pub new-added : (table′ bytes′ : List ℕ) → rows w table′ (s .count + 1) ≡ rows w table (s .count) ++ (y ∷ [])
         → take (s .count + 1) bytes′ ≡ take (s .count) bytes ++ (b ∷ []) → s .count < room
@@ -81,7 +84,8 @@ module _ (w room : ℕ) (table bytes : List ℕ) (s : Progress) (o : s .over ≡
     unfolding stateOf
     new-added table′ bytes′ p q r =
         rw (p, q, ← o)
-        (sym (meet-new sameList room b (stateOf w table bytes s) y o unknown (omega (arith, rows-length w table (s .count)))))
+        (sym (meet-new sameList room b (stateOf w table bytes s) y o unknown
+        (omega (arith, rows-length w table (s .count)))))
 
 -- ---- what is held after it
 
@@ -90,7 +94,8 @@ pub row-fits : (w room : ℕ) (table bytes heads next : List ℕ) (n : ℕ) → 
     → n * w + w ≤ length table
 row-fits w room table bytes heads next n H h = omega (arith, row-end n room w h, H .room-rows)
 
-module _ (w room : ℕ) (table bytes heads next : List ℕ) (s : Progress) (H : Held w room table bytes heads next (s .count))
+module _ (w room : ℕ) (table bytes heads next : List ℕ) (s : Progress)
+    (H : Held w room table bytes heads next (s .count))
   where
     -- nothing was written
     pub moved-none : (r : Progress) {S : State (List ℕ)} → r .count ≡ s .count → stateOf w table bytes r ≡ S
@@ -119,7 +124,8 @@ module _ (w room : ℕ) (table bytes heads next : List ℕ) (s : Progress) (H : 
         room-few = H .room-few;
         fits = omega arith;
         indexed =
-            index-more w n table heads next flag (H .indexed) h (omega (arith, hash-small (take w flag))) e in-table wide
+            index-more w n table heads next flag (H .indexed) h
+            (omega (arith, hash-small (take w flag))) e in-table wide
             (omega (arith, H .room-few)) i;
       }
 
@@ -137,7 +143,8 @@ module _ (w room : ℕ) (table bytes heads next : List ℕ) (s : Progress) (H : 
       moved-added = record {
         state =
             new-added w room table bytes s o b (take w flag) _ refl i (paste table (n * w) flag w) (set bytes n b)
-            (put-rows w table n flag in-table wide) (rw add-one (take-suc-set bytes n b (omega (arith, H .room-bytes)))) r;
+            (put-rows w table n flag in-table wide)
+            (rw add-one (take-suc-set bytes n b (omega (arith, H .room-bytes)))) r;
         held = added-held;
         more = omega arith;
         rest = added-rest;

@@ -1,6 +1,6 @@
 -- The neighbours of a flag are flags, and so is all that a search finds.
 -- Assumes nothing.
-use mathlib.Core.Path.{_≡_, refl, sym, _∙_}
+use mathlib.Core.Path.{refl, sym, _∙_}
 use mathlib.Core.Bool.{Bool}
 use mathlib.Core.Logic.{inl, inr, ⊎-elim}
 use mathlib.Core.List.{List, [], _∷_, List·Memᴰ, List·Memᴰ·head, List·Memᴰ·tail, List·Memᴰ·append-cases}
@@ -9,7 +9,7 @@ use Prim.Native.Nat.{ℕ, _<_}
 use native.Mathlib.Omega.{arith}
 use lib.ListN.{length}
 use Rattle.order.specs.Lists.{In}
-use Rattle.listing.specs.Listing.{Listing, limits, rank}
+use Rattle.listing.specs.Listing.{Listing, Limits}
 use Rattle.valid.specs.Closed.{Closed}
 use Rattle.flag.specs.Flags.{IsFlag}
 use Rattle.flag.specs.Change.{changeAt}
@@ -18,24 +18,31 @@ use Rattle.searching.specs.Search.{State, meet, meetAll}
 use Rattle.searching.proofs.Once.{in-at, at-in}
 use Rattle.searching.proofs.Step.{meet-cases}
 use Rattle.search.specs.Masks.{ranksOf}
-use Rattle.search.specs.Rows.{rowOf, rows}
+use Rattle.search.specs.Rows.{rows}
 use Rattle.search.specs.Searched.{neighbours}
 use Rattle.search.specs.Held.{Within, AllFlags}
 use Rattle.search.proofs.Rows.{rows-length, rows-at}
 
 -- a member, as the lists of numbers have it
-mem-in : (x : ℕ) (l : List ℕ) → List·Memᴰ x l → In x l
+pub mem-in : (x : ℕ) (l : List ℕ) → List·Memᴰ x l → In x l
 unfolding In
 mem-in x l (List·Memᴰ·head e) = inl e
 mem-in x l (List·Memᴰ·tail {xs = m} h) = inr (mem-in x m h)
 
-module _ (L : Listing) (C : Closed limits L) (mask : ℕ) (W : Within L mask) (f : List ℕ) (F : IsFlag L f) where
-  pub neighbour-flag : (y : List ℕ) → List·Memᴰ y (neighbours L mask f) → IsFlag L y
-  unfolding neighbours
-  neighbour-flag y m =
-      let t = Memᴰ·of-map (λ r. changeAt L r f) (ranksOf mask) m in
-      let b = W (t .0) (mem-in (t .0) (ranksOf mask) (t .1)) in
-      rw (t .2) at (changes L C (t .0) (b .0) (b .1) f F .is-flag)
+module _ {m : Limits} (L : Listing) (C : Closed m L) (mask : ℕ) (W : Within L mask) (f : List ℕ) (F : IsFlag L f)
+  where
+    pub neighbour-flag : (y : List ℕ) → List·Memᴰ y (neighbours L mask f) → IsFlag L y
+    unfolding neighbours
+    neighbour-flag y m =
+        let t = Memᴰ·of-map (λ r. changeAt L r f) (ranksOf mask) m in
+        let b = W (t .0) (mem-in (t .0) (ranksOf mask) (t .1)) in
+        rw (t .2) at (changes L C (t .0) (b .0) (b .1) f F .is-flag)
+
+pub in-mem : (x : ℕ) (l : List ℕ) → In x l → List·Memᴰ x l
+unfolding In
+in-mem x [] h = absurd h
+in-mem x (y ∷ l) (inl e) = List·Memᴰ·head e
+in-mem x (y ∷ l) (inr h) = List·Memᴰ·tail (in-mem x l h)
 
 -- ---- what holds of each thing met holds of each thing found
 

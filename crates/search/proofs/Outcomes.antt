@@ -1,17 +1,17 @@
 -- What a search answers and writes, in each of its cases.
 -- Assumes nothing.
 use mathlib.Core.Path.{_≡_, refl, sym, ap, _∙_}
-use mathlib.Core.Bool.{true, false, not, cond}
+use mathlib.Core.Bool.{true, false}
 use mathlib.Core.List.{List, _++_}
 use Prim.Native.Nat.{ℕ, zero, suc, _+_, _-_, _*_, _/_, _≤_, _<_, min}
 use native.Mathlib.Nat.{mul-le-mul-right, div-mul-le-self}
 use native.Mathlib.Omega.{arith}
 use borrow.Author.Tests.{eq-eqb, ne-eqb}
-use lib.ListN.{length, take, drop, take-append-drop}
+use lib.ListN.{length, drop, take-append-drop}
 use lib.Seq.{length-take-le}
 use Rattle.listing.specs.declared.Answer.{Answer}
-use Rattle.listing.specs.Answers.{plain, fine, ifZero, on, _orElse_}
-use Rattle.listing.specs.Listing.{Listing, limits, rank}
+use Rattle.listing.specs.Answers.{plain, fine, ifZero, on}
+use Rattle.listing.specs.Listing.{Listing, Limits, rank}
 use Rattle.listing.proofs.Answers.{or-fine, or-stop}
 use Rattle.flag.specs.Flags.{startTest}
 use Rattle.searching.specs.Search.{State}
@@ -21,21 +21,20 @@ use Rattle.search.specs.Masks.{maskFits}
 use Rattle.search.specs.Searched.{flatten, foundBy}
 use Rattle.search.specs.Outcome.{refusedAs, foundAs, roomOf, searchTest, searchedOf, after, searchedBy}
 use Rattle.search.specs.Outcome.{tableAfter, bytesAfter}
-use Rattle.search.specs.Rows.{rows}
 use Rattle.search.specs.Held.{stateOf, Ended}
 use Rattle.search.proofs.Rows.{rows-length, rows-flat}
 use Rattle.search.proofs.Numbers.{start-most}
 
 -- ---- room
 
-pub room-is : (L : Listing) (table bytes : ℕ) → 0 < length (L .counts)
-    → min (min (table / length (L .counts)) bytes) (limits .flags) ≡ roomOf limits L table bytes
+pub room-is : (m : Limits) (L : Listing) (table bytes : ℕ) → 0 < length (L .counts)
+    → min (min (table / length (L .counts)) bytes) (m .flags) ≡ roomOf m L table bytes
 unfolding roomOf
-room-is L table bytes h = let z : length (L .counts) - 1 + 1 ≡ length (L .counts) = omega arith in rw z
+room-is m L table bytes h = let z : length (L .counts) - 1 + 1 ≡ length (L .counts) = omega arith in rw z
 
-pub room-fits : (table bytes w n : ℕ) → n ≡ min (min (table / w) bytes) (limits .flags)
-    → (n * w ≤ table) × (n ≤ bytes) × (n ≤ limits .flags)
-room-fits table bytes w n e =
+pub room-fits : (m : Limits) (table bytes w n : ℕ) → n ≡ min (min (table / w) bytes) (m .flags)
+    → (n * w ≤ table) × (n ≤ bytes) × (n ≤ m .flags)
+room-fits m table bytes w n e =
     let h : n ≤ table / w = omega arith in
     (omega (arith, mul-le-mul-right w h, div-mul-le-self table w), omega arith, omega arith)
 
@@ -69,20 +68,28 @@ module _ (a : Answer) (new old : List ℕ) where
 
 -- ---- the four cases
 
-module _ (L : Listing) (first : List ℕ) (mask : ℕ) (table bytes : List ℕ) where
+module _ (m : Limits) (L : Listing) (first : List ℕ) (mask : ℕ) (table bytes : List ℕ) where
   -- the answer and the two slices are what the search says
   pub record Outcome (r : Searched) (table′ bytes′ : List ℕ) : Type 0 where
-    pub answer : r ≡ searchedBy limits L first mask table bytes
-    pub flags : table′ ≡ tableAfter limits L first mask table bytes
-    pub turns : bytes′ ≡ bytesAfter limits L first mask table bytes
+    pub answer : r ≡ searchedBy m L first mask table bytes
+    pub flags : table′ ≡ tableAfter m L first mask table bytes
+    pub turns : bytes′ ≡ bytesAfter m L first mask table bytes
 
-  abbrev room : ℕ
-  room = roomOf limits L (length table) (length bytes)
+  abbrev pub room : ℕ
+  room = roomOf m L (length table) (length bytes)
 
-  abbrev test : Answer
-  test = searchTest limits L first mask room
+  abbrev pub test : Answer
+  test = searchTest m L first mask room
 
-  -- a refusal that writes nothing
+  -- what was found is written, and past it is what stood there
+  abbrev pub Written : Searched → Type 0
+  Written r =
+      Outcome r
+      (flatten (foundBy L first mask room .found) ++ drop (length (flatten (foundBy L first mask room .found))) table)
+      (foundBy L first mask room .bytes ++ drop (length (foundBy L first mask room .bytes)) bytes)
+
+  -- ---- nothing is written
+
   none : (a : Answer) → a ≡ test → (a .no ≡ 0 → ⊥) → (a .no ≡ 22 → ⊥) → Outcome (refusedAs a) table bytes
   unfolding searchedBy tableAfter bytesAfter
   none a e h k = record {
@@ -91,20 +98,47 @@ module _ (L : Listing) (first : List ℕ) (mask : ℕ) (table bytes : List ℕ) 
     turns = rw (← e) (after-none a (foundBy L first mask room .bytes) bytes h k);
   }
 
-  pub outcome-start : (a : Answer) → a ≡ startTest limits L first → (a .no ≡ 0 → ⊥) → Outcome (refusedAs a) table bytes
+  -- the tests before the mask refuse, and the mask does
+  pub outcome-start : (a : Answer) → a ≡ startTest m L first → (a .no ≡ 0 → ⊥) → Outcome (refusedAs a) table bytes
   unfolding searchTest
   outcome-start a e h =
-      none a (e ∙ sym (or-stop (startTest limits L first) _ (rw (← e) h))) h (λ k. omega (arith, start-most limits L first, ap (λ x. x .no) e))
+      none a (e ∙ sym (or-stop (startTest m L first) _ (rw (← e) h))) h
+      (λ k. omega (arith, start-most m L first, ap (λ x. x .no) e))
 
-  module _ (z : startTest limits L first .no ≡ 0) where
+  module _ (z : startTest m L first .no ≡ 0) where
     pub outcome-mask : maskFits (rank L) mask ≡ false → Outcome (refusedAs (plain 21)) table bytes
     unfolding searchTest
-    outcome-mask f = none (plain 21) (sym (or-fine (startTest limits L first) _ z ∙ rw f (or-stop (plain 21) _ (λ k. omega arith)))) (λ k. omega arith) (λ k. omega arith)
+    outcome-mask f =
+        none (plain 21) (sym (or-fine (startTest m L first) _ z ∙ rw f (or-stop (plain 21) _ (λ k. omega arith))))
+        (λ k. omega arith) (λ k. omega arith)
+
+    -- ---- what was found is written
 
     module _ (f : maskFits (rank L) mask ≡ true) where
-      last : test ≡ on (foundBy L first mask room .over) (plain 22)
+      pub last : test ≡ on (foundBy L first mask room .over) (plain 22)
       unfolding searchTest
-      last = or-fine (startTest limits L first) _ z ∙ rw f (or-fine fine _ refl)
+      last = or-fine (startTest m L first) _ z ∙ rw f (or-fine fine _ refl)
+
+      pub said-full : foundBy L first mask room .over ≡ true → Written (refusedAs (plain 22))
+      unfolding searchedBy tableAfter bytesAfter
+      said-full o =
+          let e : test ≡ plain 22 = last ∙ rw o in
+          record {
+            answer = rw e (answer-none (plain 22) (foundBy L first mask room) (λ k. omega arith));
+            flags = rw e (after-full (plain 22) (flatten (foundBy L first mask room .found)) table refl);
+            turns = rw e (after-full (plain 22) (foundBy L first mask room .bytes) bytes refl);
+          }
+
+      pub said-fine : foundBy L first mask room .over ≡ false
+          → Written (foundAs fine (length (foundBy L first mask room .found)) (foundBy L first mask room .place))
+      unfolding searchedBy tableAfter bytesAfter
+      said-fine o =
+          let e : test ≡ fine = last ∙ rw o in
+          record {
+            answer = rw e (answer-some fine (foundBy L first mask room) refl);
+            flags = rw e (after-fine fine (flatten (foundBy L first mask room .found)) table refl);
+            turns = rw e (after-fine fine (foundBy L first mask room .bytes) bytes refl);
+          }
 
       module _ {table′ bytes′ : List ℕ} {p : Progress}
           (E : Ended (length (L .counts)) room table bytes table′ bytes′ p (foundBy L first mask room))
@@ -121,10 +155,16 @@ module _ (L : Listing) (first : List ℕ) (mask : ℕ) (table bytes : List ℕ) 
             let w = length (L .counts) in
             let n = p .count * w in
             let i : n ≤ length table′ = omega (arith, mul-le-mul-right w (E .fits), E .rest .long) in
-            rw (← ap (λ S. S .found) (E .state), rows-flat w table′ (p .count), length-take-le n table′ i, ← E .rest .past)
+            rw (
+              ← ap (λ S. S .found) (E .state),
+              rows-flat w table′ (p .count),
+              length-take-le n table′ i,
+              ← E .rest .past,
+            )
             (take-append-drop n table′)
 
-        bytes-found : foundBy L first mask room .bytes ++ drop (length (foundBy L first mask room .bytes)) bytes ≡ bytes′
+        bytes-found : foundBy L first mask room .bytes ++ drop
+            (length (foundBy L first mask room .bytes)) bytes ≡ bytes′
         unfolding stateOf
         bytes-found =
             let i : p .count ≤ length bytes′ = omega (arith, E .fits, E .rest .bytes-long) in
@@ -132,23 +172,11 @@ module _ (L : Listing) (first : List ℕ) (mask : ℕ) (table bytes : List ℕ) 
             (take-append-drop (p .count) bytes′)
 
         pub outcome-over : p .over ≡ true → Outcome (refusedAs (plain 22)) table′ bytes′
-        unfolding searchedBy tableAfter bytesAfter stateOf
-        outcome-over o =
-            let e : test ≡ plain 22 = last ∙ rw (sym (ap (λ S. S .over) (E .state)) ∙ o) in
-            record {
-              answer = rw e (answer-none (plain 22) (foundBy L first mask room) (λ k. omega arith));
-              flags = rw e (sym table-found ∙ after-full (plain 22) (flatten (foundBy L first mask room .found)) table refl);
-              turns = rw e (sym bytes-found ∙ after-full (plain 22) (foundBy L first mask room .bytes) bytes refl);
-            }
+        unfolding stateOf
+        outcome-over o = rw (table-found, bytes-found) at (said-full (sym (ap (λ S. S .over) (E .state)) ∙ o))
 
         pub outcome-found : p .over ≡ false → Outcome (foundAs fine (p .count) (p .place)) table′ bytes′
-        unfolding searchedBy tableAfter bytesAfter stateOf
+        unfolding stateOf
         outcome-found o =
-            let e : test ≡ fine = last ∙ rw (sym (ap (λ S. S .over) (E .state)) ∙ o) in
-            record {
-              answer =
-                  rw (e, ← count-found, ap (λ S. S .place) (E .state))
-                  (answer-some fine (foundBy L first mask room) refl);
-              flags = rw e (sym table-found ∙ after-fine fine (flatten (foundBy L first mask room .found)) table refl);
-              turns = rw e (sym bytes-found ∙ after-fine fine (foundBy L first mask room .bytes) bytes refl);
-            }
+            rw (table-found, bytes-found, count-found, sym (ap (λ S. S .place) (E .state)))
+            at (said-fine (sym (ap (λ S. S .over) (E .state)) ∙ o))

@@ -5,20 +5,20 @@ use mathlib.Core.Bool.{true, false}
 use mathlib.Core.List.{List}
 use Prim.Native.Nat.{ℕ, _+_, _-_, _≤_, _<_}
 use native.Mathlib.Omega.{arith}
-use lib.ListN.{length, getD, take}
+use lib.ListN.{length, getD}
 use lib.Seq.{getD-take}
 use Rattle.listing.specs.Listing.{Listing, limits}
 use Rattle.valid.specs.Closed.{Closed}
 use Rattle.flag.specs.Flags.{IsFlag}
-use Rattle.searching.specs.Search.{State, meetAll, work, run}
+use Rattle.searching.specs.Search.{meetAll, work, run}
 use Rattle.searching.proofs.Run.{run-next, run-stop, run-end}
 use Rattle.search.specs.declared.found.Progress.{Progress}
-use Rattle.search.specs.Rows.{rowOf, rows}
+use Rattle.search.specs.Rows.{rowOf}
 use Rattle.search.specs.Searched.{sameList, neighbours}
 use Rattle.search.specs.Held.{stateOf, Held, Moved, AllFlags, Within}
 use Rattle.search.proofs.Rows.{rows-at}
 use Rattle.search.proofs.Meets.{count-is, moved-none}
-use Rattle.search.proofs.Neighbours.{All, meets-all, neighbour-flag, rows-flags, flags-rows}
+use Rattle.search.proofs.Neighbours.{meets-all, neighbour-flag, rows-flags, flags-rows}
 use Rattle.search.proofs.Works.{moved-trans, moved-to}
 
 -- on the way from s₀ the flags before the kth were worked: what is left leads to the same state
@@ -69,7 +69,8 @@ module _ (L : Listing) (C : Closed limits L) (room mask : ℕ) (A : Within L mas
     running-next o i M = record {
       moved = moved-to (moved-trans (K .moved) M) (sym (M .state));
       flags = flags-next k (K .flags) i M;
-      whole = λ a. next a ∙ ap (run sameList room (neighbours L mask) a (k + 1)) (work-is L room mask t b s k a i ∙ sym (M .state));
+      whole = λ a. next a
+          ∙ ap (run sameList room (neighbours L mask) a (k + 1)) (work-is L room mask t b s k a i ∙ sym (M .state));
     }
       where
         next : (a : List ℕ) → run sameList room (neighbours L mask) a 0 (stateOf (length (L .counts)) t₀ b₀ s₀)

@@ -1,9 +1,9 @@
 -- The start of a search: nothing is found, the first flag is met, and then all are worked.
 -- Assumes nothing.
-use mathlib.Core.Path.{_≡_, refl, sym, ap, _∙_}
+use mathlib.Core.Path.{_≡_, refl, ap, _∙_}
 use mathlib.Core.Bool.{false}
 use mathlib.Core.List.{List, List·Memᴰ·not-nil}
-use Prim.Native.Nat.{ℕ, _*_, _≤_, _<_}
+use Prim.Native.Nat.{ℕ, _*_, _≤_}
 use native.Mathlib.Omega.{arith}
 use lib.ListN.{length, take, replicate, length-replicate, getD-replicate}
 use lib.Seq.{take-at}
@@ -38,7 +38,8 @@ indexed-none w table = record {
   chain = λ k i. absurd (omega arith);
 }
 
-pub held-none : (w room : ℕ) (table bytes : List ℕ) → room * w ≤ length table → room ≤ length bytes → room ≤ limits .flags
+pub held-none : (w room : ℕ) (table bytes : List ℕ) → room * w ≤ length table → room ≤ length bytes
+    → room ≤ limits .flags
     → Held w room table bytes (replicate hashes 0) (replicate (limits .flags) 0) 0
 held-none w room table bytes p q r =
     record { room-rows = p; room-bytes = q; room-few = r; fits = omega arith; indexed = indexed-none w table }

@@ -55,7 +55,8 @@ moved-to M e = record { state = M .state ∙ e; held = M .held; more = M .more; 
 -- ---- the walk over a mask
 
 -- on the way from s₀ the ranks below the lowest that is left were met: what is left leads to the same state W
-pub record Working (L : Listing) (room : ℕ) (t₀ b₀ : List ℕ) (s₀ : Progress) (byte : ℕ) (f : List ℕ) (W : State (List ℕ))
+pub record Working (L : Listing) (room : ℕ) (t₀ b₀ : List ℕ) (s₀ : Progress) (byte : ℕ) (f : List ℕ)
+    (W : State (List ℕ))
     (t b h x : List ℕ) (left : ℕ) (s : Progress) : Type 0 where
   pub moved : Moved (length (L .counts)) room t₀ b₀ s₀ t b h x s (stateOf (length (L .counts)) t b s)
   pub small : left < 65536
@@ -65,7 +66,8 @@ pub record Working (L : Listing) (room : ℕ) (t₀ b₀ : List ℕ) (s₀ : Pro
 module _ (L : Listing) (room : ℕ) (byte : ℕ) (f : List ℕ) where
   pub working-start : {t b h x : List ℕ} {s : Progress} (mask : ℕ) → Held (length (L .counts)) room t b h x (s .count)
       → mask < 65536 → Within L mask
-      → Working L room t b s byte f (meetAll sameList room byte (stateOf (length (L .counts)) t b s) (neighbours L mask f))
+      → Working L room t b s byte f
+      (meetAll sameList room byte (stateOf (length (L .counts)) t b s) (neighbours L mask f))
       t b h x mask s
   working-start {s = s} mask H m w =
       record { moved = moved-none _ _ _ _ _ _ s H s refl refl; small = m; within = w; whole = refl }
@@ -102,7 +104,9 @@ module _ (L : Listing) (room : ℕ) (byte : ℕ) (f : List ℕ) where
     pub working-stop : s .over ≡ true → Moved (length (L .counts)) room t₀ b₀ s₀ t b h x s W
     unfolding stateOf
     working-stop o =
-        moved-to (K .moved) (sym (K .whole ∙ meets-over sameList room byte (stateOf (length (L .counts)) t b s) (neighbours L left f) o))
+        moved-to (K .moved)
+        (sym (K .whole
+        ∙ meets-over sameList room byte (stateOf (length (L .counts)) t b s) (neighbours L left f) o))
 
     pub working-end : left ≡ 0 → Moved (length (L .counts)) room t₀ b₀ s₀ t b h x s W
     unfolding neighbours meetAll

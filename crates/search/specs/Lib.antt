@@ -5,3 +5,4 @@ pub mod Rows
 pub mod Hash
 pub mod Index
 pub mod Held
+pub mod Exact
