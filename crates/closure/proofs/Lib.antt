@@ -1,0 +1,10 @@
+pub mod Diamonds
+pub mod Cells
+pub mod Alike
+pub mod Results
+pub mod Products
+pub mod Valid
+pub mod Sums
+pub mod Sizes
+pub mod Pairs
+pub mod Starred

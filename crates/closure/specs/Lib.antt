@@ -1,0 +1,5 @@
+pub mod Derived
+pub mod Result
+pub mod Pairs
+pub mod Sizes
+pub mod Starred

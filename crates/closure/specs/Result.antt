@@ -1,0 +1,54 @@
+-- Which product of two listings each of the four is. min and max tell them apart: duopyramid neither, duoprism min,
+-- duotegum max, duocomb both. A is the left factor, B the right one.
+--
+-- first, second   the factor that gives the first, the second members of the pairs: the left one first where min is
+--                 set, else the right one
+-- nullCase        a factor of rank 0, for all but the duopyramid
+-- combCase        the duocomb with a factor of rank 1, and none of rank 0
+-- resultOf        the product: the nullitope in the null case, else that of the pairs
+-- duopyramidOf, duoprismOf, duotegumOf, duocombOf   the four by name
+-- HighEnough      the ranks of two closed factors at which the product is closed
+use mathlib.Core.Bool.{Bool, true, false, not, _&&_, _||_}
+use Prim.Native.Nat.{ℕ, _+_, _≤_}
+use lib.Dec.{eqb}
+use Rattle.listing.specs.Listing.{Listing, rank}
+use Rattle.pairing.specs.Product.{productOf, nullitope}
+
+abbrev pub first : Bool → Listing → Listing → Listing
+first true A B = A
+first false A B = B
+
+abbrev pub second : Bool → Listing → Listing → Listing
+second true A B = B
+second false A B = A
+
+unfoldable pub nullCase : Bool → Bool → Listing → Listing → Bool
+nullCase min max A B = (min || max) && (eqb (rank A) 0 || eqb (rank B) 0)
+
+unfoldable pub combCase : Bool → Bool → Listing → Listing → Bool
+combCase min max A B = (min && max) && (not (nullCase min max A B) && (eqb (rank A) 1 || eqb (rank B) 1))
+
+unfoldable pub resultOf : Bool → Bool → Listing → Listing → Listing
+resultOf min max A B =
+    elim (nullCase min max A B) [
+      | true ↦ nullitope
+      | false ↦ productOf min max (first min A B) (second min A B)
+    ]
+
+abbrev pub duopyramidOf : Listing → Listing → Listing
+duopyramidOf A B = resultOf false false A B
+
+abbrev pub duoprismOf : Listing → Listing → Listing
+duoprismOf A B = resultOf true false A B
+
+abbrev pub duotegumOf : Listing → Listing → Listing
+duotegumOf A B = resultOf false true A B
+
+abbrev pub duocombOf : Listing → Listing → Listing
+duocombOf A B = resultOf true true A B
+
+unfoldable pub HighEnough : Bool → Bool → ℕ → ℕ → Type 0
+HighEnough false false p q = Unit {0}
+HighEnough true false p q = (1 ≤ p) × (1 ≤ q)
+HighEnough false true p q = (1 ≤ p) × (1 ≤ q)
+HighEnough true true p q = (2 ≤ p) × (2 ≤ q) × (5 ≤ p + q)

@@ -1,0 +1,1 @@
+// The theory that closed listings stay closed: closed listings are cells, and products of cells are cells. It has no code.
