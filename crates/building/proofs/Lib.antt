@@ -1,0 +1,10 @@
+pub mod Laying
+pub mod Parts
+pub mod Rows
+pub mod Numbers
+pub mod Fits
+pub mod Sizes
+pub mod Target
+pub mod Extremes
+pub mod Raising
+pub mod Counting

@@ -1,0 +1,4 @@
+// The builder.
+pub fn nothing_yet(n: usize) -> usize {
+    n
+}
