@@ -1,4 +1,7 @@
 // The four products of cells.
+pub mod factors;
+pub mod sizes;
+
 use listing::Answer;
 
 // What a product answers: a refusal or 0, and how many numbers it wrote into each output slice.
