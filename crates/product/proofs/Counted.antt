@@ -3,7 +3,7 @@
 use mathlib.Core.Path.{_≡_, refl, sym, ap, _∙_}
 use mathlib.Core.Bool.{Bool}
 use mathlib.Core.List.{List}
-use Prim.Native.Nat.{ℕ, suc, _+_, _-_, _*_, _≤_, _<_}
+use Prim.Native.Nat.{ℕ, suc, _+_, _-_, _*_, _≤_, _<_, min as least}
 use native.Mathlib.Omega.{arith}
 use lib.ListN.{length, getD, drop, length-take, length-drop}
 use Rattle.order.specs.Sums.{sum}
@@ -59,6 +59,9 @@ module _ (ends inc : List ℕ) where
 
 -- ---- a factor
 
+pub count-few : (counts : List ℕ) (i : ℕ) → getD counts i 0 ≤ before counts (length counts)
+count-few counts i = omega (arith, before-next counts i, before-all counts (i + 1))
+
 module _ (min max : Bool) (L : Listing) (u : Usable min max L) where
   abbrev p : List ℕ
   p = inUse min max (L .counts)
@@ -84,9 +87,6 @@ module _ (min max : Bool) (L : Listing) (u : Usable min max L) where
           ap length (sym (rw e at (used-above (partOf min max L) r i)) ∙ part-alike min max L u .same-under (suc r) i h)
 
   -- no more than the limits allow
-  pub count-few : (i : ℕ) → getD p i 0 ≤ before p (length p)
-  count-few i = omega (arith, before-next p i, before-all p (i + 1))
-
   pub in-use-few : bit min + before p (length p) ≤ elements L
   in-use-few = omega (arith, in-use-before min max L u (length p) (omega arith), before-all (L .counts) (bit min + length p))
 
@@ -109,7 +109,7 @@ module _ (min max : Bool) (L : Listing) (u : Usable min max L) where
   lowest-first : sum g (before p (length p))
       ≡ sum g (getD p 0 0) + sum (λ k. g (getD p 0 0 + k)) (before p (length p) - getD p 0 0)
   lowest-first =
-      let e : before p (length p) ≡ getD p 0 0 + (before p (length p) - getD p 0 0) = omega (arith, count-few 0) in
+      let e : before p (length p) ≡ getD p 0 0 + (before p (length p) - getD p 0 0) = omega (arith, count-few p 0) in
       ap (sum g) e ∙ sum-add g (getD p 0 0) (before p (length p) - getD p 0 0)
 
   pub subs-in-use : sum (λ k. length (entries (L .ends) (L .inc) (2 * (bit min + getD p 0 0 + k))))
@@ -122,6 +122,51 @@ module _ (min max : Bool) (L : Listing) (u : Usable min max L) where
           (λ k l. ap (λ (t : ℕ). length (entries (L .ends) (L .inc) (2 * t))) (omega arith)) in
       let z = rankSubs-lowest M (trimmed-sound min max (layers L) (valid-sound limits L (u .valid))) in
       rw n (omega (arith, s, by-ranks, lowest-first, lowest-alone, z, sum-first (rankSubs M) (M .top)))
+
+  -- what is asked to count, of the counts x that the code has in hand
+  pub room : (x : List ℕ) → x ≡ p → (0 < length x) × (length x ≤ 16) × (getD x 0 0 ≤ before x (length x))
+      × (bit min + before x (length x) ≤ 4096) × (2 * (bit min + before x (length x)) ≤ length (L .ends))
+  room x e =
+      let S = usable-shaped min max L u in
+      rw e (
+        omega (arith, in-use-length min max L u),
+        omega (arith, in-use-length min max L u, S .few-ranks),
+        count-few p 0,
+        omega (arith, in-use-few, S .few-elements),
+        omega (arith, in-use-few, S .two-ends-each),
+      )
+
+  module _ (x : List ℕ) (e : x ≡ p) (U : Used) (er : U .ranks ≡ length x)
+      (ee : U .elements ≡ least (before x (length x)) 4097) (el : U .lowest ≡ getD x 0 0)
+      (eh : U .highest ≡ getD x (length x - 1) 0) (b : ℕ) (eb : b ≡ bit min) where
+    all : U .elements ≡ before p (length p)
+    all = omega (arith, room x e .3, ap (λ (l : List ℕ). before l (length l)) e)
+
+    top : length p - 1 ≡ M .top
+    top = omega (arith, in-use-length min max L u)
+
+    pub counted : U .subs ≡ sum (λ k. length (entries (L .ends) (L .inc) (2 * (b + U .lowest + k))))
+        (b + U .elements - (b + U .lowest))
+        → Counted M U
+    counted es = record {
+      ranks = er ∙ ap length e ∙ in-use-length min max L u;
+      elements = all ∙ elements-in-use;
+      subs = rw (eb, el, all, e) at es ∙ subs-in-use;
+      lowest = rw e at el ∙ in-use-size min max L u 0;
+      highest = rw (e, top) at eh ∙ in-use-size min max L u (M .top);
+    }
+
+    pub little : U .subs ≤ 32768 * (b + U .elements - (b + U .lowest)) → Little U
+    little h =
+        let f = room x e in
+        record {
+          some-rank = omega (arith, f .0);
+          ranks = omega (arith, f .1);
+          elements = omega (arith, f .3);
+          subs = omega (arith, f .3);
+          lowest = omega (arith, f .2, f .3);
+          highest = omega (arith, f .3, count-few x (length x - 1));
+        }
 
 -- ---- the product
 

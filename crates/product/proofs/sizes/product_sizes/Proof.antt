@@ -1,3 +1,6 @@
+use Rattle.product.proofs.Counted.{measured}
+use Rattle.pairing.specs.Trimmed.{bit}
+use Rattle.building.proofs.Fits.{bit-le}
 use native.Mathlib.Omega.{arith}
 use mathlib.Core.Path.{_≡_, refl, sym, ap, _∙_}
 use Prim.Native.Nat.{ℕ, zero, suc, _+_, _-_, _*_, _≤_, _<_}
@@ -61,19 +64,19 @@ sub-t12 c = search needs
 
 -- src/sizes.rt:111:16
 add-t13 : tie.Need-add-t13
-add-t13 c = search needs
+add-t13 c = omega (arith, bit-le (c .before .before .before .before .before .before .before .before .before .before .before .args .min), bit-le (c .before .before .before .before .before .before .before .before .before .before .before .args .max), c .before .before .before .before .before .before .before .before .before .before .bit-of .ensures, c .before .before .before .before .before .before .before .before .before .bit-of2 .ensures)
 
 -- src/sizes.rt:111:16
 add-t14 : tie.Need-add-t14
-add-t14 c = search needs
+add-t14 c = omega (arith, bit-le (c .before .before .before .before .before .before .before .before .before .before .before .args .min), bit-le (c .before .before .before .before .before .before .before .before .before .before .before .args .max), c .before .before .before .before .before .before .before .before .before .before .bit-of .ensures, c .before .before .before .before .before .before .before .before .before .bit-of2 .ensures)
 
 -- src/sizes.rt:112:19
 add-t15 : tie.Need-add-t15
-add-t15 c = search needs
+add-t15 c = omega (arith, bit-le (c .before .before .before .before .before .before .before .before .before .before .before .args .min), bit-le (c .before .before .before .before .before .before .before .before .before .before .before .args .max), c .before .before .before .before .before .before .before .before .before .before .bit-of .ensures, c .before .before .before .before .before .before .before .before .before .bit-of2 .ensures)
 
 -- src/sizes.rt:112:19
 add-t16 : tie.Need-add-t16
-add-t16 c = search needs
+add-t16 c = omega (arith, bit-le (c .before .before .before .before .before .before .before .before .before .before .before .args .min), bit-le (c .before .before .before .before .before .before .before .before .before .before .before .args .max), c .before .before .before .before .before .before .before .before .before .before .bit-of .ensures, c .before .before .before .before .before .before .before .before .before .bit-of2 .ensures)
 
 -- src/sizes.rt:113:26
 add-t17 : tie.Need-add-t17
@@ -89,7 +92,14 @@ mul-t19 c = search needs
 
 -- src/sizes.rt:99:1
 returns : tie.Need-returns
-returns c = search needs
+returns c = λ A B uA uB cA cB.
+    let a = c .before .before .before .before .before .before .before .before .before .before .before .args in
+    let l : c .before .before .before .before .where-asked .result ≡ bit (a .min) * (a .p .lowest * a .q .lowest) = c .before .before .before .before .where-asked .ensures .0 ∙ ap (λ (n : ℕ). bit (a .min) * n) (c .before .before .before .before .before .times4 .ensures .0) in
+    let h : c .before .before .where-asked2 .result ≡ bit (a .max) * (a .p .highest * a .q .highest) = c .before .before .where-asked2 .ensures .0 ∙ ap (λ (n : ℕ). bit (a .max) * n) (c .before .before .before .times5 .ensures .0) in
+    measured (a .min) (a .max) A B uA uB (a .p) (a .q) cA cB _
+    (rw (c .before .before .before .before .before .before .before .before .before .before .bit-of .ensures, c .before .before .before .before .before .before .before .before .before .bit-of2 .ensures))
+    (rw (c .before .before .before .before .before .before .before .before .before .before .bit-of .ensures, c .before .before .before .before .before .before .before .before .before .bit-of2 .ensures, c .before .before .before .before .before .before .before .before .times .ensures .0))
+    (rw (c .before .before .before .before .before .before .before .times2 .ensures .0, c .before .before .before .before .before .before .times3 .ensures .0, l, h))
 
 pub product-sizes-spec : {M : Type 1} → statement M
 product-sizes-spec =
