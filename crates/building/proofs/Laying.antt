@@ -6,8 +6,8 @@ use mathlib.Core.List.{List, [], _∷_, _++_, map}
 use Prim.Native.Nat.{ℕ, suc, _+_, _-_, _*_, _≤_, _<_}
 use native.Mathlib.Decide.{decLt}
 use native.Mathlib.Omega.{arith}
-use lib.ListN.{length, getD, set, length-append, length-set, length-map, List·getD-append}
-use lib.Seq.{ext-getD, getD-set-same, getD-set-other}
+use lib.ListN.{length, getD, set, length-append, length-set, List·getD-append}
+use lib.Seq.{ext-getD, getD-set-same, getD-set-other, getD-append-add}
 use Rattle.pairing.specs.Trimmed.{bit}
 use Rattle.building.specs.Filling.{Laid, Holds}
 use Rattle.building.specs.Pairs.{subsOf}
@@ -39,6 +39,12 @@ module _ (at : ℕ) (f : ℕ → ℕ) where
       before = λ p k. getD-set-other d′ (at + n) p v 0 (omega arith) ∙ l .before p k;
       after = λ p k. getD-set-other d′ (at + n) p v 0 (omega arith) ∙ l .after p (omega arith);
     }
+
+-- a number written from the very beginning on
+pub laid-at : (f : ℕ → ℕ) (n : ℕ) (d d′ : List ℕ) → Laid 0 f n d d′ → (j : ℕ) → j < n → getD d′ j 0 ≡ f j
+laid-at f n d d′ l j h =
+    let e : 0 + j ≡ j = omega arith in
+    rw e at (l .inside j h)
 
 -- one number alone
 pub laid-one : (at x : ℕ) (d : List ℕ) → at < length d → Laid at (λ j. x) 1 d (set d at x)
@@ -75,3 +81,23 @@ module _ (at n m : ℕ) (f g h : ℕ → ℕ) (d d′ d″ : List ℕ) (l : Laid
     before = λ p b. k .before p (omega arith) ∙ l .before p b;
     after = λ p b. k .after p (omega arith) ∙ l .after p (omega arith);
   }
+
+-- ---- lists
+
+module _ (at : ℕ) (d d′ : List ℕ) where
+  pub laid-holds : (s : List ℕ) (f : ℕ → ℕ) (n : ℕ) → length s ≡ n → ((j : ℕ) → j < n → f j ≡ getD s j 0)
+      → Laid at f n d d′ → Holds at s d d′
+  laid-holds s f n e same l =
+      rw e
+      (record {
+        same-length = l .same-length;
+        inside = λ j h. l .inside j h ∙ same j h;
+        before = l .before;
+        after = l .after;
+      })
+
+  pub holds-then : (s t d″ : List ℕ) → Holds at s d d′ → Holds (at + length s) t d′ d″ → Holds at (s ++ t) d d″
+  holds-then s t d″ l k =
+      rw (length-append s t)
+      (laid-then at (length s) (length t) _ _ _ d d′ d″ l k (λ j h. List·getD-append s t 0 j h)
+      (λ j h. getD-append-add s t j 0))

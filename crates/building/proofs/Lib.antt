@@ -8,3 +8,9 @@ pub mod Target
 pub mod Extremes
 pub mod Raising
 pub mod Counting
+pub mod Strewing
+pub mod Gathering
+pub mod SupsFilled
+pub mod CountsLaid
+pub mod Whole
+pub mod Built

@@ -33,11 +33,11 @@ pub occurs-nil : (x : ℕ) → occurs x [] ≡ 0
 unfolding occurs
 occurs-nil x = refl
 
-occurs-this : (x : ℕ) → occurs x (x ∷ []) ≡ 1
+pub occurs-this : (x : ℕ) → occurs x (x ∷ []) ≡ 1
 unfolding occurs
 occurs-this x = rw (eq-eqb x x refl)
 
-occurs-not : (x y : ℕ) → (x ≡ y → ⊥) → occurs y (x ∷ []) ≡ 0
+pub occurs-not : (x y : ℕ) → (x ≡ y → ⊥) → occurs y (x ∷ []) ≡ 0
 unfolding occurs
 occurs-not x y h = rw (ne-eqb x y h)
 

@@ -34,6 +34,16 @@ module _ (lists : ℕ → List ℕ) where
       → starts lists (2 * e) + length (lists (2 * e)) + length (lists (2 * e + 1)) ≤ starts lists (2 * n)
   starts-room n e h = omega (arith, starts-two e, starts-le (2 * (e + 1)) (2 * n) (omega arith))
 
+  pub row-none : (ends inc : List ℕ) → Row lists 0 ends inc ends inc
+  row-none ends inc = record {
+    ends-length = refl;
+    ends-done = λ t h. absurd (omega arith);
+    ends-rest = λ t h. refl;
+    inc-length = refl;
+    subs-done = λ k j h. absurd (omega arith);
+    inc-rest = λ p h. refl;
+  }
+
   -- ---- one element more
 
   module _ (e c d : ℕ) (ends₀ inc₀ ends inc inc′ : List ℕ) (r : Row lists e ends₀ inc₀ ends inc)

@@ -18,6 +18,7 @@
 -- countsOf       how many elements the product has of each rank
 -- part           a factor as the builder is given it, its minimal element left out where min is set
 -- listed         listsOf of two factors as the builder is given them
+-- built          the product of the same, written out
 -- Ready          Plan of the same, with the slices that are to be written
 -- Plan           what the builder stands on: the factors' lists are there, what they name exists, the lists of the
 --                product are those of the pairs, and there is room for all
@@ -29,9 +30,9 @@ use lib.Dec.{eqb}
 use lib.ListN.{length, getD}
 use Rattle.order.specs.Lists.{In}
 use Rattle.order.specs.Sums.{sum}
-use Rattle.listing.specs.Listing.{before, entries, Ends, limits}
+use Rattle.listing.specs.Listing.{Listing, before, entries, Ends, limits}
 use Rattle.listing.specs.Layers.{Layers, derived}
-use Rattle.listing.specs.Written.{table, nth}
+use Rattle.listing.specs.Written.{table, nth, written}
 use Rattle.pairing.specs.Trimmed.{bit}
 use Rattle.pairing.specs.Paired.{paired}
 use Rattle.pairing.specs.Grown.{grown}
@@ -121,6 +122,11 @@ part min counts ends inc = factor counts (bit min) ends inc
 
 abbrev pub listed : Bool → Bool → List ℕ → List ℕ → List ℕ → List ℕ → List ℕ → List ℕ → ℕ → List ℕ
 listed min max p pends pinc q qends qinc = listsOf min max (part min p pends pinc) (part min q qends qinc)
+
+abbrev pub built : Bool → Bool → List ℕ → List ℕ → List ℕ → List ℕ → List ℕ → List ℕ → Listing
+built min max p pends pinc q qends qinc =
+    let T = target min max (part min p pends pinc) (part min q qends qinc) in
+    written T (derived T)
 
 abbrev pub Ready : Bool → Bool → List ℕ → List ℕ → List ℕ → List ℕ → List ℕ → List ℕ → List ℕ → List ℕ → List ℕ
     → List ℕ → Type 0

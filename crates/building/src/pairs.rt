@@ -11,7 +11,7 @@ ghost use lib.Dec.{eqb};
 ghost use lib.ListN.{length, getD};
 ghost use Rattle.listing.specs.Listing.{entries, Ends};
 ghost use Rattle.pairing.specs.Trimmed.{bit};
-ghost use Rattle.building.specs.Filling.{starts, Put};
+ghost use Rattle.building.specs.Filling.{starts, Row, Put};
 ghost use Rattle.building.specs.Pairs.{part, used, listed, pairsTo, firstAt, number, sizeOf, Ready};
 ghost use Rattle.building.specs.Blocks.{BlockOf};
 
@@ -250,8 +250,7 @@ fn put_ranks(
     to
 }
 
-// All elements: the added minimal one, the pairs, the added maximal one, as they are asked for. Returns the place after
-// them.
+// All elements: the added minimal one, the pairs, the added maximal one, as they are asked for. Returns how many they are.
 pub fn put_elements(
     min: bool,
     max: bool,
@@ -268,8 +267,9 @@ pub fn put_elements(
 ) -> usize
     requires { ⌜ Ready min max (now p) (now pends) (now pinc) (now q) (now qends) (now qinc) (now upp) (now upq)
         (now ends) (now inc) ⌝ }
-    ensures { λ r. ⌜ Put (listed min max (now (p .entry)) (now (pends .entry)) (now (pinc .entry)) (now (q .entry))
-        (now (qends .entry)) (now (qinc .entry))) (0) (sizeOf min max (now (p .entry)) (now (q .entry))) r
+    ensures { λ r. ⌜ r ≡ sizeOf min max (now (p .entry)) (now (q .entry)) ⌝ }
+    ensures { λ r. ⌜ Row (listed min max (now (p .entry)) (now (pends .entry)) (now (pinc .entry)) (now (q .entry))
+        (now (qends .entry)) (now (qinc .entry))) (sizeOf min max (now (p .entry)) (now (q .entry)))
         (now (ends .entry)) (now (inc .entry)) (now (ends .exit)) (now (inc .exit)) ⌝ }
 {
     let lowest = block::pairs_in(p, q, 0, 1);
@@ -278,5 +278,6 @@ pub fn put_elements(
     let ranks = p.len() + q.len() - 1;
     let e = block::bit_of(min) + block::pairs_to(p, q, ranks);
     let highest = block::pairs_in(p, q, ranks - 1, ranks);
-    put::put_max(&mut *ends, &mut *inc, max, e, to, highest)
+    put::put_max(&mut *ends, &mut *inc, max, e, to, highest);
+    e + block::bit_of(max)
 }

@@ -3,7 +3,7 @@ use Rattle.building.specs.Filling.{Put}
 use mathlib.Core.List.{List}
 use Rattle.building.proofs.Extremes.{sizes, min-put, max-asked, max-put}
 use Rattle.building.proofs.Fits.{plan-room, first-few}
-use Rattle.building.proofs.Rows.{put-then}
+use Rattle.building.proofs.Rows.{row-none, put-then}
 use native.Mathlib.Omega.{arith}
 use mathlib.Core.Path.{_≡_, refl, sym, ap, _∙_}
 use Prim.Native.Nat.{ℕ, zero, suc, _+_, _-_, _*_, _≤_, _<_}
@@ -71,6 +71,18 @@ all c =
     (max-put _ _ (P s) (Q s) _ _ _ _ (plan-room (s .pre) _ _ (b .ends-length) (b .inc-length)) _ _ _ (b .place)
     (c .before .before .before .before .before .before .before .pairs-in2 .ensures) (omega arith) _ _ _ _ _ refl (w .0) (w .1 .0) (w .1 .1))
 
+-- how many there are
+number : (c : tie.After-bit-of2)
+    → let s = c .before .before .before .before .before .before .before .before .before .before .before .before .before .before .before .before .before .before .before .before .before .before .before .before .before .before .before .before .before .before .before .before .before in
+    c .before .before .before .before .before .before .before .before .before .before .bit-of .result + c .before .before .before .before .before .before .before .before .before .pairs-to .result + c .bit-of2 .result
+    ≡ sizeOf (s .args .min) (s .args .max) (s .args .p .now) (s .args .q .now)
+number c =
+    let s = c .before .before .before .before .before .before .before .before .before .before .before .before .before .before .before .before .before .before .before .before .before .before .before .before .before .before .before .before .before .before .before .before .before in
+    let b = c .before .before .before .before .before .before .before .before .before .before .bit-of .ensures in
+    let k = c .before .before .before .before .before .before .before .before .before .pairs-to .ensures in
+    let m = c .bit-of2 .ensures in
+    omega (arith, sizes _ _ (P s) (Q s) _ _ _ _ (s .pre))
+
 -- src/pairs.rt:275:9
 pairs-in-requires : tie.Need-pairs-in-requires
 pairs-in-requires c κs = search needs
@@ -126,17 +138,25 @@ put-max-requires c κs = let s = c .before .before .before .before .before .befo
     max-asked _ _ (P s) (Q s) _ _ _ _ (plan-room (s .pre) _ _ (b .ends-length) (b .inc-length)) _ _ _ (b .place)
     (c .before .before .pairs-in2 .ensures) (omega arith)
 
--- src/pairs.rt:255:1
+-- src/x
+bit-of-requires-2 : tie.Need-bit-of-requires-2
+bit-of-requires-2 c κs = search needs
+
+-- src/x
+add-result : tie.Need-add-result
+add-result c = let n = number c in omega (arith, (c .before .before .before .before .before .before .before .before .before .before .before .before .before .before .before .before .before .before .before .before .before .before .before .before .before .before .before .before .before .before .before .before .before) .pre .elements)
+
+-- src/x
 same-length : tie.Need-same-length
-same-length c = all c .ends-length
+same-length c = all (c .before) .ends-length
 
--- src/pairs.rt:255:1
+-- src/x
 same-length-2 : tie.Need-same-length-2
-same-length-2 c = all c .inc-length
+same-length-2 c = all (c .before) .inc-length
 
--- src/pairs.rt:255:1
+-- src/x
 returns : tie.Need-returns
-returns c = all c
+returns c = (number c, all (c .before) .row _ _ (row-none _ _ _))
 
 pub put-elements-spec : {M : Type 1} → statement M
 put-elements-spec =
@@ -153,6 +173,8 @@ put-elements-spec =
     sub-pairs-in
     pairs-in-requires-2
     put-max-requires
+    bit-of-requires-2
+    add-result
     same-length
     same-length-2
     returns)
