@@ -32,11 +32,6 @@ pub nullitope-closed : Closed limits nullitope
 unfolding answered
 nullitope-closed = closed-exact limits nullitope .0 refl
 
--- exchanging the factors does not change the case
-pub null-exchanged : (min max : Bool) (A B : Listing) → nullCase min max A B ≡ nullCase min max B A
-unfolding nullCase
-null-exchanged min max A B = ap (λ t. (min || max) && t) (or-comm (eqb (rank A) 0) (eqb (rank B) 0))
-
 -- ---- ranks
 
 none : (a b : Bool) → a || b ≡ false → (a ≡ false) × (b ≡ false)
@@ -71,6 +66,11 @@ needed false true A B n c = let p = neither 0 A B .0 n in (omega arith, omega ar
 needed false false A B n c = (omega arith, omega arith)
 
 -- ---- the first and the second factor
+
+-- exchanging the factors does not change whether it is the null case
+pub null-exchanged : (min max : Bool) (A B : Listing) → nullCase min max A B ≡ nullCase min max B A
+unfolding nullCase
+null-exchanged min max A B = ap (λ t. (min || max) && t) (or-comm (eqb (rank A) 0) (eqb (rank B) 0))
 
 -- what both factors have, the first and the second have
 pub both : (P : Listing → Type 0) (min : Bool) (A B : Listing) → P A → P B → P (first min A B) × P (second min A B)

@@ -36,8 +36,9 @@ productOf-framed : (min max : Bool) (A B : Listing) → Framed A → Framed B �
 productOf-framed min max A B gA gB p q =
     let sA = incident-sound A (gA .1) in
     let sB = incident-sound B (gB .1) in
-    let f =
-    productOf-frame min max A B sA sB p q (framed A (gA .0) (gA .1)) (framed B (gB .0) (gB .1)) in (
+    let fA = framed A (gA .0) (gA .1) in
+    let fB = framed B (gB .0) (gB .1) in
+    let f = productOf-frame min max A B sA sB p q fA fB in (
       frame-bounded (productOf min max A B) f,
       frame-incident (productOf min max A B) f (productOf-sound min max A B sA sB) (productOf-derived min max A B),
     )
@@ -55,8 +56,8 @@ result-framed min max A B gA gB c = go (nullCase min max A B) refl
         rw (result-product min max A B e)
         (productOf-framed min max (first min A B) (second min A B) (g .0) (g .1) (r .0) (r .1))
 
--- Whatever two listings is_valid accepts, and whichever product that is no refused duocomb: the result has one minimal
--- and one maximal element and its incidences are right.
+-- Whatever two listings is_valid accepts, and whichever product, unless it is a duocomb that is refused: the result has
+-- one minimal and one maximal element, and its incidences are right.
 pub product-framed : (min max : Bool) (m : Limits) (A B : Listing) → isValid m A .no ≡ 0 → isValid m B .no ≡ 0
     → combCase min max A B ≡ false → Bounded (resultOf min max A B) × Incident (resultOf min max A B)
 product-framed min max m A B vA vB c =
@@ -64,6 +65,7 @@ product-framed min max m A B vA vB c =
     let b = valid-exact m B .0 vB in
     result-framed min max A B (a .1, a .2) (b .1, b .2) c
 
+-- Tests 1 and 2 say so.
 pub product-tests : (min max : Bool) (m : Limits) (A B : Listing) → isValid m A .no ≡ 0 → isValid m B .no ≡ 0
     → combCase min max A B ≡ false
     → (boundedTest (resultOf min max A B) .no ≡ 0) × (incidencesTest (resultOf min max A B) .no ≡ 0)

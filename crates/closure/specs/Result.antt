@@ -7,7 +7,8 @@
 -- combCase        the duocomb with a factor of rank 1, and none of rank 0
 -- resultOf        the product: the nullitope in the null case, else that of the pairs
 -- duopyramidOf, duoprismOf, duotegumOf, duocombOf   the four by name
--- HighEnough      the ranks of two closed factors at which the product is closed
+-- HighEnough      the ranks of two closed factors at which the product is closed: all for the duopyramid, from 1 for
+--                 duoprism and duotegum, from 2 and not both 2 for the duocomb
 use mathlib.Core.Bool.{Bool, true, false, not, _&&_, _||_}
 use Prim.Native.Nat.{ℕ, _+_, _≤_}
 use lib.Dec.{eqb}

@@ -2,10 +2,10 @@
 --
 -- allElements   the elements of all ranks of layers
 -- Sizes         how many ranks, elements and incidences there are
--- sizesOf       those of the product of two factors, by their elements in use. The ranks in use add up, and each added
---               end makes one more. Elements make pairs, and each added end makes one more. Each sub of one member
---               makes one for each element that it is paired with; the added ends bring one for each lowest and each
---               highest pair; and with each sub there is its sup.
+-- sizesOf       those of the product of two factors, by what a product uses of them. Highest ranks add up, and each
+--               added end makes one rank more. Elements make pairs, and each added end is one element more. Each sub of
+--               an element makes one for each element that it is paired with; an added end brings one for each lowest
+--               or each highest pair; and with each sub there is its sup.
 -- Within        the sizes are within the limits
 use mathlib.Core.Bool.{Bool}
 use Prim.Native.Nat.{ℕ, suc, _+_, _*_, _≤_}
@@ -27,13 +27,13 @@ unfoldable pub sizesOf : Bool → Bool → Layers → Layers → Sizes
 sizesOf min max A B =
     let p = trimmed min max A in
     let q = trimmed min max B in
+    let pairs = allSubs p * allElements q + allElements p * allSubs q in
+    let lowest = p .size 0 * q .size 0 in
+    let highest = p .size (p .top) * q .size (q .top) in
     record {
       ranks = suc (p .top + q .top + bit min + bit max);
       elements = allElements p * allElements q + bit min + bit max;
-      incidences =
-          2
-          * (allSubs p * allElements q + allElements p * allSubs q + bit min * (p .size 0 * q .size 0)
-          + bit max * (p .size (p .top) * q .size (q .top)));
+      incidences = 2 * (pairs + bit min * lowest + bit max * highest);
     }
 
 pub record Within (m : Limits) (s : Sizes) : Type 0 where
