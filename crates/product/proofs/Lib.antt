@@ -1,3 +1,5 @@
 pub mod Tests
 pub mod Parts
 pub mod Counted
+pub mod Targets
+pub mod Lists
