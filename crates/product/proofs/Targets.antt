@@ -1,23 +1,27 @@
 -- What the builder is asked to write is the product.
 -- Assumes nothing.
-use mathlib.Core.Path.{_≡_, refl, sym, ap}
+use mathlib.Core.Path.{_≡_, refl, sym, ap, _∙_}
 use mathlib.Core.Bool.{Bool, true, false}
 use mathlib.Core.List.{List}
-use Prim.Native.Nat.{ℕ, zero, suc, _<_}
+use Prim.Native.Nat.{ℕ, zero, suc, pred, _<_}
 use native.Mathlib.Decide.{decLt}
 use native.Mathlib.Omega.{arith}
 use Rattle.order.specs.Sums.{choose}
 use Rattle.order.specs.Pairs.{Pairs}
-use Rattle.listing.specs.Listing.{Listing}
-use Rattle.listing.specs.Layers.{Layers, layers, order, derived}
+use Rattle.listing.specs.Listing.{Listing, limits}
+use Rattle.listing.specs.Layers.{Layers, Topped, layers, order, derived}
 use Rattle.listing.specs.Written.{written}
 use Rattle.listing.proofs.Rewritten.{written-same}
+use Rattle.pairing.specs.Sound.{Sound}
 use Rattle.pairing.specs.Paired.{El, block, offset, position, pairOf, pairAt, leftSubs, rightSubs, pairSubs, paired}
 use Rattle.pairing.specs.Grown.{upTo, minSize, minUnder, maxSize, maxUnder, addMin, addMax, grown}
 use Rattle.pairing.specs.Product.{product, productOf}
+use Rattle.pairing.proofs.Trimmed.{trimmed-sound}
 use Rattle.pairing.proofs.Positions.{pairAt-exists}
-use Rattle.closure.proofs.Alike.{Alike, alike-derived}
-use Rattle.building.specs.Pairs.{target}
+use Rattle.pairing.proofs.Product.{product-topped, product-sound}
+use Rattle.closure.proofs.Alike.{Alike, alike-derived, alike-exists}
+use Rattle.closure.proofs.Valid.{valid-sound}
+use Rattle.building.specs.Pairs.{factorLayers, target}
 use Rattle.product.specs.Made.{Usable, partOf}
 use Rattle.product.proofs.Parts.{part-alike}
 
@@ -36,6 +40,18 @@ alike-layers {M} {N} k = λ t. record {
   size = λ r. sym (k .same-size r) t;
   under = N .under;
 }
+
+module _ {M N : Layers} (k : Alike M N) where
+  alike-topped : Topped M → Topped N
+  unfolding Topped
+  alike-topped t r h = k .same-size r ∙ t r (omega (arith, k .same-top))
+
+  alike-sound : Sound M → Sound N
+  unfolding Sound
+  alike-sound s r b a h m =
+      let e = alike-exists k (r, b) .0 h in
+      let z = s r b a e (rw (k .same-under r b e) at m) in
+      (z .0, alike-exists k (pred r, a) .1 (z .1))
 
 -- ---- pairs
 
@@ -118,3 +134,15 @@ module _ (min max : Bool) (A B : Listing) (uA : Usable min max A) (uB : Usable m
       let k = target-alike in
       sym (written-same _ T _ (derived T) (sym (k .same-top)) (λ r. sym (k .same-size r))
       (λ r i h. sym (k .same-under r i h)) (λ r i h. sym (alike-derived k r i)))
+
+  pub target-topped : Topped T
+  target-topped = alike-topped target-alike (product-topped min max (layers A) (layers B))
+
+  pub target-sound : Sound T
+  target-sound =
+      alike-sound target-alike
+      (product-sound min max (layers A) (layers B) (valid-sound limits A (uA .valid)) (valid-sound limits B (uB .valid)))
+
+pub part-sound : (min max : Bool) (L : Listing) → Usable min max L → Sound (factorLayers (partOf min max L))
+part-sound min max L u =
+    alike-sound (part-alike min max L u) (trimmed-sound min max (layers L) (valid-sound limits L (u .valid)))
