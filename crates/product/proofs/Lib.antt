@@ -6,3 +6,4 @@ pub mod Lists
 pub mod Entries
 pub mod Past
 pub mod Planned
+pub mod Made

@@ -17,11 +17,12 @@ use Rattle.listing.proofs.Written.{joined-length, written-elements, written-end
 use Rattle.pairing.specs.Trimmed.{bit}
 use Rattle.pairing.specs.Product.{productOf}
 use Rattle.building.specs.Filling.{starts}
-use Rattle.building.specs.Pairs.{Factor, target, listsOf, sizeOf, Plan}
+use Rattle.building.specs.Pairs.{Factor, target, part, listsOf, listed, sizeOf, built, Plan, Ready}
 use Rattle.building.specs.Sups.{UpCounts, Derives}
 use Rattle.building.proofs.Target.{target-size}
 use Rattle.product.specs.Made.{Usable, inUse, partOf}
 use Rattle.product.proofs.Parts.{usable-shaped, in-use-length}
+use Rattle.product.proofs.Tests.{Passed}
 use Rattle.product.proofs.Counted.{in-use-few}
 use Rattle.product.proofs.Targets.{target-written, target-topped, target-sound, part-sound}
 use Rattle.product.proofs.Lists.{pair-under, pair-over}
@@ -114,3 +115,22 @@ module _ (min max : Bool) (A B : Listing) (uA : Usable min max A) (uB : Usable m
           room-for-inc = omega (arith, inc-R);
           incidences = omega (arith, inc-R);
         }
+
+  -- ---- the same, of the counts x and y that the code has in hand
+
+  module _ (x y : List ℕ) (ex : x ≡ P .counts) (ey : y ≡ Q .counts) where
+    pub built-is : built min max x (A .ends) (A .inc) y (B .ends) (B .inc) ≡ R
+    built-is = rw (ex, ey) (target-written min max A B uA uB)
+
+    pub build-asked : (counts ends inc : List ℕ) → Passed limits R (length counts) (length ends) (length inc)
+        → ((upP upQ : List ℕ) → UpCounts (part min x (A .ends) (A .inc)) upP
+        → UpCounts (part min y (B .ends) (B .inc)) upQ
+        → Ready min max x (A .ends) (A .inc) y (B .ends) (B .inc) upP upQ ends inc)
+        × (Derives (built min max x (A .ends) (A .inc) y (B .ends) (B .inc) .counts)
+        (listed min max x (A .ends) (A .inc) y (B .ends) (B .inc))
+        × (length (built min max x (A .ends) (A .inc) y (B .ends) (B .inc) .counts) ≤ length counts))
+    build-asked counts ends inc h = (
+      rw (ex, ey)
+      (planned (h .few-elements) (h .few-incidences) (length ends) (length inc) (h .room-ends) (h .room-inc)),
+      (rw (ex, ey) planned-derives, rw built-is (h .room-counts)),
+    )

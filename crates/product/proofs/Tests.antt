@@ -1,10 +1,10 @@
 -- The tests of a product in their order: the first that fails decides, one law for each.
 -- Assumes nothing.
 use mathlib.Core.Path.{_≡_, refl, ap}
-use mathlib.Core.Bool.{true, false}
+use mathlib.Core.Bool.{Bool, true, false, true≢false, _||_}
 use Prim.Native.Nat.{ℕ, zero, suc, _*_, _≤_, _<_}
 use native.Mathlib.Omega.{arith}
-use borrow.Author.Tests.{lt-ltb, le-ltb, eq-eqb, ne-eqb, eqb-true, not-false}
+use borrow.Author.Tests.{lt-ltb, le-ltb, eq-eqb, ne-eqb, eqb-true, ltb-false, not-false}
 use lib.ListN.{length}
 use Rattle.listing.specs.declared.Answer.{Answer}
 use Rattle.listing.specs.Refusals.{leftInvalid, rightInvalid, combOfPoint}
@@ -77,3 +77,34 @@ module _ (m : Limits) (R : Listing) (c e i : ℕ) where
             unfolding sizeTest _orElse_
             sizes-fine h =
                 rw (le-ltb _ _ h1, le-ltb _ _ h2, le-ltb _ _ h3, le-ltb c _ h4, le-ltb e _ h5, le-ltb i _ h)
+
+-- ---- what they ask, where none fails
+
+or-none : (a b : Bool) → a || b ≡ false → (a ≡ false) × (b ≡ false)
+or-none true b e = absurd (true≢false e)
+or-none false b e = (refl, e)
+
+pub record Passed (m : Limits) (R : Listing) (c e i : ℕ) : Type 0 where
+  pub few-ranks : length (R .counts) ≤ m .ranks
+  pub few-elements : elements R ≤ m .elements
+  pub few-incidences : length (R .inc) ≤ m .incidences
+  pub room-counts : length (R .counts) ≤ c
+  pub room-ends : length (R .ends) ≤ e
+  pub room-inc : length (R .inc) ≤ i
+
+pub sizes-passed : (m : Limits) (R : Listing) (c e i : ℕ) → sizeTest m R c e i .no ≡ 0 → Passed m R c e i
+unfolding sizeTest
+sizes-passed m R c e i z =
+    let p1 = on-or-no _ (plain productRanks) _ (λ w. omega arith) z in
+    let p2 = on-or-no _ (plain productElements) _ (λ w. omega arith) (p1 .1) in
+    let p3 = on-or-no _ (plain productIncidences) _ (λ w. omega arith) (p2 .1) in
+    let p4 = or-none _ _ (on-no _ (plain outputShort) (λ w. omega arith) (p3 .1)) in
+    let p5 = or-none _ _ (p4 .1) in
+    record {
+      few-ranks = ltb-false _ _ (p1 .0);
+      few-elements = ltb-false _ _ (p2 .0);
+      few-incidences = ltb-false _ _ (p3 .0);
+      room-counts = ltb-false _ _ (p4 .0);
+      room-ends = ltb-false _ _ (p5 .0);
+      room-inc = ltb-false _ _ (p5 .1);
+    }

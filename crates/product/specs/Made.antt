@@ -1,6 +1,7 @@
 -- What the functions inside answer and leave.
 --
 -- factorsTest   30 and 31: is_valid refuses the left factor, the right one
+-- restTest      what is tested of valid factors: 32, and then the sizes
 -- Usable        a factor that is_valid accepts, high enough for the ends that are left out of the pairs
 -- inUse         the counts of a factor's ranks in use
 -- partOf        a factor as the builder is given it
@@ -16,7 +17,7 @@ use lib.Dec.{eqb}
 use lib.ListN.{length, take, drop}
 use Rattle.order.specs.Ends.{need}
 use Rattle.listing.specs.declared.Answer.{Answer}
-use Rattle.listing.specs.Refusals.{leftInvalid, rightInvalid}
+use Rattle.listing.specs.Refusals.{leftInvalid, rightInvalid, combOfPoint}
 use Rattle.listing.specs.Answers.{plain, on, _orElse_}
 use Rattle.listing.specs.Listing.{Listing, Limits, limits, rank}
 use Rattle.listing.specs.Shape.{elements}
@@ -24,17 +25,22 @@ use Rattle.listing.specs.Layers.{Layers}
 use Rattle.valid.specs.Tests.{isValid}
 use Rattle.pairing.specs.Trimmed.{bit}
 use Rattle.pairing.specs.Lengths.{allSubs}
+use Rattle.closure.specs.Result.{combCase, resultOf}
 use Rattle.closure.specs.Sizes.{allElements}
 use Rattle.building.specs.Pairs.{Factor, part}
 use Rattle.product.specs.declared.Built.{Built}
 use Rattle.product.specs.declared.sizes.Used.{Used}
 use Rattle.product.specs.declared.sizes.Sizes.{Sizes}
-use Rattle.product.specs.Outcome.{builtOf, after}
+use Rattle.product.specs.Outcome.{sizeTest, builtOf, after}
 
 unfoldable pub factorsTest : Limits → Listing → Listing → Answer
 factorsTest m A B =
     on (not (eqb (isValid m A .no) 0)) (plain leftInvalid) orElse
     on (not (eqb (isValid m B .no) 0)) (plain rightInvalid)
+
+unfoldable pub restTest : Limits → Bool → Bool → Listing → Listing → ℕ → ℕ → ℕ → Answer
+restTest m min max A B c e i =
+    on (combCase min max A B) (plain combOfPoint) orElse sizeTest m (resultOf min max A B) c e i
 
 pub record Usable (min max : Bool) (L : Listing) : Type 0 where
   pub valid : isValid limits L .no ≡ 0
