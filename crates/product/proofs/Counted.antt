@@ -118,8 +118,8 @@ module _ (min max : Bool) (L : Listing) (u : Usable min max L) where
   subs-in-use =
       let n : bit min + before p (length p) - (bit min + getD p 0 0) ≡ before p (length p) - getD p 0 0 = omega arith in
       let s = sum-same (λ k. length (entries (L .ends) (L .inc) (2 * (bit min + getD p 0 0 + k))))
-          (λ k. g (getD p 0 0 + k)) (before p (length p) - getD p 0 0)
-          (λ k l. ap (λ (t : ℕ). length (entries (L .ends) (L .inc) (2 * t))) (omega arith)) in
+      (λ k. g (getD p 0 0 + k)) (before p (length p) - getD p 0 0)
+      (λ k l. ap (λ (t : ℕ). length (entries (L .ends) (L .inc) (2 * t))) (omega arith)) in
       let z = rankSubs-lowest M (trimmed-sound min max (layers L) (valid-sound limits L (u .valid))) in
       rw n (omega (arith, s, by-ranks, lowest-first, lowest-alone, z, sum-first (rankSubs M) (M .top)))
 
@@ -175,21 +175,32 @@ ranks-add a b m n x y p q = omega arith
 
 module _ (min max : Bool) (A B : Listing) (uA : Usable min max A) (uB : Usable min max B) (p q : Used)
     (cp : Counted (trimmed min max (layers A)) p) (cq : Counted (trimmed min max (layers B)) q) (s : Sizes)
-    where
-  pub measured : s .ranks ≡ p .ranks + q .ranks - 1 + bit min + bit max
-      → s .elements ≡ p .elements * q .elements + bit min + bit max
-      → s .incidences ≡ 2 * (p .subs * q .elements + q .subs * p .elements + bit min * (p .lowest * q .lowest)
-      + bit max * (p .highest * q .highest))
-      → Measures (productOf min max A B) s
-  unfolding sizesOf
-  measured er ee ei =
-      let n = productOf-elements min max A B ∙ sym (rw (cp .elements, cq .elements) at ee) in
-      record {
-        ranks = productOf-ranks min max A B ∙ ranks-add _ _ _ _ _ _ (cp .ranks) (cq .ranks) ∙ sym er;
-        elements = n;
-        ends = productOf-ends min max A B ∙ ap (λ k. 2 * k) (sym (productOf-elements min max A B) ∙ n);
-        incidences =
-            productOf-incidences min max A B (valid-sound limits A (uA .valid)) (valid-sound limits B (uB .valid))
-            ∙ omega (arith, rw (cp .subs, cp .elements, cp .lowest, cp .highest, cq .subs, cq .elements, cq .lowest,
-                cq .highest) at ei);
-      }
+  where
+    pub measured : s .ranks ≡ p .ranks + q .ranks - 1 + bit min + bit max
+        → s .elements ≡ p .elements * q .elements + bit min + bit max
+        → s .incidences ≡ 2 * (p .subs * q .elements + q .subs * p .elements + bit min * (p .lowest * q .lowest)
+        + bit max * (p .highest * q .highest))
+        → Measures (productOf min max A B) s
+    unfolding sizesOf
+    measured er ee ei =
+        let n = productOf-elements min max A B ∙ sym (rw (cp .elements, cq .elements) at ee) in
+        record {
+          ranks = productOf-ranks min max A B ∙ ranks-add _ _ _ _ _ _ (cp .ranks) (cq .ranks) ∙ sym er;
+          elements = n;
+          ends = productOf-ends min max A B ∙ ap (λ k. 2 * k) (sym (productOf-elements min max A B) ∙ n);
+          incidences =
+              productOf-incidences min max A B (valid-sound limits A (uA .valid)) (valid-sound limits B (uB .valid))
+              ∙ omega (
+                arith,
+                rw (
+                  cp .subs,
+                  cp .elements,
+                  cp .lowest,
+                  cp .highest,
+                  cq .subs,
+                  cq .elements,
+                  cq .lowest,
+                  cq .highest,
+                ) at ei,
+              );
+        }

@@ -56,8 +56,12 @@ module _ (T : Layers) (t : Topped T) where
   unfolding Derives listAt
   written-derives r x h =
       let k = rw (written-count T (derived T) t r) at h in
-      rw (written-before T (derived T) t r, add-one r, written-before T (derived T) t (suc r),
-      written-count T (derived T) t (suc r))
+      rw (
+        written-before T (derived T) t r,
+        add-one r,
+        written-before T (derived T) t (suc r),
+        written-count T (derived T) t (suc r),
+      )
       (nth-at T (derived T) 1 r x (omega arith) (in-range T t r x k) k ∙ sym (numbered-derived r x))
 
   -- ---- numbers are small

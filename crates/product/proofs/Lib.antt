@@ -7,3 +7,4 @@ pub mod Entries
 pub mod Past
 pub mod Planned
 pub mod Made
+pub mod Chain

@@ -196,7 +196,7 @@ over-at min true P Q sP sQ i a j b ha hb = go (decLt (i + j) (length (P .counts)
         (inner-over min true P Q i a j b ha hb sP sQ (omega arith) ∙ omega arith)
     go (no l) =
         let t : i + j ≡ length (P .counts) - 1 + (length (Q .counts) - 1)
-            = omega (arith, low-enough min true P Q i a j b ha hb) in
+        = omega (arith, low-enough min true P Q i a j b ha hb) in
         let z = highest min true P Q i a j b ha hb t in
         rw (eq-eqb (i + j + 2) (length (P .counts) + length (Q .counts)) (omega (arith, p, q)))
         (highest-over min P Q i a j b ha hb t ∙ omega (arith, z))
@@ -210,17 +210,17 @@ counted-over P up u i a h = derived-length (factorLayers P) i a ∙ rw (← add-
 -- ---- the same, as a plan has it
 
 module _ (min max : Bool) (P Q : Factor) (i a j b : ℕ) (ha : a < getD (P .counts) i 0) (hb : b < getD (Q .counts) j 0)
-    where
-  pub pair-under : listsOf min max P Q (2 * number min (P .counts) (Q .counts) i a j b) ≡ underPair min P Q i a j b
-  unfolding listAt
-  pair-under =
-      let z : 2 * number min (P .counts) (Q .counts) i a j b ≡ 2 * number min (P .counts) (Q .counts) i a j b + 0 = omega arith in
-      rw z (pair-lists min max P Q i a j b ha hb 0 (omega arith) ∙ under-at min max P Q i a j b ha hb)
+  where
+    pub pair-under : listsOf min max P Q (2 * number min (P .counts) (Q .counts) i a j b) ≡ underPair min P Q i a j b
+    unfolding listAt
+    pair-under =
+        let z : 2 * number min (P .counts) (Q .counts) i a j b ≡ 2 * number min (P .counts) (Q .counts) i a j b + 0 = omega arith in
+        rw z (pair-lists min max P Q i a j b ha hb 0 (omega arith) ∙ under-at min max P Q i a j b ha hb)
 
-  pub pair-over : Sound (factorLayers P) → Sound (factorLayers Q) → (upP upQ : List ℕ) → UpCounts P upP → UpCounts Q upQ
-      → length (listsOf min max P Q (2 * number min (P .counts) (Q .counts) i a j b + 1))
-      ≡ overPair max P Q upP upQ i a j b
-  unfolding listAt overPair
-  pair-over sP sQ upP upQ cP cQ =
-      ap length (pair-lists min max P Q i a j b ha hb 1 (omega arith)) ∙ over-at min max P Q sP sQ i a j b ha hb
-      ∙ rw (counted-over P upP cP i a ha, counted-over Q upQ cQ j b hb)
+    pub pair-over : Sound (factorLayers P) → Sound (factorLayers Q) → (upP upQ : List ℕ) → UpCounts P upP → UpCounts Q upQ
+        → length (listsOf min max P Q (2 * number min (P .counts) (Q .counts) i a j b + 1))
+        ≡ overPair max P Q upP upQ i a j b
+    unfolding listAt overPair
+    pair-over sP sQ upP upQ cP cQ =
+        ap length (pair-lists min max P Q i a j b ha hb 1 (omega arith)) ∙ over-at min max P Q sP sQ i a j b ha hb
+        ∙ rw (counted-over P upP cP i a ha, counted-over Q upQ cQ j b hb)

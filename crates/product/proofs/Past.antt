@@ -139,5 +139,5 @@ highest-past min true A B uA uB t few k x h n =
 highest-past min false A B uA uB t few k x h n =
     let m = M min false A B in
     let o = low-past min m k x (λ g. pairs-past _ _ (m .top) k g (lowest-some min false B uB)
-        (λ i l. used-past min A uA (m .top) i (omega arith) l) (λ j. refl)) h n in
+    (λ i l. used-past min A uA (m .top) i (omega arith) l) (λ j. refl)) h n in
     omega arith

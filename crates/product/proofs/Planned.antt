@@ -131,6 +131,6 @@ module _ (min max : Bool) (A B : Listing) (uA : Usable min max A) (uB : Usable m
         × (length (built min max x (A .ends) (A .inc) y (B .ends) (B .inc) .counts) ≤ length counts))
     build-asked counts ends inc h = (
       rw (ex, ey)
-      (planned (h .few-elements) (h .few-incidences) (length ends) (length inc) (h .room-ends) (h .room-inc)),
+          (planned (h .few-elements) (h .few-incidences) (length ends) (length inc) (h .room-ends) (h .room-inc)),
       (rw (ex, ey) planned-derives, rw built-is (h .room-counts)),
     )

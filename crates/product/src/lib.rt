@@ -34,7 +34,19 @@ pub fn duopyramid(
         (now (counts .entry)) (now (ends .entry)) (now (inc .entry)) (now (counts .exit)) (now (ends .exit))
         (now (inc .exit)) r ⌝ }
 {
-    make::make(false, false, pcounts, pends, pinc, qcounts, qends, qinc, &mut *counts, &mut *ends, &mut *inc)
+    make::make(
+        false,
+        false,
+        pcounts,
+        pends,
+        pinc,
+        qcounts,
+        qends,
+        qinc,
+        &mut *counts,
+        &mut *ends,
+        &mut *inc,
+    )
 }
 
 // The duoprism: the pairs without minimal elements, and one added.
@@ -54,7 +66,19 @@ pub fn duoprism(
         (now (counts .entry)) (now (ends .entry)) (now (inc .entry)) (now (counts .exit)) (now (ends .exit))
         (now (inc .exit)) r ⌝ }
 {
-    make::make(true, false, pcounts, pends, pinc, qcounts, qends, qinc, &mut *counts, &mut *ends, &mut *inc)
+    make::make(
+        true,
+        false,
+        pcounts,
+        pends,
+        pinc,
+        qcounts,
+        qends,
+        qinc,
+        &mut *counts,
+        &mut *ends,
+        &mut *inc,
+    )
 }
 
 // The duotegum: the pairs without maximal elements, and one added.
@@ -74,7 +98,19 @@ pub fn duotegum(
         (now (counts .entry)) (now (ends .entry)) (now (inc .entry)) (now (counts .exit)) (now (ends .exit))
         (now (inc .exit)) r ⌝ }
 {
-    make::make(false, true, pcounts, pends, pinc, qcounts, qends, qinc, &mut *counts, &mut *ends, &mut *inc)
+    make::make(
+        false,
+        true,
+        pcounts,
+        pends,
+        pinc,
+        qcounts,
+        qends,
+        qinc,
+        &mut *counts,
+        &mut *ends,
+        &mut *inc,
+    )
 }
 
 // The duocomb: the pairs without minimal and maximal elements, and one of each added.
@@ -94,5 +130,17 @@ pub fn duocomb(
         (now (counts .entry)) (now (ends .entry)) (now (inc .entry)) (now (counts .exit)) (now (ends .exit))
         (now (inc .exit)) r ⌝ }
 {
-    make::make(true, true, pcounts, pends, pinc, qcounts, qends, qinc, &mut *counts, &mut *ends, &mut *inc)
+    make::make(
+        true,
+        true,
+        pcounts,
+        pends,
+        pinc,
+        qcounts,
+        qends,
+        qinc,
+        &mut *counts,
+        &mut *ends,
+        &mut *inc,
+    )
 }

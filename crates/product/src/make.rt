@@ -139,7 +139,17 @@ fn product(
     let p = sizes::range(min, max, pcounts);
     let q = sizes::range(min, max, qcounts);
     build::build(
-        min, max, p, pends, pinc, q, qends, qinc, &mut *counts, &mut *ends, &mut *inc,
+        min,
+        max,
+        p,
+        pends,
+        pinc,
+        q,
+        qends,
+        qinc,
+        &mut *counts,
+        &mut *ends,
+        &mut *inc,
     );
     written(t, s)
 }
@@ -179,11 +189,31 @@ fn product_of_valid(
     }
     if min {
         return product(
-            min, max, pcounts, pends, pinc, qcounts, qends, qinc, &mut *counts, &mut *ends, &mut *inc,
+            min,
+            max,
+            pcounts,
+            pends,
+            pinc,
+            qcounts,
+            qends,
+            qinc,
+            &mut *counts,
+            &mut *ends,
+            &mut *inc,
         );
     }
     product(
-        min, max, qcounts, qends, qinc, pcounts, pends, pinc, &mut *counts, &mut *ends, &mut *inc,
+        min,
+        max,
+        qcounts,
+        qends,
+        qinc,
+        pcounts,
+        pends,
+        pinc,
+        &mut *counts,
+        &mut *ends,
+        &mut *inc,
     )
 }
 
@@ -211,6 +241,16 @@ pub fn make(
         return refused(t);
     }
     product_of_valid(
-        min, max, pcounts, pends, pinc, qcounts, qends, qinc, &mut *counts, &mut *ends, &mut *inc,
+        min,
+        max,
+        pcounts,
+        pends,
+        pinc,
+        qcounts,
+        qends,
+        qinc,
+        &mut *counts,
+        &mut *ends,
+        &mut *inc,
     )
 }
