@@ -10,13 +10,16 @@ use Rattle.listing.specs.declared.Answer.{Answer}
 use Rattle.listing.specs.Refusals.{combOfPoint}
 use Rattle.listing.specs.Answers.{plain, ifZero, on, _orElse_}
 use Rattle.listing.specs.Listing.{Listing, Limits, limits}
-use Rattle.listing.proofs.Answers.{or-fine, or-stop}
+use Rattle.listing.proofs.Answers.{or-fine, or-stop, or-no, on-or-no, no-of}
+use Rattle.valid.specs.Tests.{isValid}
 use Rattle.pairing.specs.Product.{productOf, nullitope}
 use Rattle.closure.specs.Result.{nullCase, combCase, resultOf}
 use Rattle.closure.proofs.Results.{result-product, result-null}
 use Rattle.product.specs.declared.Built.{Built}
 use Rattle.product.specs.Outcome.{sizeTest, productTest, builtOf, after, Outcome}
 use Rattle.product.specs.Made.{factorsTest, restTest, Made}
+use Rattle.product.proofs.Tests.{Passed, factors-valid, sizes-passed}
+use Rattle.product.proofs.Made.{answer-is}
 
 -- ---- which test decides
 
@@ -48,6 +51,16 @@ module _ (m : Limits) (min max : Bool) (A B : Listing) (c e i : ℕ) where
       → sizeTest m (resultOf min max A B) c e i ≡ restTest m min max A B c e i
   unfolding restTest _orElse_
   sizes-decide h = rw h
+
+  -- no test refuses
+  pub chain-passed : productTest m min max A B c e i .no ≡ 0 → (isValid m A .no ≡ 0) × (isValid m B .no ≡ 0)
+      × (combCase min max A B ≡ false) × Passed m (resultOf min max A B) c e i
+  unfolding restTest
+  chain-passed z =
+      let p = or-no (factorsTest m A B) (restTest m min max A B c e i) (no-of chain z) in
+      let v = factors-valid m A B (p .0) in
+      let q = on-or-no _ (plain combOfPoint) _ (λ w. omega arith) (p .1) in
+      (v .0, v .1, q .0, sizes-passed m (resultOf min max A B) c e i (q .1))
 
 -- where a factor of rank 0 makes it the nullitope, it is no refused duocomb
 null-no-comb : (min max : Bool) (A B : Listing) → nullCase min max A B ≡ true → combCase min max A B ≡ false
@@ -93,19 +106,11 @@ module _ (min max : Bool) (A B : Listing) (counts ends inc counts′ ends′ inc
 -- ---- all of it
 
 module _ (min max : Bool) (A B : Listing) (counts ends inc counts′ ends′ inc′ : List ℕ) (r : Built) where
-  built-answer : (t : Answer) (R : Listing) → builtOf t R .answer ≡ t
-  unfolding builtOf
-  built-answer t R = go (t .no)
-    where
-      go : (n : ℕ) → ifZero {A = Built} n (record { answer = t; counts = length (R .counts); ends = length (R .ends); inc = length (R .inc) }) (record { answer = t; counts = 0; ends = 0; inc = 0 }) .answer ≡ t
-      go zero = refl
-      go (suc n) = refl
-
   pub made-outcome : (t : Answer) → t ≡ productTest limits min max A B (length counts) (length ends) (length inc)
       → Made t (resultOf min max A B) counts ends inc counts′ ends′ inc′ r
       → Outcome min max A B counts ends inc counts′ ends′ inc′ r
   made-outcome t e d =
-      let a : r .answer ≡ t = ap (λ (b : Built). b .answer) (d .answer) ∙ built-answer t (resultOf min max A B) in
+      let a = answer-is t (resultOf min max A B) r (d .answer) in
       record {
         answer = rw e at (d .answer);
         counts-after = rw a (d .counts-after);

@@ -8,3 +8,5 @@ pub mod Past
 pub mod Planned
 pub mod Made
 pub mod Chain
+pub mod Answered
+pub mod Starred

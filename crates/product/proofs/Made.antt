@@ -20,6 +20,21 @@ if-not : {A : Type 0} (n : ℕ) (x y : A) → (n ≡ 0 → ⊥) → ifZero n x y
 if-not zero x y h = absurd (h refl)
 if-not (suc n) x y h = refl
 
+-- the answer is the test's
+pub answer-is : (t : Answer) (R : Listing) (r : Built) → r ≡ builtOf t R → r .answer ≡ t
+unfolding builtOf
+answer-is t R r e = ap (λ (b : Built). b .answer) e ∙ go (t .no)
+  where
+    full : Built
+    full = record { answer = t; counts = length (R .counts); ends = length (R .ends); inc = length (R .inc) }
+
+    none : Built
+    none = record { answer = t; counts = 0; ends = 0; inc = 0 }
+
+    go : (n : ℕ) → ifZero n full none .answer ≡ t
+    go zero = refl
+    go (suc n) = refl
+
 -- ---- a refusal
 
 module _ (t : Answer) (R : Listing) (h : t .no ≡ 0 → ⊥) where
@@ -27,7 +42,7 @@ module _ (t : Answer) (R : Listing) (h : t .no ≡ 0 → ⊥) where
   unfolding builtOf
   built-refused = if-not (t .no) _ _ h
 
-  after-refused : (new old : List ℕ) → old ≡ after t new old
+  pub after-refused : (new old : List ℕ) → old ≡ after t new old
   unfolding after
   after-refused new old = sym (if-not (t .no) _ _ h)
 
@@ -43,14 +58,21 @@ module _ (t : Answer) (R : Listing) (h : t .no ≡ 0 → ⊥) where
 -- ---- an answer
 
 module _ (t : Answer) (R : Listing) (z : t .no ≡ 0) where
+  pub built-full : builtOf t R
+      ≡ record { answer = t; counts = length (R .counts); ends = length (R .ends); inc = length (R .inc) }
+  unfolding builtOf
+  built-full = rw z
+
   pub built-written : (s : Sizes) → Measures R s
       → record { answer = t; counts = s .ranks; ends = 2 * s .elements; inc = s .incidences } ≡ builtOf t R
-  unfolding builtOf
-  built-written s m = rw (z, m .ranks, m .ends, m .incidences)
+  built-written s m = rw (built-full, m .ranks, m .ends, m .incidences)
+
+  pub after-full : (new old : List ℕ) → after t new old ≡ over new old
+  unfolding after
+  after-full new old = rw z
 
   after-written : (new old old′ : List ℕ) → old′ ≡ over new old → old′ ≡ after t new old
-  unfolding after
-  after-written new old old′ e = rw z e
+  after-written new old old′ e = e ∙ sym (after-full new old)
 
   pub made-written : (test : Answer) → t ≡ test → (counts ends inc counts′ ends′ inc′ : List ℕ) (r : Built)
       → r ≡ builtOf t R → counts′ ≡ over (R .counts) counts → ends′ ≡ over (R .ends) ends → inc′ ≡ over (R .inc) inc
