@@ -30,5 +30,5 @@ pub two-points : (counts ends inc counts′ ends′ inc′ : List ℕ) (r : Buil
     → r ≡ record { answer = plain combOfPoint; counts = 0; ends = 0; inc = 0 }
 two-points counts ends inc counts′ ends′ inc′ r o =
     let t = comb-decides limits true true point point (length counts) (length ends) (length inc) (starred .1)
-        ∙ rest-decides limits true true point point (length counts) (length ends) (length inc) points-valid in
+    ∙ rest-decides limits true true point point (length counts) (length ends) (length inc) points-valid in
     rw (← t) at (o .answer) ∙ built-refused (plain combOfPoint) _ (λ z. omega arith)
