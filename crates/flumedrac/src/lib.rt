@@ -6,8 +6,6 @@ use flag::Said;
 use listing::Answer;
 use listing::Number;
 ghost use mathlib.Core.Path.{_≡_};
-ghost use mathlib.Core.Bool.{true, false};
-ghost use lib.ListN.{length};
 ghost use Rattle.listing.specs.Refusals.{band, bandNo};
 ghost use Rattle.listing.specs.Counts.{rankOf, elCountOf, vertexCountOf, facetCountOf};
 ghost use Rattle.listing.specs.Listing.{listing, limits};
