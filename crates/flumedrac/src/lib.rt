@@ -5,6 +5,7 @@ use flag::Cursor;
 use flag::Said;
 use listing::Answer;
 use listing::Number;
+use search::Searched;
 ghost use mathlib.Core.Path.{_≡_};
 ghost use Rattle.listing.specs.Refusals.{band, bandNo};
 ghost use Rattle.listing.specs.Counts.{rankOf, elCountOf, vertexCountOf, facetCountOf};
@@ -13,6 +14,7 @@ ghost use Rattle.valid.specs.Tests as tests;
 ghost use Rattle.flag.specs.Change.{changedOf};
 ghost use Rattle.flag.specs.Events.{eventAt, nextAt, saidOf};
 ghost use Rattle.flag.specs.Orientations.{ofByte, signOf};
+ghost use Rattle.search.specs.Outcome.{searchedBy, tableAfter, bytesAfter};
 
 #[no_mangle]
 pub extern "C" fn fd_rank(counts: &[u16]) -> Number
@@ -99,6 +101,29 @@ pub extern "C" fn fd_change(
         (now (flag .entry)) r ⌝ }
 {
     flag::change(counts, ends, inc, flag, r)
+}
+
+// The table and the orientations are written; no two of the slices that are lent here overlap.
+#[no_mangle]
+pub extern "C" fn fd_search(
+    counts: &[u16],
+    ends: &[u16],
+    inc: &[u16],
+    first: &[u16],
+    mask: u16,
+    table: &mut [u16],
+    orientations: &mut [u8],
+) -> Searched
+    ensures { λ a. ⌜ a ≡ searchedBy limits (listing (now (counts .entry)) (now (ends .entry)) (now (inc .entry)))
+        (now (first .entry)) mask (now (table .entry)) (now (orientations .entry)) ⌝ }
+    ensures { λ a. ⌜ now (table .exit) ≡ tableAfter limits
+        (listing (now (counts .entry)) (now (ends .entry)) (now (inc .entry))) (now (first .entry)) mask
+        (now (table .entry)) (now (orientations .entry)) ⌝ }
+    ensures { λ a. ⌜ now (orientations .exit) ≡ bytesAfter limits
+        (listing (now (counts .entry)) (now (ends .entry)) (now (inc .entry))) (now (first .entry)) mask
+        (now (table .entry)) (now (orientations .entry)) ⌝ }
+{
+    search::search(counts, ends, inc, first, mask, table, orientations)
 }
 
 // The sign of an orientation byte: 1.0 for 0, -1.0 for any other.

@@ -1,0 +1,14 @@
+pub mod Low
+pub mod Ranks
+pub mod Rows
+pub mod Hash
+pub mod Chains
+pub mod Meets
+pub mod Begins
+pub mod AtHand
+pub mod Neighbours
+pub mod Works
+pub mod Runs
+pub mod Starts
+pub mod Numbers
+pub mod Outcomes

@@ -1,0 +1,105 @@
+use Rattle.search.proofs.Starts.{none, held-none, take-padded, first-flags, all-found}
+use Rattle.search.specs.Held.{stateOf, Moved}
+use Rattle.search.specs.Searched.{sameList}
+use Rattle.search.specs.Hash.{hashes, hashOf}
+use Rattle.searching.specs.Search.{meet}
+use Rattle.flag.proofs.Padding.{padded-length}
+use Rattle.listing.specs.Listing.{Listing, listing}
+use Prim.Native.Nat.{_%_}
+use native.Mathlib.Omega.{arith}
+use mathlib.Core.Path.{_≡_, refl, sym, ap, _∙_}
+use Prim.Native.Nat.{ℕ, zero, suc, _+_, _-_, _*_, _≤_, _<_}
+use lib.ListN.{length, getD, take, drop}
+use borrow.Author.Needs.{needs}
+use Rattle.search.proofs.walk.search_from.Statement.{statement}
+use Rattle.search.proofs.walk.search_from.Tie as tie
+use Rattle.search.proofs.walk.search_from.Reads as reads
+use Rattle.search.proofs.walk.search_from.Lts as lts
+use Rattle.flag.proofs.chain.pad.Reads as pad-reads
+use Rattle.search.proofs.found.meet.Reads as meet-reads
+use Rattle.search.proofs.index.sum_of.Reads as sum-of-reads
+use Rattle.search.proofs.index.weights.Reads as weights-reads
+use Rattle.search.proofs.walk.places_of.Reads as places-of-reads
+use Rattle.search.proofs.walk.run.Reads as run-reads
+
+abbrev L : tie.Start → Listing
+L s = listing (s .args .counts .now) (s .args .ends .now) (s .args .inc .now)
+
+-- the flag at hand is the first flag
+first-is : (c : tie.After-pad) → let s = c .before .before .before .before .before .before .before .before .before in take (length (s .args .counts .now)) (c .pad .result) ≡ s .args .first .now
+first-is c =
+    let s = c .before .before .before .before .before .before .before .before .before in
+    rw (c .pad .ensures) (take-padded (s .args .first .now) (length (s .args .counts .now)) (s .pre .1 .0 .one-each))
+
+-- it was met
+met : (c : tie.After-meet) → let s = c .before .before .before .before .before .before .before .before .before .before .before .before .before .before .before .before .before .before in
+    Moved (length (s .args .counts .now)) (s .args .room) (s .args .table .now) (s .args .bytes .now) none (c .meet .last .0)
+    (c .meet .last .1 .0) (c .meet .last .1 .1 .0) (c .meet .last .1 .1 .1 .0) (c .meet .result)
+    (meet sameList (s .args .room) 0 (stateOf (length (s .args .counts .now)) (s .args .table .now) (s .args .bytes .now) none)
+    (s .args .first .now))
+met c = rw (first-is (c .before .before .before .before .before .before .before .before .before)) at (c .meet .ensures)
+
+-- src/walk.rt:231:18
+places-of-requires : tie.Need-places-of-requires
+places-of-requires c κs = c .before .before .before .before .before .before .pre .0 .shaped .few-ranks
+
+-- src/walk.rt:232:19
+weights-requires : tie.Need-weights-requires
+weights-requires c κs = search needs
+
+-- src/walk.rt:235:16
+pad-requires : tie.Need-pad-requires
+pad-requires c κs = let s = c .before .before .before .before .before .before .before .before in omega (arith, s .pre .1 .0 .one-each, s .pre .0 .shaped .few-ranks)
+
+-- src/walk.rt:236:13
+sum-of-requires : tie.Need-sum-of-requires
+sum-of-requires c κs = let s = c .before .before .before .before .before .before .before .before .before .before .before in
+    (s .pre .0 .shaped .few-ranks, rw (c .before .before .pad .ensures) (padded-length (s .args .first .now) (omega (arith, s .pre .1 .0 .one-each, s .pre .0 .shaped .few-ranks))), c .before .before .before .weights .ensures)
+
+-- src/walk.rt:242:9
+meet-requires : tie.Need-meet-requires
+unfolding hashOf
+meet-requires c κs = let s = c .before .before .before .before .before .before .before .before .before .before .before .before .before .before .before .before .before in (
+  (
+    s .pre .0 .shaped .few-ranks,
+    rw (c .before .before .before .before .before .before .before .before .pad .ensures) (padded-length (s .args .first .now) (omega (arith, s .pre .1 .0 .one-each, s .pre .0 .shaped .few-ranks))),
+    ap (λ n. n % hashes) (c .before .before .before .before .before .sum-of .ensures .0),
+  ),
+  (held-none _ _ _ _ (s .pre .1 .1 .1 .0) (s .pre .1 .1 .1 .1) (s .pre .1 .1 .1 .2), refl),
+)
+
+-- src/walk.rt:254:5
+run-requires : tie.Need-run-requires
+run-requires c κs = let s = c .before .before .before .before .before .before .before .before .before .before .before .before .before .before .before .before .before .before .before .before .before .before .before .before .before .before .before .before in let M = met (c .before .before .before .before .before .before .before .before .before .before) in (
+  record { closed = s .pre .0; begins = c .before .before .before .before .before .before .before .before .before .before .before .before .before .before .before .before .before .before .before .before .before .places-of .ensures; weighs = c .before .before .before .before .before .before .before .before .before .before .before .before .before .before .before .before .before .before .before .before .weights .ensures },
+  (
+    s .pre .1 .1 .0,
+    (M .held, first-flags (L s) (s .args .room) (s .args .mask) _ _ _ M (s .pre .1 .0)),
+  ),
+)
+
+-- src/walk.rt:212:1
+same-length : tie.Need-same-length
+same-length c = search needs
+
+-- src/walk.rt:212:1
+same-length-2 : tie.Need-same-length-2
+same-length-2 c = search needs
+
+-- src/walk.rt:212:1
+returns : tie.Need-returns
+returns c = let s = c .before .before .before .before .before .before .before .before .before .before .before .before .before .before .before .before .before .before .before .before .before .before .before .before .before .before .before .before .before .before .before .before .before in all-found (L s) (s .args .room) (s .args .mask) _ _ _ (met (c .before .before .before .before .before .before .before .before .before .before .before .before .before .before .before)) (c .before .before .before .before .run .ensures)
+
+pub search-from-spec : {M : Type 1} → statement M
+search-from-spec =
+    tie.close
+    (tie.spec
+    places-of-requires
+    weights-requires
+    pad-requires
+    sum-of-requires
+    meet-requires
+    run-requires
+    same-length
+    same-length-2
+    returns)

@@ -1,0 +1,64 @@
+-- What a search answers and writes, from what it found.
+--
+-- refusedAs     the answer of a refusal: all numbers are 0
+-- foundAs       the answer of a search that came to its end
+-- roomOf        how many flags there is room for: the whole flags that fit the table, the bytes, the limit
+-- searchTest    the refusals in their order: those of the closed test, 20, 21, and 22 exactly if there are more than room
+-- searchedOf    the answer: how many flags, how many came before the cell showed itself not orientable, whether it is
+-- after         what a lent slice holds afterwards: on success and at 22 what was found and then what stood past it
+-- searchedBy    what a search answers, with a table and bytes lent to it
+-- tableAfter    what the table holds afterwards
+-- bytesAfter    what the bytes are afterwards
+use mathlib.Core.Bool.{not, cond, _||_}
+use mathlib.Core.List.{List, _++_}
+use Prim.Native.Nat.{ℕ, _+_, _/_, min}
+use lib.Dec.{eqb}
+use lib.ListN.{length, drop}
+use Rattle.listing.specs.declared.Answer.{Answer}
+use Rattle.listing.specs.Refusals.{outsideRanks, moreFlags}
+use Rattle.listing.specs.Answers.{plain, ifZero, on, _orElse_}
+use Rattle.listing.specs.Listing.{Listing, Limits, rank}
+use Rattle.flag.specs.Flags.{startTest}
+use Rattle.searching.specs.Search.{State}
+use Rattle.search.specs.declared.Searched.{Searched}
+use Rattle.search.specs.Masks.{maskFits}
+use Rattle.search.specs.Searched.{flatten, foundBy}
+
+abbrev pub refusedAs : Answer → Searched
+refusedAs a = record { answer = a; count = 0; place = 0; orientable = 0 }
+
+abbrev pub foundAs : Answer → ℕ → ℕ → Searched
+foundAs a count place = record { answer = a; count = count; place = place; orientable = cond (eqb place 0) 1 0 }
+
+unfoldable pub roomOf : Limits → Listing → ℕ → ℕ → ℕ
+roomOf m L table bytes = min (min (table / (rank L + 1)) bytes) (m .flags)
+
+unfoldable pub searchTest : Limits → Listing → List ℕ → ℕ → ℕ → Answer
+searchTest m L first mask room =
+    startTest m L first orElse
+    on (not (maskFits (rank L) mask)) (plain outsideRanks) orElse
+    on (foundBy L first mask room .over) (plain moreFlags)
+
+unfoldable pub searchedOf : Answer → State (List ℕ) → Searched
+searchedOf a s = ifZero (a .no) (foundAs a (length (s .found)) (s .place)) (refusedAs a)
+
+unfoldable pub after : Answer → List ℕ → List ℕ → List ℕ
+after a new old = cond (eqb (a .no) 0 || eqb (a .no) moreFlags) (new ++ drop (length new) old) old
+
+unfoldable pub searchedBy : Limits → Listing → List ℕ → ℕ → List ℕ → List ℕ → Searched
+unfolding roomOf searchTest searchedOf
+searchedBy m L first mask table bytes =
+    let room = roomOf m L (length table) (length bytes) in
+    searchedOf (searchTest m L first mask room) (foundBy L first mask room)
+
+unfoldable pub tableAfter : Limits → Listing → List ℕ → ℕ → List ℕ → List ℕ → List ℕ
+unfolding roomOf searchTest after
+tableAfter m L first mask table bytes =
+    let room = roomOf m L (length table) (length bytes) in
+    after (searchTest m L first mask room) (flatten (foundBy L first mask room .found)) table
+
+unfoldable pub bytesAfter : Limits → Listing → List ℕ → ℕ → List ℕ → List ℕ → List ℕ
+unfolding roomOf searchTest after
+bytesAfter m L first mask table bytes =
+    let room = roomOf m L (length table) (length bytes) in
+    after (searchTest m L first mask room) (foundBy L first mask room .bytes) bytes
