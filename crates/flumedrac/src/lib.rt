@@ -103,7 +103,7 @@ pub extern "C" fn fd_change(
     flag::change(counts, ends, inc, flag, r)
 }
 
-// The table and the orientations are written; no two of the slices that are lent here overlap.
+// Writes the table and the orientations, which overlap no other slice that is lent here.
 #[no_mangle]
 pub extern "C" fn fd_search(
     counts: &[u16],
