@@ -5,12 +5,15 @@ use flag::Cursor;
 use flag::Said;
 use listing::Answer;
 use listing::Number;
+use product::Built;
 use search::Searched;
 ghost use mathlib.Core.Path.{_≡_};
+ghost use mathlib.Core.Bool.{true, false};
 ghost use Rattle.listing.specs.Refusals.{band, bandNo};
 ghost use Rattle.listing.specs.Counts.{rankOf, elCountOf, vertexCountOf, facetCountOf};
 ghost use Rattle.listing.specs.Listing.{listing, limits};
 ghost use Rattle.valid.specs.Tests as tests;
+ghost use Rattle.product.specs.Outcome.{Outcome};
 ghost use Rattle.flag.specs.Change.{changedOf};
 ghost use Rattle.flag.specs.Events.{eventAt, nextAt, saidOf};
 ghost use Rattle.flag.specs.Orientations.{ofByte, signOf};
@@ -141,4 +144,85 @@ pub extern "C" fn fd_next_event(c: &mut Cursor, count: u16, place: u16) -> Said
         × (now (c .exit) .at ≡ nextAt (now (c .entry) .at) count place) ⌝ }
 {
     flag::numbers(flag::next_event(c, count, place))
+}
+
+// Writes the three slices, which overlap no other slice that is lent here. The other products do the same.
+#[no_mangle]
+pub extern "C" fn fd_duopyramid(
+    pcounts: &[u16],
+    pends: &[u16],
+    pinc: &[u16],
+    qcounts: &[u16],
+    qends: &[u16],
+    qinc: &[u16],
+    counts: &mut [u16],
+    ends: &mut [u16],
+    inc: &mut [u16],
+) -> Built
+    ensures { λ a. ⌜ Outcome false false (listing (now (pcounts .entry)) (now (pends .entry)) (now (pinc .entry)))
+        (listing (now (qcounts .entry)) (now (qends .entry)) (now (qinc .entry)))
+        (now (counts .entry)) (now (ends .entry)) (now (inc .entry)) (now (counts .exit)) (now (ends .exit))
+        (now (inc .exit)) a ⌝ }
+{
+    product::duopyramid(pcounts, pends, pinc, qcounts, qends, qinc, counts, ends, inc)
+}
+
+#[no_mangle]
+pub extern "C" fn fd_duoprism(
+    pcounts: &[u16],
+    pends: &[u16],
+    pinc: &[u16],
+    qcounts: &[u16],
+    qends: &[u16],
+    qinc: &[u16],
+    counts: &mut [u16],
+    ends: &mut [u16],
+    inc: &mut [u16],
+) -> Built
+    ensures { λ a. ⌜ Outcome true false (listing (now (pcounts .entry)) (now (pends .entry)) (now (pinc .entry)))
+        (listing (now (qcounts .entry)) (now (qends .entry)) (now (qinc .entry)))
+        (now (counts .entry)) (now (ends .entry)) (now (inc .entry)) (now (counts .exit)) (now (ends .exit))
+        (now (inc .exit)) a ⌝ }
+{
+    product::duoprism(pcounts, pends, pinc, qcounts, qends, qinc, counts, ends, inc)
+}
+
+#[no_mangle]
+pub extern "C" fn fd_duotegum(
+    pcounts: &[u16],
+    pends: &[u16],
+    pinc: &[u16],
+    qcounts: &[u16],
+    qends: &[u16],
+    qinc: &[u16],
+    counts: &mut [u16],
+    ends: &mut [u16],
+    inc: &mut [u16],
+) -> Built
+    ensures { λ a. ⌜ Outcome false true (listing (now (pcounts .entry)) (now (pends .entry)) (now (pinc .entry)))
+        (listing (now (qcounts .entry)) (now (qends .entry)) (now (qinc .entry)))
+        (now (counts .entry)) (now (ends .entry)) (now (inc .entry)) (now (counts .exit)) (now (ends .exit))
+        (now (inc .exit)) a ⌝ }
+{
+    product::duotegum(pcounts, pends, pinc, qcounts, qends, qinc, counts, ends, inc)
+}
+
+#[no_mangle]
+pub extern "C" fn fd_duocomb(
+    pcounts: &[u16],
+    pends: &[u16],
+    pinc: &[u16],
+    qcounts: &[u16],
+    qends: &[u16],
+    qinc: &[u16],
+    counts: &mut [u16],
+    ends: &mut [u16],
+    inc: &mut [u16],
+) -> Built
+    ensures { λ a. ⌜ Outcome true true (listing (now (pcounts .entry)) (now (pends .entry)) (now (pinc .entry)))
+        (listing (now (qcounts .entry)) (now (qends .entry)) (now (qinc .entry)))
+        (now (counts .entry)) (now (ends .entry)) (now (inc .entry)) (now (counts .exit)) (now (ends .exit))
+        (now (inc .exit)) a ⌝ }
+{
+    product::duocomb(pcounts, pends, pinc, qcounts, qends, qinc, counts, ends, inc)
 }

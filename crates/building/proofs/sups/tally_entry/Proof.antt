@@ -1,0 +1,47 @@
+use Rattle.building.proofs.Raising.{raised-one, raised-past}
+use native.Mathlib.Omega.{arith}
+use mathlib.Core.Path.{_≡_, refl, sym, ap, _∙_}
+use Prim.Native.Nat.{ℕ, zero, suc, _+_, _-_, _*_, _≤_, _<_}
+use lib.ListN.{length, getD, take, drop}
+use borrow.Author.Needs.{needs}
+use Rattle.building.proofs.sups.tally_entry.Statement.{statement}
+use Rattle.building.proofs.sups.tally_entry.Tie as tie
+use Rattle.building.proofs.sups.tally_entry.Reads as reads
+use Rattle.building.proofs.sups.tally_entry.Lts as lts
+
+-- src/sups.rt:21:12
+add-up : tie.Need-add-up
+add-up c = search needs
+
+-- src/sups.rt:21:9
+mul-up : tie.Need-mul-up
+mul-up c = search needs
+
+-- src/sups.rt:21:9
+slice-read-up : tie.Need-slice-read-up
+slice-read-up c = search needs
+
+-- src/sups.rt:21:9
+add-up-2 : tie.Need-add-up-2
+add-up-2 c = omega (arith, c .before .before .pre .1 (c .before .if1 .taken))
+
+-- src/sups.rt:21:9
+slice-write-up : tie.Need-slice-write-up
+slice-write-up c = search needs
+
+-- src/sups.rt:15:1
+same-length : tie.Need-same-length
+same-length c = search needs
+
+-- src/sups.rt:15:1
+returns : tie.Need-returns
+returns c = raised-one _ _ _ _ (c .before .if1 .taken) (c .before .before .pre .0)
+
+-- src/sups.rt:15:1
+returns-2 : tie.Need-returns-2
+returns-2 c = raised-past _ _ _ _ (c .if1 .left)
+
+pub tally-entry-spec : {M : Type 1} → statement M
+tally-entry-spec =
+    tie.close
+    (tie.spec add-up mul-up slice-read-up add-up-2 slice-write-up same-length returns returns-2)

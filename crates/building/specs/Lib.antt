@@ -1,0 +1,4 @@
+pub mod Filling
+pub mod Pairs
+pub mod Sups
+pub mod Blocks

@@ -1,0 +1,114 @@
+-- The whole chain: what decides it, and what the product of two valid factors is in each case.
+-- Assumes nothing.
+use mathlib.Core.Path.{_≡_, refl, sym, ap, _∙_}
+use mathlib.Core.Bool.{Bool, true, false}
+use mathlib.Core.List.{List}
+use Prim.Native.Nat.{ℕ, zero, suc}
+use native.Mathlib.Omega.{arith}
+use lib.ListN.{length}
+use Rattle.listing.specs.declared.Answer.{Answer}
+use Rattle.listing.specs.Refusals.{combOfPoint}
+use Rattle.listing.specs.Answers.{plain, ifZero, on, _orElse_}
+use Rattle.listing.specs.Listing.{Listing, Limits, limits}
+use Rattle.listing.proofs.Answers.{or-fine, or-stop}
+use Rattle.pairing.specs.Product.{productOf, nullitope}
+use Rattle.closure.specs.Result.{nullCase, combCase, resultOf}
+use Rattle.closure.proofs.Results.{result-product, result-null}
+use Rattle.product.specs.declared.Built.{Built}
+use Rattle.product.specs.Outcome.{sizeTest, productTest, builtOf, after, Outcome}
+use Rattle.product.specs.Made.{factorsTest, restTest, Made}
+
+-- ---- which test decides
+
+or-assoc : (x y z : Answer) → x orElse (y orElse z) ≡ (x orElse y) orElse z
+or-assoc x y z = go (x .no) refl
+  where
+    go : (n : ℕ) → x .no ≡ n → x orElse (y orElse z) ≡ (x orElse y) orElse z
+    go zero e = or-fine x _ e ∙ sym (ap (λ w. w orElse z) (or-fine x y e))
+    go (suc n) e =
+        let h : x .no ≡ 0 → ⊥ = λ w. omega arith in
+        or-stop x _ h ∙ sym (ap (λ w. w orElse z) (or-stop x y h) ∙ or-stop x z h)
+
+module _ (m : Limits) (min max : Bool) (A B : Listing) (c e i : ℕ) where
+  chain : productTest m min max A B c e i ≡ factorsTest m A B orElse restTest m min max A B c e i
+  unfolding productTest factorsTest restTest
+  chain = or-assoc _ _ _
+
+  pub factors-decide : (factorsTest m A B .no ≡ 0 → ⊥) → factorsTest m A B ≡ productTest m min max A B c e i
+  factors-decide h = sym (chain ∙ or-stop _ _ h)
+
+  pub rest-decides : factorsTest m A B .no ≡ 0 → restTest m min max A B c e i ≡ productTest m min max A B c e i
+  rest-decides z = sym (chain ∙ or-fine _ _ z)
+
+  pub comb-decides : combCase min max A B ≡ true → plain combOfPoint ≡ restTest m min max A B c e i
+  unfolding restTest _orElse_
+  comb-decides h = rw h
+
+  pub sizes-decide : combCase min max A B ≡ false
+      → sizeTest m (resultOf min max A B) c e i ≡ restTest m min max A B c e i
+  unfolding restTest _orElse_
+  sizes-decide h = rw h
+
+-- where a factor of rank 0 makes it the nullitope, it is no refused duocomb
+null-no-comb : (min max : Bool) (A B : Listing) → nullCase min max A B ≡ true → combCase min max A B ≡ false
+unfolding combCase
+null-no-comb true true A B n = rw n
+null-no-comb true false A B n = refl
+null-no-comb false max A B n = refl
+
+-- ---- the same product under another name
+
+module _ {t : Answer} {R : Listing} {counts ends inc counts′ ends′ inc′ : List ℕ} {r : Built}
+    (d : Made t R counts ends inc counts′ ends′ inc′ r) where
+  made-as : (u : Answer) → t ≡ u → (S : Listing) → R ≡ S → Made u S counts ends inc counts′ ends′ inc′ r
+  made-as u e S f = rw (← e, ← f) d
+
+-- ---- the cases of two valid factors
+
+module _ (min max : Bool) (A B : Listing) (counts ends inc counts′ ends′ inc′ : List ℕ) (r : Built) where
+  -- of a listing R within the limits and the room
+  abbrev Sizes : Listing → Type 0
+  Sizes R =
+      Made (sizeTest limits R (length counts) (length ends) (length inc)) R counts ends inc counts′ ends′ inc′ r
+
+  abbrev Rest : Type 0
+  Rest =
+      Made (restTest limits min max A B (length counts) (length ends) (length inc)) (resultOf min max A B)
+      counts ends inc counts′ ends′ inc′ r
+
+  result-made : (R : Listing) → combCase min max A B ≡ false → resultOf min max A B ≡ R → Sizes R → Rest
+  result-made R h e d =
+      made-as (rw (← e) at d) _ (sizes-decide limits min max A B _ _ _ h) _ refl
+
+  pub null-made : nullCase min max A B ≡ true → Sizes nullitope → Rest
+  null-made n = result-made nullitope (null-no-comb min max A B n) (result-null min max A B n)
+
+  module _ (n : nullCase min max A B ≡ false) (h : combCase min max A B ≡ false) where
+    pub first-made : min ≡ true → Sizes (productOf min max A B) → Rest
+    first-made e = result-made _ h (result-product min max A B n ∙ rw e)
+
+    pub second-made : min ≡ false → Sizes (productOf min max B A) → Rest
+    second-made e = result-made _ h (result-product min max A B n ∙ rw e)
+
+-- ---- all of it
+
+module _ (min max : Bool) (A B : Listing) (counts ends inc counts′ ends′ inc′ : List ℕ) (r : Built) where
+  built-answer : (t : Answer) (R : Listing) → builtOf t R .answer ≡ t
+  unfolding builtOf
+  built-answer t R = go (t .no)
+    where
+      go : (n : ℕ) → ifZero {A = Built} n (record { answer = t; counts = length (R .counts); ends = length (R .ends); inc = length (R .inc) }) (record { answer = t; counts = 0; ends = 0; inc = 0 }) .answer ≡ t
+      go zero = refl
+      go (suc n) = refl
+
+  pub made-outcome : (t : Answer) → t ≡ productTest limits min max A B (length counts) (length ends) (length inc)
+      → Made t (resultOf min max A B) counts ends inc counts′ ends′ inc′ r
+      → Outcome min max A B counts ends inc counts′ ends′ inc′ r
+  made-outcome t e d =
+      let a : r .answer ≡ t = ap (λ (b : Built). b .answer) (d .answer) ∙ built-answer t (resultOf min max A B) in
+      record {
+        answer = rw e at (d .answer);
+        counts-after = rw a (d .counts-after);
+        ends-after = rw a (d .ends-after);
+        inc-after = rw a (d .inc-after);
+      }

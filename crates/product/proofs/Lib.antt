@@ -1,0 +1,10 @@
+pub mod Tests
+pub mod Parts
+pub mod Counted
+pub mod Targets
+pub mod Lists
+pub mod Entries
+pub mod Past
+pub mod Planned
+pub mod Made
+pub mod Chain

@@ -1,0 +1,78 @@
+-- What a product answers and leaves, put together from a test and from what was written.
+-- Assumes nothing.
+use mathlib.Core.Path.{_≡_, refl, sym, ap, _∙_}
+use mathlib.Core.List.{List, [], _∷_, _++_}
+use Prim.Native.Nat.{ℕ, zero, suc, _*_, _≤_}
+use native.Mathlib.Omega.{arith}
+use lib.ListN.{length, drop, set}
+use Rattle.listing.specs.declared.Answer.{Answer}
+use Rattle.listing.specs.Answers.{ifZero}
+use Rattle.order.specs.Sums.{sum}
+use Rattle.listing.specs.Listing.{Listing, before}
+use Rattle.pairing.specs.Product.{nullitope}
+use Rattle.building.specs.Filling.{over}
+use Rattle.product.specs.declared.Built.{Built}
+use Rattle.product.specs.declared.sizes.Sizes.{Sizes}
+use Rattle.product.specs.Outcome.{builtOf, after}
+use Rattle.product.specs.Made.{Measures, Made}
+
+if-not : {A : Type 0} (n : ℕ) (x y : A) → (n ≡ 0 → ⊥) → ifZero n x y ≡ y
+if-not zero x y h = absurd (h refl)
+if-not (suc n) x y h = refl
+
+-- ---- a refusal
+
+module _ (t : Answer) (R : Listing) (h : t .no ≡ 0 → ⊥) where
+  pub built-refused : builtOf t R ≡ record { answer = t; counts = 0; ends = 0; inc = 0 }
+  unfolding builtOf
+  built-refused = if-not (t .no) _ _ h
+
+  after-refused : (new old : List ℕ) → old ≡ after t new old
+  unfolding after
+  after-refused new old = sym (if-not (t .no) _ _ h)
+
+  pub made-refused : (test : Answer) → t ≡ test → (counts ends inc : List ℕ) (r : Built) → r ≡ builtOf t R
+      → Made test R counts ends inc counts ends inc r
+  made-refused test q counts ends inc r e = rw (← q) (record {
+    answer = e;
+    counts-after = after-refused (R .counts) counts;
+    ends-after = after-refused (R .ends) ends;
+    inc-after = after-refused (R .inc) inc;
+  })
+
+-- ---- an answer
+
+module _ (t : Answer) (R : Listing) (z : t .no ≡ 0) where
+  pub built-written : (s : Sizes) → Measures R s
+      → record { answer = t; counts = s .ranks; ends = 2 * s .elements; inc = s .incidences } ≡ builtOf t R
+  unfolding builtOf
+  built-written s m = rw (z, m .ranks, m .ends, m .incidences)
+
+  after-written : (new old old′ : List ℕ) → old′ ≡ over new old → old′ ≡ after t new old
+  unfolding after
+  after-written new old old′ e = rw z e
+
+  pub made-written : (test : Answer) → t ≡ test → (counts ends inc counts′ ends′ inc′ : List ℕ) (r : Built)
+      → r ≡ builtOf t R → counts′ ≡ over (R .counts) counts → ends′ ≡ over (R .ends) ends → inc′ ≡ over (R .inc) inc
+      → Made test R counts ends inc counts′ ends′ inc′ r
+  made-written test q counts ends inc counts′ ends′ inc′ r e ec ee ei = rw (← q) (record {
+    answer = e;
+    counts-after = after-written (R .counts) counts counts′ ec;
+    ends-after = after-written (R .ends) ends ends′ ee;
+    inc-after = after-written (R .inc) inc inc′ ei;
+  })
+
+-- ---- the nullitope
+
+pub nullitope-measures : Measures nullitope (record { ranks = 1; elements = 1; incidences = 0 })
+unfolding before sum
+nullitope-measures = record { ranks = refl; elements = refl; ends = refl; incidences = refl }
+
+pub one-set : (l : List ℕ) (x : ℕ) → 1 ≤ length l → set l 0 x ≡ over (x ∷ []) l
+one-set [] x h = absurd (omega arith)
+one-set (y ∷ l) x h = refl
+
+pub two-set : (l : List ℕ) (x y : ℕ) → 2 ≤ length l → set (set l 0 x) 1 y ≡ over (x ∷ y ∷ []) l
+two-set [] x y h = absurd (omega arith)
+two-set (u ∷ []) x y h = absurd (omega arith)
+two-set (u ∷ v ∷ l) x y h = refl

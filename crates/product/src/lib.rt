@@ -1,0 +1,146 @@
+// The four products of cells.
+pub mod factors;
+pub mod make;
+pub mod sizes;
+
+use listing::Answer;
+ghost use Rattle.listing.specs.Listing.{listing};
+ghost use mathlib.Core.Bool.{true, false};
+ghost use Rattle.product.specs.Outcome.{Outcome};
+
+// What a product answers: a refusal or 0, and how many numbers it wrote into each output slice.
+#[repr(C)]
+pub struct Built {
+    pub answer: Answer,
+    pub counts: u16,
+    pub ends: u16,
+    pub inc: u16,
+}
+
+// The duopyramid: all pairs, none left out.
+pub fn duopyramid(
+    pcounts: &[u16],
+    pends: &[u16],
+    pinc: &[u16],
+    qcounts: &[u16],
+    qends: &[u16],
+    qinc: &[u16],
+    counts: &mut [u16],
+    ends: &mut [u16],
+    inc: &mut [u16],
+) -> Built
+    ensures { λ r. ⌜ Outcome false false (listing (now (pcounts .entry)) (now (pends .entry)) (now (pinc .entry)))
+        (listing (now (qcounts .entry)) (now (qends .entry)) (now (qinc .entry)))
+        (now (counts .entry)) (now (ends .entry)) (now (inc .entry)) (now (counts .exit)) (now (ends .exit))
+        (now (inc .exit)) r ⌝ }
+{
+    make::make(
+        false,
+        false,
+        pcounts,
+        pends,
+        pinc,
+        qcounts,
+        qends,
+        qinc,
+        &mut *counts,
+        &mut *ends,
+        &mut *inc,
+    )
+}
+
+// The duoprism: the pairs without minimal elements, and one added.
+pub fn duoprism(
+    pcounts: &[u16],
+    pends: &[u16],
+    pinc: &[u16],
+    qcounts: &[u16],
+    qends: &[u16],
+    qinc: &[u16],
+    counts: &mut [u16],
+    ends: &mut [u16],
+    inc: &mut [u16],
+) -> Built
+    ensures { λ r. ⌜ Outcome true false (listing (now (pcounts .entry)) (now (pends .entry)) (now (pinc .entry)))
+        (listing (now (qcounts .entry)) (now (qends .entry)) (now (qinc .entry)))
+        (now (counts .entry)) (now (ends .entry)) (now (inc .entry)) (now (counts .exit)) (now (ends .exit))
+        (now (inc .exit)) r ⌝ }
+{
+    make::make(
+        true,
+        false,
+        pcounts,
+        pends,
+        pinc,
+        qcounts,
+        qends,
+        qinc,
+        &mut *counts,
+        &mut *ends,
+        &mut *inc,
+    )
+}
+
+// The duotegum: the pairs without maximal elements, and one added.
+pub fn duotegum(
+    pcounts: &[u16],
+    pends: &[u16],
+    pinc: &[u16],
+    qcounts: &[u16],
+    qends: &[u16],
+    qinc: &[u16],
+    counts: &mut [u16],
+    ends: &mut [u16],
+    inc: &mut [u16],
+) -> Built
+    ensures { λ r. ⌜ Outcome false true (listing (now (pcounts .entry)) (now (pends .entry)) (now (pinc .entry)))
+        (listing (now (qcounts .entry)) (now (qends .entry)) (now (qinc .entry)))
+        (now (counts .entry)) (now (ends .entry)) (now (inc .entry)) (now (counts .exit)) (now (ends .exit))
+        (now (inc .exit)) r ⌝ }
+{
+    make::make(
+        false,
+        true,
+        pcounts,
+        pends,
+        pinc,
+        qcounts,
+        qends,
+        qinc,
+        &mut *counts,
+        &mut *ends,
+        &mut *inc,
+    )
+}
+
+// The duocomb: the pairs without minimal and maximal elements, and one of each added.
+pub fn duocomb(
+    pcounts: &[u16],
+    pends: &[u16],
+    pinc: &[u16],
+    qcounts: &[u16],
+    qends: &[u16],
+    qinc: &[u16],
+    counts: &mut [u16],
+    ends: &mut [u16],
+    inc: &mut [u16],
+) -> Built
+    ensures { λ r. ⌜ Outcome true true (listing (now (pcounts .entry)) (now (pends .entry)) (now (pinc .entry)))
+        (listing (now (qcounts .entry)) (now (qends .entry)) (now (qinc .entry)))
+        (now (counts .entry)) (now (ends .entry)) (now (inc .entry)) (now (counts .exit)) (now (ends .exit))
+        (now (inc .exit)) r ⌝ }
+{
+    make::make(
+        true,
+        true,
+        pcounts,
+        pends,
+        pinc,
+        qcounts,
+        qends,
+        qinc,
+        &mut *counts,
+        &mut *ends,
+        &mut *inc,
+    )
+}

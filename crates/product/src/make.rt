@@ -1,0 +1,256 @@
+// The chain of tests, and then the builder, once over the two flags.
+use crate::Built;
+use crate::factors;
+use crate::sizes;
+use crate::sizes::Sizes;
+use building::build;
+use listing::Answer;
+use listing::inner;
+use listing::refusal;
+ghost use mathlib.Core.Path.{_≡_};
+ghost use mathlib.Core.Bool.{false, _||_};
+ghost use Prim.Native.Nat.{_≤_};
+ghost use lib.Dec.{eqb};
+ghost use lib.ListN.{length};
+ghost use Rattle.listing.specs.Listing.{Listing, listing, limits, rank};
+ghost use Rattle.valid.specs.Tests.{isValid};
+ghost use Rattle.pairing.specs.Product.{productOf, nullitope};
+ghost use Rattle.closure.specs.Result.{nullCase, combCase, resultOf};
+ghost use Rattle.product.specs.Outcome.{sizeTest, builtOf, Outcome};
+ghost use Rattle.product.specs.Made.{restTest, Usable, Measures, Made};
+
+// What a refused product answers: nothing is written.
+fn refused(answer: Answer) -> Built
+    ensures { λ r. ⌜ ((R : Listing) → (answer .no ≡ 0 → ⊥) → r ≡ builtOf answer R) ⌝ }
+{
+    Built {
+        answer,
+        counts: 0,
+        ends: 0,
+        inc: 0,
+    }
+}
+
+// What a product of these sizes answers once it is written.
+fn written(answer: Answer, s: Sizes) -> Built
+    requires { ⌜ (s .ranks ≤ 16) × (s .elements ≤ 4096) × (s .incidences ≤ 32768) ⌝ }
+    ensures { λ r. ⌜ ((R : Listing) → Measures R s → answer .no ≡ 0 → r ≡ builtOf answer R) ⌝ }
+{
+    Built {
+        answer,
+        counts: s.ranks as u16,
+        ends: (2 * s.elements) as u16,
+        inc: s.incidences as u16,
+    }
+}
+
+// Whether one of two ranks is n.
+fn either_is(p: usize, q: usize, n: usize) -> bool
+    ensures { λ r. ⌜ r ≡ (eqb p n || eqb q n) ⌝ }
+{
+    if p == n {
+        return true;
+    }
+    q == n
+}
+
+// Whether the product is the nullitope: of a factor of rank 0, for all but the duopyramid.
+fn is_null(min: bool, max: bool, p: usize, q: usize) -> bool
+    ensures { λ r. ⌜ ((A B : Listing) → rank A ≡ p → rank B ≡ q → r ≡ nullCase min max A B) ⌝ }
+{
+    if min {
+        return either_is(p, q, 0);
+    }
+    if max {
+        return either_is(p, q, 0);
+    }
+    false
+}
+
+// Whether it is a duocomb with a factor of rank 1, where none has rank 0.
+fn is_comb_of_point(min: bool, max: bool, p: usize, q: usize) -> bool
+    ensures { λ r. ⌜ ((A B : Listing) → rank A ≡ p → rank B ≡ q → nullCase min max A B ≡ false
+        → r ≡ combCase min max A B) ⌝ }
+{
+    if min {
+        if max {
+            return either_is(p, q, 1);
+        }
+        return false;
+    }
+    false
+}
+
+// The nullitope, written out.
+fn put_nullitope(counts: &mut [u16], ends: &mut [u16], inc: &[u16]) -> Built
+    ensures { λ r. ⌜ Made
+        (sizeTest limits nullitope (length (now (counts .entry))) (length (now (ends .entry))) (length (now (inc .entry))))
+        nullitope (now (counts .entry)) (now (ends .entry)) (now (inc .entry)) (now (counts .exit)) (now (ends .exit))
+        (now (inc .entry)) r ⌝ }
+{
+    let s = Sizes {
+        ranks: 1,
+        elements: 1,
+        incidences: 0,
+    };
+    let t = sizes::check_sizes(s, counts.len(), ends.len(), inc.len());
+    if t.no != 0 {
+        return refused(t);
+    }
+    counts[0] = 1;
+    ends[0] = 0;
+    ends[1] = 0;
+    written(t, s)
+}
+
+// The product of two factors that can be used: the pairs are of p and q, in this order.
+fn product(
+    min: bool,
+    max: bool,
+    pcounts: &[u16],
+    pends: &[u16],
+    pinc: &[u16],
+    qcounts: &[u16],
+    qends: &[u16],
+    qinc: &[u16],
+    counts: &mut [u16],
+    ends: &mut [u16],
+    inc: &mut [u16],
+) -> Built
+    requires { ⌜ Usable min max (listing (now pcounts) (now pends) (now pinc)) ⌝ }
+    requires { ⌜ Usable min max (listing (now qcounts) (now qends) (now qinc)) ⌝ }
+    ensures { λ r. ⌜ Made
+        (sizeTest limits
+        (productOf min max (listing (now (pcounts .entry)) (now (pends .entry)) (now (pinc .entry)))
+        (listing (now (qcounts .entry)) (now (qends .entry)) (now (qinc .entry))))
+        (length (now (counts .entry))) (length (now (ends .entry))) (length (now (inc .entry))))
+        (productOf min max (listing (now (pcounts .entry)) (now (pends .entry)) (now (pinc .entry)))
+        (listing (now (qcounts .entry)) (now (qends .entry)) (now (qinc .entry))))
+        (now (counts .entry)) (now (ends .entry)) (now (inc .entry)) (now (counts .exit)) (now (ends .exit))
+        (now (inc .exit)) r ⌝ }
+{
+    let u = sizes::count_used(min, max, pcounts, pends, pinc);
+    let v = sizes::count_used(min, max, qcounts, qends, qinc);
+    let s = sizes::product_sizes(min, max, u, v);
+    let t = sizes::check_sizes(s, counts.len(), ends.len(), inc.len());
+    if t.no != 0 {
+        return refused(t);
+    }
+    let p = sizes::range(min, max, pcounts);
+    let q = sizes::range(min, max, qcounts);
+    build::build(
+        min,
+        max,
+        p,
+        pends,
+        pinc,
+        q,
+        qends,
+        qinc,
+        &mut *counts,
+        &mut *ends,
+        &mut *inc,
+    );
+    written(t, s)
+}
+
+// The product of two factors that is_valid accepts: the nullitope, or that of the pairs.
+fn product_of_valid(
+    min: bool,
+    max: bool,
+    pcounts: &[u16],
+    pends: &[u16],
+    pinc: &[u16],
+    qcounts: &[u16],
+    qends: &[u16],
+    qinc: &[u16],
+    counts: &mut [u16],
+    ends: &mut [u16],
+    inc: &mut [u16],
+) -> Built
+    requires { ⌜ isValid limits (listing (now pcounts) (now pends) (now pinc)) .no ≡ 0 ⌝ }
+    requires { ⌜ isValid limits (listing (now qcounts) (now qends) (now qinc)) .no ≡ 0 ⌝ }
+    ensures { λ r. ⌜ Made
+        (restTest limits min max (listing (now (pcounts .entry)) (now (pends .entry)) (now (pinc .entry)))
+        (listing (now (qcounts .entry)) (now (qends .entry)) (now (qinc .entry)))
+        (length (now (counts .entry))) (length (now (ends .entry))) (length (now (inc .entry))))
+        (resultOf min max (listing (now (pcounts .entry)) (now (pends .entry)) (now (pinc .entry)))
+        (listing (now (qcounts .entry)) (now (qends .entry)) (now (qinc .entry))))
+        (now (counts .entry)) (now (ends .entry)) (now (inc .entry)) (now (counts .exit)) (now (ends .exit))
+        (now (inc .exit)) r ⌝ }
+{
+    let p = pcounts.len() - 1;
+    let q = qcounts.len() - 1;
+    if is_null(min, max, p, q) {
+        return put_nullitope(&mut *counts, &mut *ends, &*inc);
+    }
+    if is_comb_of_point(min, max, p, q) {
+        return refused(inner::plain(refusal::COMB_OF_POINT));
+    }
+    if min {
+        return product(
+            min,
+            max,
+            pcounts,
+            pends,
+            pinc,
+            qcounts,
+            qends,
+            qinc,
+            &mut *counts,
+            &mut *ends,
+            &mut *inc,
+        );
+    }
+    product(
+        min,
+        max,
+        qcounts,
+        qends,
+        qinc,
+        pcounts,
+        pends,
+        pinc,
+        &mut *counts,
+        &mut *ends,
+        &mut *inc,
+    )
+}
+
+// The product that the flags tell, of the left factor p and the right factor q.
+pub fn make(
+    min: bool,
+    max: bool,
+    pcounts: &[u16],
+    pends: &[u16],
+    pinc: &[u16],
+    qcounts: &[u16],
+    qends: &[u16],
+    qinc: &[u16],
+    counts: &mut [u16],
+    ends: &mut [u16],
+    inc: &mut [u16],
+) -> Built
+    ensures { λ r. ⌜ Outcome min max (listing (now (pcounts .entry)) (now (pends .entry)) (now (pinc .entry)))
+        (listing (now (qcounts .entry)) (now (qends .entry)) (now (qinc .entry)))
+        (now (counts .entry)) (now (ends .entry)) (now (inc .entry)) (now (counts .exit)) (now (ends .exit))
+        (now (inc .exit)) r ⌝ }
+{
+    let t = factors::check_factors(pcounts, pends, pinc, qcounts, qends, qinc);
+    if t.no != 0 {
+        return refused(t);
+    }
+    product_of_valid(
+        min,
+        max,
+        pcounts,
+        pends,
+        pinc,
+        qcounts,
+        qends,
+        qinc,
+        &mut *counts,
+        &mut *ends,
+        &mut *inc,
+    )
+}
