@@ -146,7 +146,7 @@ pub extern "C" fn fd_next_event(c: &mut Cursor, count: u16, place: u16) -> Said
     flag::numbers(flag::next_event(c, count, place))
 }
 
-// Writes the three slices, which overlap no other slice that is lent here. The other products do the same.
+// Each product writes the last three slices, which overlap no other slice that is lent here.
 #[no_mangle]
 pub extern "C" fn fd_duopyramid(
     pcounts: &[u16],
