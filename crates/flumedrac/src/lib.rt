@@ -164,7 +164,17 @@ pub extern "C" fn fd_duopyramid(
         (now (counts .entry)) (now (ends .entry)) (now (inc .entry)) (now (counts .exit)) (now (ends .exit))
         (now (inc .exit)) a ⌝ }
 {
-    product::duopyramid(pcounts, pends, pinc, qcounts, qends, qinc, counts, ends, inc)
+    product::duopyramid(
+        pcounts,
+        pends,
+        pinc,
+        qcounts,
+        qends,
+        qinc,
+        counts,
+        ends,
+        inc,
+    )
 }
 
 #[no_mangle]
@@ -184,7 +194,17 @@ pub extern "C" fn fd_duoprism(
         (now (counts .entry)) (now (ends .entry)) (now (inc .entry)) (now (counts .exit)) (now (ends .exit))
         (now (inc .exit)) a ⌝ }
 {
-    product::duoprism(pcounts, pends, pinc, qcounts, qends, qinc, counts, ends, inc)
+    product::duoprism(
+        pcounts,
+        pends,
+        pinc,
+        qcounts,
+        qends,
+        qinc,
+        counts,
+        ends,
+        inc,
+    )
 }
 
 #[no_mangle]
@@ -204,7 +224,17 @@ pub extern "C" fn fd_duotegum(
         (now (counts .entry)) (now (ends .entry)) (now (inc .entry)) (now (counts .exit)) (now (ends .exit))
         (now (inc .exit)) a ⌝ }
 {
-    product::duotegum(pcounts, pends, pinc, qcounts, qends, qinc, counts, ends, inc)
+    product::duotegum(
+        pcounts,
+        pends,
+        pinc,
+        qcounts,
+        qends,
+        qinc,
+        counts,
+        ends,
+        inc,
+    )
 }
 
 #[no_mangle]
@@ -224,5 +254,15 @@ pub extern "C" fn fd_duocomb(
         (now (counts .entry)) (now (ends .entry)) (now (inc .entry)) (now (counts .exit)) (now (ends .exit))
         (now (inc .exit)) a ⌝ }
 {
-    product::duocomb(pcounts, pends, pinc, qcounts, qends, qinc, counts, ends, inc)
+    product::duocomb(
+        pcounts,
+        pends,
+        pinc,
+        qcounts,
+        qends,
+        qinc,
+        counts,
+        ends,
+        inc,
+    )
 }
