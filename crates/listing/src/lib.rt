@@ -4,7 +4,7 @@ pub mod limit;
 pub mod refusal;
 
 ghost use mathlib.Core.Path.{_≡_};
-ghost use Rattle.listing.specs.Refusals.{band};
+ghost use Rattle.listing.specs.Refusals.{band, bandNo};
 ghost use Rattle.listing.specs.Counts.{rankOf, elCountOf, vertexCountOf, facetCountOf};
 ghost use Rattle.listing.specs.Listing.{listing, limits};
 ghost use Rattle.listing.specs.Shape.{shapeTest};
@@ -45,6 +45,19 @@ pub fn class(no: u16) -> Band
         20..=29 => Band::Flags,
         30..=39 => Band::Products,
         _ => Band::Nothing,
+    }
+}
+
+// A class as a number, for callers that have no enum.
+pub fn band_number(b: Band) -> u16
+    ensures { λ r. ⌜ r ≡ bandNo b ⌝ }
+{
+    match b {
+        Band::Nothing => 0,
+        Band::Shape => 1,
+        Band::Structure => 2,
+        Band::Flags => 3,
+        Band::Products => 4,
     }
 }
 
