@@ -1,6 +1,6 @@
 -- What a factor has in use, counted; and how large the product of two factors is.
 -- Assumes nothing.
-use mathlib.Core.Path.{_≡_, refl, sym, ap, _∙_}
+use mathlib.Core.Path.{_≡_, sym, ap, _∙_}
 use mathlib.Core.Bool.{Bool}
 use mathlib.Core.List.{List}
 use Prim.Native.Nat.{ℕ, suc, _+_, _-_, _*_, _≤_, _<_, min as least}
@@ -22,11 +22,10 @@ use Rattle.pairing.proofs.Lengths.{rankSubs-lowest}
 use Rattle.closure.specs.Sizes.{allElements, sizesOf}
 use Rattle.closure.proofs.Sizes.{productOf-ranks, productOf-elements, productOf-ends, productOf-incidences}
 use Rattle.closure.proofs.Valid.{valid-sound}
-use Rattle.building.specs.Pairs.{used}
 use Rattle.product.specs.declared.sizes.Used.{Used}
 use Rattle.product.specs.declared.sizes.Sizes.{Sizes}
 use Rattle.product.specs.Made.{Usable, inUse, partOf, Counted, Little, Measures}
-use Rattle.product.proofs.Parts.{usable-shaped, usable-high, in-use-length, in-use-size, in-use-before, part-alike}
+use Rattle.product.proofs.Parts.{usable-shaped, in-use-length, in-use-size, in-use-before, part-alike}
 use Rattle.product.proofs.Parts.{used-above}
 
 -- ---- lists, one after another

@@ -2,8 +2,8 @@
 -- Assumes nothing.
 use mathlib.Core.Path.{_≡_, refl, sym, ap, _∙_}
 use mathlib.Core.Bool.{Bool, true, false, cond, _&&_}
-use mathlib.Core.List.{List, [], _∷_, _++_, map}
-use Prim.Native.Nat.{ℕ, zero, suc, pred, _+_, _-_, _*_, _≤_, _<_}
+use mathlib.Core.List.{List, _++_, map}
+use Prim.Native.Nat.{ℕ, suc, pred, _+_, _-_, _*_, _≤_, _<_}
 use native.Mathlib.Decide.{decLt}
 use native.Mathlib.Nat.{add-zero}
 use native.Mathlib.Numerals.{add-one}
@@ -11,13 +11,11 @@ use native.Mathlib.Omega.{arith}
 use borrow.Author.Tests.{eq-eqb, ne-eqb}
 use lib.Dec.{eqb}
 use lib.ListN.{length, getD, List·getD-eq-default}
-use Rattle.order.specs.Lists.{occurs}
 use Rattle.order.specs.Sums.{sum}
-use Rattle.order.specs.Pairs.{Pairs}
 use Rattle.order.proofs.Sums.{sum-same}
 use Rattle.listing.specs.Listing.{before}
-use Rattle.listing.specs.Layers.{Layers, Topped, order, derived}
-use Rattle.listing.specs.Written.{listAt, nth}
+use Rattle.listing.specs.Layers.{Layers, Topped, derived}
+use Rattle.listing.specs.Written.{listAt}
 use Rattle.listing.proofs.Layers.{in-range, derived-length}
 use Rattle.listing.proofs.Written.{nth-at}
 use Rattle.pairing.specs.Sound.{Sound}

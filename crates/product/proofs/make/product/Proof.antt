@@ -1,3 +1,8 @@
+-- `product`: where the sizes pass, all that the builder asks holds, and what it writes is the product.
+-- Assumes nothing.
+use native.Mathlib.Omega.{arith}
+use borrow.Author.Needs.{needs}
+use lib.ListN.{length}
 use Rattle.listing.specs.Listing.{Listing, listing, limits}
 use Rattle.listing.proofs.Answers.{no-of}
 use Rattle.pairing.specs.Product.{productOf}
@@ -6,22 +11,8 @@ use Rattle.product.proofs.Planned.{built-is, build-asked}
 use Rattle.product.proofs.Parts.{usable-shaped, usable-high}
 use Rattle.product.proofs.Tests.{Passed, sizes-passed}
 use Rattle.product.proofs.Made.{made-refused, made-written}
-use native.Mathlib.Omega.{arith}
-use mathlib.Core.Path.{_≡_, refl, sym, ap, _∙_}
-use Prim.Native.Nat.{ℕ, zero, suc, _+_, _-_, _*_, _≤_, _<_}
-use lib.ListN.{length, getD, take, drop}
-use borrow.Author.Needs.{needs}
 use Rattle.product.proofs.make.product.Statement.{statement}
 use Rattle.product.proofs.make.product.Tie as tie
-use Rattle.product.proofs.make.product.Reads as reads
-use Rattle.product.proofs.make.product.Lts as lts
-use Rattle.building.proofs.build.build.Reads as build-reads
-use Rattle.product.proofs.make.refused.Reads as refused-reads
-use Rattle.product.proofs.make.written.Reads as written-reads
-use Rattle.product.proofs.sizes.check_sizes.Reads as check-sizes-reads
-use Rattle.product.proofs.sizes.count_used.Reads as count-used-reads
-use Rattle.product.proofs.sizes.product_sizes.Reads as product-sizes-reads
-use Rattle.product.proofs.sizes.range.Reads as range-reads
 
 -- the factors, and their product
 abbrev left : tie.Start → Listing
@@ -43,60 +34,46 @@ measures c =
 passed : (c : tie.Else1) → Passed limits (result (c .before .before .before .before .before .before .before .before .before .before .before .before .before .before .before)) (length (c .before .before .before .before .before .before .before .before .before .before .before .before .before .before .before .args .counts .now)) (length (c .before .before .before .before .before .before .before .before .before .before .before .before .before .before .before .args .ends .now)) (length (c .before .before .before .before .before .before .before .before .before .before .before .before .before .before .before .args .inc .now))
 passed c = sizes-passed _ _ _ _ _ (no-of (c .before .before .check-sizes .ensures _ (measures (c .before .before))) (c .if1 .left))
 
--- src/make.rt:120:9
 count-used-requires : tie.Need-count-used-requires
 count-used-requires c κs = search needs
 
--- src/make.rt:121:9
 count-used-requires-2 : tie.Need-count-used-requires-2
 count-used-requires-2 c κs = search needs
 
--- src/make.rt:122:9
 product-sizes-requires : tie.Need-product-sizes-requires
 product-sizes-requires c κs = search needs
 
--- src/make.rt:123:9
 check-sizes-requires : tie.Need-check-sizes-requires
 check-sizes-requires c κs = search needs
 
--- src/make.rt:125:9
 refused-requires : tie.Need-refused-requires
 refused-requires c κs = search needs
 
--- src/make.rt:125:9
 returns : tie.Need-returns
 returns c = let m = measures (c .before .before .before) in
     made-refused _ _ (c .before .if1 .taken) _ (c .before .before .before .check-sizes .ensures _ m) _ _ _ _ (c .refused .ensures _ (c .before .if1 .taken))
 
--- src/make.rt:127:9
 range-requires : tie.Need-range-requires
 range-requires c κs = omega (arith, usable-high _ _ _ (c .before .before .before .before .before .before .before .before .before .before .before .before .before .before .before .pre .0), usable-shaped _ _ _ (c .before .before .before .before .before .before .before .before .before .before .before .before .before .before .before .pre .0) .some-rank)
 
--- src/make.rt:128:9
 range-requires-2 : tie.Need-range-requires-2
 range-requires-2 c κs = omega (arith, usable-high _ _ _ (c .before .before .before .before .before .before .before .before .before .before .before .before .before .before .before .before .pre .1), usable-shaped _ _ _ (c .before .before .before .before .before .before .before .before .before .before .before .before .before .before .before .before .pre .1) .some-rank)
 
--- src/make.rt:129:5
 build-requires : tie.Need-build-requires
 build-requires c κs = build-asked _ _ _ _ (c .before .before .before .before .before .before .before .before .before .before .before .before .before .before .before .before .before .before .before .before .pre .0) (c .before .before .before .before .before .before .before .before .before .before .before .before .before .before .before .before .before .before .before .before .pre .1) _ _ (c .before .before .before .before .range .ensures) (c .before .before .before .range2 .ensures) (c .before .before .before .before .before .before .before .before .before .before .before .before .before .before .before .before .before .before .before .before .args .counts .now) (c .before .before .before .before .before .before .before .before .before .before .before .before .before .before .before .before .before .before .before .before .args .ends .now) (c .before .before .before .before .before .before .before .before .before .before .before .before .before .before .before .before .before .before .before .before .args .inc .now) (passed (c .before .before .before .before .before))
 
--- src/make.rt:132:5
 written-requires : tie.Need-written-requires
 written-requires c κs = let m = measures (c .before .before .before .before .before .before .before .before .before .before .before .before .before .before) in let q = passed (c .before .before .before .before .before .before .before .before .before .before .before .before) in omega (arith, m, q)
 
--- src/make.rt:95:1
 same-length : tie.Need-same-length
 same-length c = search needs
 
--- src/make.rt:95:1
 same-length-2 : tie.Need-same-length-2
 same-length-2 c = search needs
 
--- src/make.rt:95:1
 same-length-3 : tie.Need-same-length-3
 same-length-3 c = search needs
 
--- src/make.rt:95:1
 returns-2 : tie.Need-returns-2
 returns-2 c = let m = measures (c .before .before .before .before .before .before .before .before .before .before .before .before .before .before .before) in
     let b = built-is _ _ _ _ (c .before .before .before .before .before .before .before .before .before .before .before .before .before .before .before .before .before .before .before .before .before .before .before .before .before .before .before .before .pre .0) (c .before .before .before .before .before .before .before .before .before .before .before .before .before .before .before .before .before .before .before .before .before .before .before .before .before .before .before .before .pre .1) _ _ (c .before .before .before .before .before .before .before .before .before .before .before .before .range .ensures) (c .before .before .before .before .before .before .before .before .before .before .before .range2 .ensures) in
