@@ -16,12 +16,15 @@ refused-requires : tie.Need-refused-requires
 refused-requires c κs = search needs
 
 returns : tie.Need-returns
-returns c = let e = c .before .before .before .check-factors .ensures in
+returns c =
+    let e = c .before .before .before .check-factors .ensures in
     let h = c .before .if1 .taken in
-    made-outcome _ _ _ _ _ _ _ _ _ _ _ _ (e ∙ factors-decide _ _ _ _ _ _ _ _ (stops e h)) (made-refused _ _ h _ refl _ _ _ _ (c .refused .ensures _ h))
+    made-outcome _ _ _ _ _ _ _ _ _ _ _ _ (e ∙ factors-decide _ _ _ _ _ _ _ _ (stops e h))
+    (made-refused _ _ h _ refl _ _ _ _ (c .refused .ensures _ h))
 
 product-of-valid-requires : tie.Need-product-of-valid-requires
-product-of-valid-requires c κs = factors-valid _ _ _ (no-of (c .before .before .before .before .before .check-factors .ensures) (c .before .before .before .if1 .left))
+product-of-valid-requires c κs =
+    factors-valid _ _ _ (no-of (c .before .before .before .before .before .check-factors .ensures) (c .before .before .before .if1 .left))
 
 same-length : tie.Need-same-length
 same-length c = search needs
@@ -33,7 +36,10 @@ same-length-3 : tie.Need-same-length-3
 same-length-3 c = search needs
 
 returns-2 : tie.Need-returns-2
-returns-2 c = made-outcome _ _ _ _ _ _ _ _ _ _ _ _ (rest-decides _ _ _ _ _ _ _ _ (no-of (c .before .before .before .before .before .before .before .before .before .before .before .before .check-factors .ensures) (c .before .before .before .before .before .before .before .before .before .before .if1 .left))) (c .before .before .before .before .before .before .product-of-valid .ensures)
+returns-2 c =
+    let d = c .before .before .before .before .before .before .before .before .before .before in
+    let z = no-of (d .before .before .check-factors .ensures) (d .if1 .left) in
+    made-outcome _ _ _ _ _ _ _ _ _ _ _ _ (rest-decides _ _ _ _ _ _ _ _ z) (c .before .before .before .before .before .before .product-of-valid .ensures)
 
 pub make-spec : {M : Type 1} → statement M
 make-spec =
