@@ -1,4 +1,4 @@
--- A factor's ranks in use: which counts are left, and that what the builder is given says the same as the layers in use.
+-- A factor's ranks in use: which counts are left, and that what the builder is given says what the layers in use say.
 -- Assumes nothing.
 use mathlib.Core.Path.{_≡_, refl, ap, _∙_}
 use mathlib.Core.Bool.{Bool, true, false}

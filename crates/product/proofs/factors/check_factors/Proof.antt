@@ -26,8 +26,9 @@ plain-requires-2 c κs = search needs
 
 returns-2 : tie.Need-returns-2
 returns-2 c =
-    let a = no-of (c .before .before .before .before .before .before .is-valid .ensures) (c .before .before .before .before .if1 .left) in
-    let b = stops (c .before .before .before .is-valid2 .ensures) (c .before .if2 .taken) in
+    let d = c .before .before .before in
+    let a = no-of (d .before .before .before .is-valid .ensures) (d .before .if1 .left) in
+    let b = stops (d .is-valid2 .ensures) (c .before .if2 .taken) in
     c .plain2 .ensures ∙ sym (factors-right _ _ _ a b)
 
 plain-requires-3 : tie.Need-plain-requires-3
@@ -35,8 +36,9 @@ plain-requires-3 c κs = search needs
 
 returns-3 : tie.Need-returns-3
 returns-3 c =
-    let a = no-of (c .before .before .before .before .before .before .is-valid .ensures) (c .before .before .before .before .if1 .left) in
-    let b = no-of (c .before .before .before .is-valid2 .ensures) (c .before .if2 .left) in
+    let d = c .before .before .before in
+    let a = no-of (d .before .before .before .is-valid .ensures) (d .before .if1 .left) in
+    let b = no-of (d .is-valid2 .ensures) (c .before .if2 .left) in
     c .plain3 .ensures ∙ sym (factors-fine _ _ _ a b)
 
 pub check-factors-spec : {M : Type 1} → statement M

@@ -24,7 +24,8 @@ returns c =
 
 product-of-valid-requires : tie.Need-product-of-valid-requires
 product-of-valid-requires c κs =
-    factors-valid _ _ _ (no-of (c .before .before .before .before .before .check-factors .ensures) (c .before .before .before .if1 .left))
+    let d = c .before .before .before in
+    factors-valid _ _ _ (no-of (d .before .before .check-factors .ensures) (d .if1 .left))
 
 same-length : tie.Need-same-length
 same-length c = search needs
@@ -37,9 +38,10 @@ same-length-3 c = search needs
 
 returns-2 : tie.Need-returns-2
 returns-2 c =
-    let d = c .before .before .before .before .before .before .before .before .before .before in
+    let b = c .before .before .before .before .before .before in
+    let d = b .before .before .before .before in
     let z = no-of (d .before .before .check-factors .ensures) (d .if1 .left) in
-    made-outcome _ _ _ _ _ _ _ _ _ _ _ _ (rest-decides _ _ _ _ _ _ _ _ z) (c .before .before .before .before .before .before .product-of-valid .ensures)
+    made-outcome _ _ _ _ _ _ _ _ _ _ _ _ (rest-decides _ _ _ _ _ _ _ _ z) (b .product-of-valid .ensures)
 
 pub make-spec : {M : Type 1} → statement M
 make-spec =

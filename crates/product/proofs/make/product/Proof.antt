@@ -33,9 +33,11 @@ result s = productOf (s .args .min) (s .args .max) (left s) (right s)
 -- the sizes are those of the product
 measures : (c : tie.After-check-sizes) → Measures (result (start c)) (c .before .product-sizes .result)
 measures c =
+    let s = start c in
     let d = c .before in
-    let u = start c .pre in
-    d .product-sizes .ensures _ _ (u .0) (u .1) (d .before .before .count-used .ensures .1) (d .before .count-used2 .ensures .1)
+    let a = d .before .before .count-used .ensures .1 in
+    let b = d .before .count-used2 .ensures .1 in
+    d .product-sizes .ensures _ _ (s .pre .0) (s .pre .1) a b
 
 -- the test's answer is that of the product's sizes
 tested : (c : tie.After-check-sizes) → let a = start c .args in
@@ -82,8 +84,10 @@ build-requires : tie.Need-build-requires
 build-requires c κs =
     let s = start (c .before .before .before .before .before .before .before) in
     let a = s .args in
-    build-asked _ _ _ _ (s .pre .0) (s .pre .1) _ _ (c .before .before .before .before .range .ensures) (c .before .before .before .range2 .ensures)
-    (a .counts .now) (a .ends .now) (a .inc .now) (passed (c .before .before .before .before .before))
+    let h = passed (c .before .before .before .before .before) in
+    let p = c .before .before .before .before .range .ensures in
+    let q = c .before .before .before .range2 .ensures in
+    build-asked _ _ _ _ (s .pre .0) (s .pre .1) _ _ p q (a .counts .now) (a .ends .now) (a .inc .now) h
 
 written-requires : tie.Need-written-requires
 written-requires c κs =
@@ -104,10 +108,14 @@ returns-2 : tie.Need-returns-2
 returns-2 c =
     let b = c .before .before .before .before .before .before .before in
     let d = b .before .before .before .before .before .before in
+    let t = d .before .before in
+    let s = start t in
     let z = d .if1 .left in
-    let u = start (d .before .before) .pre in
-    let e = built-is _ _ _ _ (u .0) (u .1) _ _ (b .before .before .before .before .before .range .ensures) (b .before .before .before .before .range2 .ensures) in
-    made-written _ _ z _ (tested (d .before .before)) _ _ _ _ _ _ _ (c .written .ensures _ (measures (d .before .before)) z)
+    let w = c .written .ensures _ (measures t) z in
+    let p = b .before .before .before .before .before .range .ensures in
+    let q = b .before .before .before .before .range2 .ensures in
+    let e = built-is _ _ _ _ (s .pre .0) (s .pre .1) _ _ p q in
+    made-written _ _ z _ (tested t) _ _ _ _ _ _ _ w
     (rw e at (b .build .ensures .0)) (rw e at (b .build .ensures .1 .0)) (rw e at (b .build .ensures .1 .1))
 
 pub product-spec : {M : Type 1} → statement M

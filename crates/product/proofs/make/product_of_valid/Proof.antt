@@ -86,9 +86,10 @@ refused-requires c κs = search needs
 
 returns-2 : tie.Need-returns-2
 returns-2 c =
+    let d = c .before .before .before in
     let k = c .before .plain .ensures in
     let h : c .before .plain .result .no ≡ 0 → ⊥ = λ z. omega (arith, ap (λ (a : Answer). a .no) k) in
-    let y = sym (c .before .before .before .is-comb-of-point .ensures _ _ refl refl (no-null (c .before .before .before .before))) ∙ c .before .before .if2 .taken in
+    let y = sym (d .is-comb-of-point .ensures _ _ refl refl (no-null (d .before))) ∙ c .before .before .if2 .taken in
     made-refused _ _ h _ (k ∙ comb-decides _ _ _ _ _ _ _ _ y) _ _ _ _ (c .refused .ensures _ h)
 
 product-requires : tie.Need-product-requires
@@ -105,9 +106,10 @@ same-length-6 c = search needs
 
 returns-3 : tie.Need-returns-3
 returns-3 c =
-    let d = c .before .before .before .before .before .before .before .before .before .before .before in
     let b = c .before .before .before .before .before .before in
-    first-made _ _ _ _ _ _ _ _ _ _ _ (no-null (d .before .before)) (no-comb d) (b .before .before .before .before .if3 .taken) (b .product .ensures)
+    let t = b .before .before .before .before in
+    let d = t .before in
+    first-made _ _ _ _ _ _ _ _ _ _ _ (no-null (d .before .before)) (no-comb d) (t .if3 .taken) (b .product .ensures)
 
 product-requires-2 : tie.Need-product-requires-2
 product-requires-2 c κs =
@@ -125,9 +127,10 @@ same-length-9 c = search needs
 
 returns-4 : tie.Need-returns-4
 returns-4 c =
-    let d = c .before .before .before .before .before .before .before .before .before .before .before in
     let b = c .before .before .before .before .before .before in
-    second-made _ _ _ _ _ _ _ _ _ _ _ (no-null (d .before .before)) (no-comb d) (b .before .before .before .before .if3 .left) (b .product2 .ensures)
+    let t = b .before .before .before .before in
+    let d = t .before in
+    second-made _ _ _ _ _ _ _ _ _ _ _ (no-null (d .before .before)) (no-comb d) (t .if3 .left) (b .product2 .ensures)
 
 pub product-of-valid-spec : {M : Type 1} → statement M
 product-of-valid-spec =

@@ -55,10 +55,12 @@ same-length-2 c = search needs
 
 returns-2 : tie.Need-returns-2
 returns-2 c =
+    let a = c .before .before .before .before .before .before .before .args in
+    let t = tested (c .before .before .before) in
     let z = c .before .if1 .left in
     let q = passed (c .before) in
-    let a = c .before .before .before .before .before .before .before .args in
-    made-written _ nullitope z _ (tested (c .before .before .before)) _ _ _ _ _ _ _ (c .written .ensures nullitope nullitope-measures z)
+    let w = c .written .ensures nullitope nullitope-measures z in
+    made-written _ nullitope z _ t _ _ _ _ _ _ _ w
     (one-set (a .counts .now) 1 (q .room-counts)) (two-set (a .ends .now) 0 0 (q .room-ends)) refl
 
 pub put-nullitope-spec : {M : Type 1} → statement M

@@ -22,20 +22,25 @@ elements-to-requires : tie.Need-elements-to-requires
 elements-to-requires c κs = search needs
 
 shared-slice-read-wide : tie.Need-shared-slice-read-wide
-shared-slice-read-wide c = omega (arith, room _ _ _ (c .before .before .before .before .before .before .before .pre) _ (c .before .before .before .range .ensures))
+shared-slice-read-wide c =
+    let d = c .before .before .before in
+    omega (arith, room _ _ _ (d .before .before .before .before .pre) _ (d .range .ensures))
 
 wide-requires : tie.Need-wide-requires
 wide-requires c κs = search needs
 
 sub-wide : tie.Need-sub-wide
-sub-wide c = omega (arith, room _ _ _ (c .before .before .before .before .before .before .before .before .pre) _ (c .before .before .before .before .range .ensures))
+sub-wide c =
+    let d = c .before .before .before .before in
+    omega (arith, room _ _ _ (d .before .before .before .before .pre) _ (d .range .ensures))
 
 mul-wide : tie.Need-mul-wide
 mul-wide c = search needs
 
 shared-slice-read-wide-2 : tie.Need-shared-slice-read-wide-2
 shared-slice-read-wide-2 c =
-    omega (arith, room _ _ _ (c .before .before .before .before .before .before .before .before .before .pre) _ (c .before .before .before .before .before .range .ensures))
+    let d = c .before .before .before .before .before in
+    omega (arith, room _ _ _ (d .before .before .before .before .pre) _ (d .range .ensures))
 
 wide-requires-2 : tie.Need-wide-requires-2
 wide-requires-2 c κs = search needs
@@ -43,12 +48,14 @@ wide-requires-2 c κs = search needs
 add-subs-listed : tie.Need-add-subs-listed
 add-subs-listed c =
     let d = c .before .before .before .before .before in
-    omega (arith, d .bit-of .ensures, bit-le (d .before .before .before .before .before .args .min), c .before .before .wide .ensures .1)
+    let b = bit-le (d .before .before .before .before .before .args .min) in
+    omega (arith, d .bit-of .ensures, c .before .before .wide .ensures .1)
 
 add-subs-listed-2 : tie.Need-add-subs-listed-2
 add-subs-listed-2 c =
-    let d = c .before .before .before .before in
-    omega (arith, d .before .bit-of .ensures, bit-le (d .before .before .before .before .before .before .args .min), d .elements-to .ensures)
+    let d = c .before .before .before .before .before in
+    let b = bit-le (d .before .before .before .before .before .args .min) in
+    omega (arith, d .bit-of .ensures, c .before .before .before .before .elements-to .ensures)
 
 subs-listed-requires : tie.Need-subs-listed-requires
 subs-listed-requires c κs =

@@ -10,22 +10,33 @@ use Rattle.product.proofs.Counted.{measured}
 use Rattle.product.proofs.sizes.product_sizes.Statement.{statement}
 use Rattle.product.proofs.sizes.product_sizes.Tie as tie
 
+-- where the function began, and where it had the flags as numbers
+abbrev start : tie.After-struct-known2 → tie.Start
+start c = c .before .before .before .before .before .before .before .before .before .before .before
+
+abbrev flags : tie.After-struct-known2 → tie.After-bit-of2
+flags c = c .before .before .before .before .before .before .before .before .before
+
 -- the added ends are at most one each
-few : (c : tie.After-struct-known2) → (c .before .before .before .before .before .before .before .before .before .before .bit-of .result ≤ 1) × (c .before .before .before .before .before .before .before .before .before .bit-of2 .result ≤ 1)
+few : (c : tie.After-struct-known2)
+    → (flags c .before .bit-of .result ≤ 1) × (flags c .bit-of2 .result ≤ 1)
 few c =
-    let d = c .before .before .before .before .before .before .before .before .before in
-    let a = d .before .before .args in
+    let a = start c .args in
+    let d = flags c in
     omega (arith, d .before .bit-of .ensures, bit-le (a .min), d .bit-of2 .ensures, bit-le (a .max))
 
 -- what they bring: one incidence for each lowest, and for each highest pair
-brought : (c : tie.After-struct-known2) → let a = c .before .before .before .before .before .before .before .before .before .before .before .args in
-    (c .before .before .before .before .where-asked .result ≡ bit (a .min) * (a .p .lowest * a .q .lowest))
-    × (c .before .before .where-asked2 .result ≡ bit (a .max) * (a .p .highest * a .q .highest))
-brought c =
-    let a = c .before .before .before .before .before .before .before .before .before .before .before .args in (
-      c .before .before .before .before .where-asked .ensures .0 ∙ ap (λ (n : ℕ). bit (a .min) * n) (c .before .before .before .before .before .times4 .ensures .0),
-      c .before .before .where-asked2 .ensures .0 ∙ ap (λ (n : ℕ). bit (a .max) * n) (c .before .before .before .times5 .ensures .0),
-    )
+lowest : (c : tie.After-struct-known2) → let a = start c .args in
+    c .before .before .before .before .where-asked .result ≡ bit (a .min) * (a .p .lowest * a .q .lowest)
+lowest c =
+    let d = c .before .before .before .before in
+    d .where-asked .ensures .0 ∙ ap (λ (n : ℕ). bit (start c .args .min) * n) (d .before .times4 .ensures .0)
+
+highest : (c : tie.After-struct-known2) → let a = start c .args in
+    c .before .before .where-asked2 .result ≡ bit (a .max) * (a .p .highest * a .q .highest)
+highest c =
+    let d = c .before .before in
+    d .where-asked2 .ensures .0 ∙ ap (λ (n : ℕ). bit (start c .args .max) * n) (d .before .times5 .ensures .0)
 
 bit-of-requires : tie.Need-bit-of-requires
 bit-of-requires c κs = search needs
@@ -86,15 +97,11 @@ mul-t19 c = search needs
 
 returns : tie.Need-returns
 returns c = λ A B uA uB cA cB.
+    let a = start c .args in
     let d = c .before .before .before .before .before .before in
-    let a = d .before .before .before .before .before .args in
-    let low = d .before .before .before .before .bit-of .ensures in
-    let high = d .before .before .before .bit-of2 .ensures in
-    let w = brought c in
-    measured (a .min) (a .max) A B uA uB (a .p) (a .q) cA cB _
-    (rw (low, high))
-    (rw (low, high, d .before .before .times .ensures .0))
-    (rw (d .before .times2 .ensures .0, d .times3 .ensures .0, w .0, w .1))
+    measured (a .min) (a .max) A B uA uB (a .p) (a .q) cA cB
+    (flags c .before .bit-of .ensures) (flags c .bit-of2 .ensures)
+    (d .before .before .times .ensures .0) (d .before .times2 .ensures .0) (d .times3 .ensures .0) (lowest c) (highest c)
 
 pub product-sizes-spec : {M : Type 1} → statement M
 product-sizes-spec =

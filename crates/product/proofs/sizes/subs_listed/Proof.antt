@@ -21,10 +21,12 @@ abbrev μ-loop : tie.MeasureT-loop
 μ-loop ends inc from to n₀ e₀ n e = to - e
 
 -- the list at hand is no longer than all incidences
-few : (c : tie.After-list-of Inv-loop μ-loop) → length (c .list-of .result .now) ≤ length (c .before .before .before .before .before .args .inc .now)
+few : (c : tie.After-list-of Inv-loop μ-loop) → let a = c .before .before .before .before .before .args in
+    length (c .list-of .result .now) ≤ length (a .inc .now)
 few c =
     let a = c .before .before .before .before .before .args in
-    omega (arith, ap length (c .list-of .ensures), entries-few (a .ends .now) (a .inc .now) (2 * c .before .before .loop .e))
+    let e = ap length (c .list-of .ensures) in
+    omega (arith, e, entries-few (a .ends .now) (a .inc .now) (2 * c .before .before .loop .e))
 
 loop-holds : tie.Need-loop-holds Inv-loop μ-loop
 loop-holds c = (omega arith, omega arith, listed-none _ _ _, omega arith)
