@@ -17,14 +17,13 @@ use Rattle.valid.specs.Closed.{Closed}
 use Rattle.pairing.specs.Sound.{Sound}
 use Rattle.pairing.specs.Product.{productOf}
 use Rattle.closure.specs.Result.{first, second, nullCase, resultOf, HighEnough}
-use Rattle.closure.specs.Sizes.{Within}
 use Rattle.closure.proofs.Results.{result-product, result-null, nullitope-closed, both}
 use Rattle.closure.proofs.Sizes.{productOf-ranks, productOf-elements, productOf-incidences, productOf-within}
 use Rattle.closure.proofs.Valid.{valid-sound}
 use Rattle.closure.proofs.Products.{four-closed}
 use Rattle.building.specs.Filling.{over}
 use Rattle.product.specs.declared.Built.{Built}
-use Rattle.product.specs.Outcome.{productTest, builtOf, after, Outcome}
+use Rattle.product.specs.Outcome.{productTest, Outcome}
 use Rattle.product.proofs.Tests.{Passed}
 use Rattle.product.proofs.Made.{answer-is, built-refused, after-refused, built-full, after-full}
 use Rattle.product.proofs.Chain.{chain-passed}

@@ -8,7 +8,7 @@ use native.Mathlib.Omega.{arith}
 use lib.ListN.{length}
 use Rattle.listing.specs.declared.Answer.{Answer}
 use Rattle.listing.specs.Refusals.{combOfPoint}
-use Rattle.listing.specs.Answers.{plain, ifZero, on, _orElse_}
+use Rattle.listing.specs.Answers.{plain, _orElse_}
 use Rattle.listing.specs.Listing.{Listing, Limits, limits}
 use Rattle.listing.proofs.Answers.{or-fine, or-stop, or-no, on-or-no, no-of}
 use Rattle.valid.specs.Tests.{isValid}
@@ -16,7 +16,7 @@ use Rattle.pairing.specs.Product.{productOf, nullitope}
 use Rattle.closure.specs.Result.{nullCase, combCase, resultOf}
 use Rattle.closure.proofs.Results.{result-product, result-null}
 use Rattle.product.specs.declared.Built.{Built}
-use Rattle.product.specs.Outcome.{sizeTest, productTest, builtOf, after, Outcome}
+use Rattle.product.specs.Outcome.{sizeTest, productTest, Outcome}
 use Rattle.product.specs.Made.{factorsTest, restTest, Made}
 use Rattle.product.proofs.Tests.{Passed, factors-valid, sizes-passed}
 use Rattle.product.proofs.Made.{answer-is}

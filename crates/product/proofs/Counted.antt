@@ -1,6 +1,6 @@
 -- What a factor has in use, counted; and how large the product of two factors is.
 -- Assumes nothing.
-use mathlib.Core.Path.{_≡_, refl, sym, ap, _∙_}
+use mathlib.Core.Path.{_≡_, sym, ap, _∙_}
 use mathlib.Core.Bool.{Bool}
 use mathlib.Core.List.{List}
 use Prim.Native.Nat.{ℕ, suc, _+_, _-_, _*_, _≤_, _<_, min as least}
@@ -22,11 +22,10 @@ use Rattle.pairing.proofs.Lengths.{rankSubs-lowest}
 use Rattle.closure.specs.Sizes.{allElements, sizesOf}
 use Rattle.closure.proofs.Sizes.{productOf-ranks, productOf-elements, productOf-ends, productOf-incidences}
 use Rattle.closure.proofs.Valid.{valid-sound}
-use Rattle.building.specs.Pairs.{used}
 use Rattle.product.specs.declared.sizes.Used.{Used}
 use Rattle.product.specs.declared.sizes.Sizes.{Sizes}
 use Rattle.product.specs.Made.{Usable, inUse, partOf, Counted, Little, Measures}
-use Rattle.product.proofs.Parts.{usable-shaped, usable-high, in-use-length, in-use-size, in-use-before, part-alike}
+use Rattle.product.proofs.Parts.{usable-shaped, in-use-length, in-use-size, in-use-before, part-alike}
 use Rattle.product.proofs.Parts.{used-above}
 
 -- ---- lists, one after another
@@ -88,7 +87,9 @@ module _ (min max : Bool) (L : Listing) (u : Usable min max L) where
 
   -- no more than the limits allow
   pub in-use-few : bit min + before p (length p) ≤ elements L
-  in-use-few = omega (arith, in-use-before min max L u (length p) (omega arith), before-all (L .counts) (bit min + length p))
+  in-use-few =
+      let b = in-use-before min max L u (length p) (omega arith) in
+      omega (arith, before-all (L .counts) (bit min + length p))
 
   -- the subs of the elements of a rank
   abbrev h : ℕ → ℕ
@@ -174,33 +175,33 @@ ranks-add : (a b m n x y : ℕ) → x ≡ suc a → y ≡ suc b → suc (a + b +
 ranks-add a b m n x y p q = omega arith
 
 module _ (min max : Bool) (A B : Listing) (uA : Usable min max A) (uB : Usable min max B) (p q : Used)
-    (cp : Counted (trimmed min max (layers A)) p) (cq : Counted (trimmed min max (layers B)) q) (s : Sizes)
-  where
-    pub measured : s .ranks ≡ p .ranks + q .ranks - 1 + bit min + bit max
-        → s .elements ≡ p .elements * q .elements + bit min + bit max
-        → s .incidences ≡ 2 * (p .subs * q .elements + q .subs * p .elements + bit min * (p .lowest * q .lowest)
-        + bit max * (p .highest * q .highest))
-        → Measures (productOf min max A B) s
-    unfolding sizesOf
-    measured er ee ei =
-        let n = productOf-elements min max A B ∙ sym (rw (cp .elements, cq .elements) at ee) in
-        record {
-          ranks = productOf-ranks min max A B ∙ ranks-add _ _ _ _ _ _ (cp .ranks) (cq .ranks) ∙ sym er;
-          elements = n;
-          ends = productOf-ends min max A B ∙ ap (λ k. 2 * k) (sym (productOf-elements min max A B) ∙ n);
-          incidences =
-              productOf-incidences min max A B (valid-sound limits A (uA .valid)) (valid-sound limits B (uB .valid))
-              ∙ omega (
-                arith,
-                rw (
-                  cp .subs,
-                  cp .elements,
-                  cp .lowest,
-                  cp .highest,
-                  cq .subs,
-                  cq .elements,
-                  cq .lowest,
-                  cq .highest,
-                ) at ei,
-              );
-        }
+    (cp : Counted (trimmed min max (layers A)) p) (cq : Counted (trimmed min max (layers B)) q) where
+  of-sizes : (s : Sizes) → s .ranks ≡ p .ranks + q .ranks - 1 + bit min + bit max
+      → s .elements ≡ p .elements * q .elements + bit min + bit max
+      → s .incidences ≡ 2 * (p .subs * q .elements + q .subs * p .elements + bit min * (p .lowest * q .lowest)
+      + bit max * (p .highest * q .highest))
+      → Measures (productOf min max A B) s
+  unfolding sizesOf
+  of-sizes s er ee ei =
+      let n = productOf-elements min max A B ∙ sym (rw (cp .elements, cq .elements) at ee) in
+      let sA = valid-sound limits A (uA .valid) in
+      let sB = valid-sound limits B (uB .valid) in
+      let f = rw (cp .subs, cp .elements, cp .lowest, cp .highest) at ei in
+      let g = rw (cq .subs, cq .elements, cq .lowest, cq .highest) at f in
+      record {
+        ranks = productOf-ranks min max A B ∙ ranks-add _ _ _ _ _ _ (cp .ranks) (cq .ranks) ∙ sym er;
+        elements = n;
+        ends = productOf-ends min max A B ∙ ap (λ k. 2 * k) (sym (productOf-elements min max A B) ∙ n);
+        incidences = productOf-incidences min max A B sA sB ∙ omega (arith, g);
+      }
+
+  -- the sizes as the code computes them, from the numbers that it has in hand
+  pub measured : {low high pairs left right lowest highest : ℕ} → low ≡ bit min → high ≡ bit max
+      → pairs ≡ p .elements * q .elements → left ≡ p .subs * q .elements → right ≡ q .subs * p .elements
+      → lowest ≡ bit min * (p .lowest * q .lowest) → highest ≡ bit max * (p .highest * q .highest)
+      → Measures (productOf min max A B) (record {
+        ranks = p .ranks + q .ranks - 1 + low + high;
+        elements = pairs + low + high;
+        incidences = 2 * (left + right + lowest + highest);
+      })
+  measured a b e l r f g = of-sizes _ (rw (a, b)) (rw (a, b, e)) (rw (l, r, f, g))

@@ -1,20 +1,15 @@
 -- The lists of layers by their numbers: the sups among them are derived, and all numbers in them are small.
 -- Assumes nothing.
-use mathlib.Core.Path.{_≡_, refl, sym, ap, _∙_}
-use mathlib.Core.Logic.{_⊎_, inl, inr}
-use mathlib.Core.Bool.{Bool, true, false, cond}
-use mathlib.Core.List.{List, [], _∷_}
+use mathlib.Core.Path.{_≡_, refl, sym, _∙_}
+use mathlib.Core.List.{List}
 use Prim.Native.Nat.{ℕ, zero, suc, pred, _+_, _-_, _*_, _/_, _%_, _≤_, _<_}
 use native.Mathlib.Decide.{decLt}
 use native.Mathlib.Numerals.{add-one}
 use native.Mathlib.Omega.{arith}
 use borrow.Author.Tests.{ne-eqb}
-use lib.Dec.{eqb}
-use lib.ListN.{length, getD}
 use Rattle.order.specs.Lists.{In}
 use Rattle.order.specs.Sums.{sum, place}
 use Rattle.order.proofs.Sums.{choose-no, sum-lt, place-ok}
-use Rattle.listing.specs.Listing.{Listing, limits, before}
 use Rattle.listing.specs.Layers.{Layers, Topped, layers, gather, derived}
 use Rattle.listing.specs.Written.{listAt, nth, written}
 use Rattle.listing.proofs.Layers.{in-range, derived-in}

@@ -1,9 +1,9 @@
--- The lists of what the builder is asked to write: where those of a pair stand, what a pair has under it and how many over.
+-- The lists of what the builder is asked to write: where those of a pair stand, what it has under it and how many over.
 -- Assumes nothing.
 use mathlib.Core.Path.{_≡_, refl, sym, ap, _∙_}
 use mathlib.Core.Bool.{Bool, true, false, cond, _&&_}
-use mathlib.Core.List.{List, [], _∷_, _++_, map}
-use Prim.Native.Nat.{ℕ, zero, suc, pred, _+_, _-_, _*_, _≤_, _<_}
+use mathlib.Core.List.{List, _++_, map}
+use Prim.Native.Nat.{ℕ, suc, pred, _+_, _-_, _*_, _≤_, _<_}
 use native.Mathlib.Decide.{decLt}
 use native.Mathlib.Nat.{add-zero}
 use native.Mathlib.Numerals.{add-one}
@@ -11,13 +11,11 @@ use native.Mathlib.Omega.{arith}
 use borrow.Author.Tests.{eq-eqb, ne-eqb}
 use lib.Dec.{eqb}
 use lib.ListN.{length, getD, List·getD-eq-default}
-use Rattle.order.specs.Lists.{occurs}
 use Rattle.order.specs.Sums.{sum}
-use Rattle.order.specs.Pairs.{Pairs}
 use Rattle.order.proofs.Sums.{sum-same}
 use Rattle.listing.specs.Listing.{before}
-use Rattle.listing.specs.Layers.{Layers, Topped, order, derived}
-use Rattle.listing.specs.Written.{listAt, nth}
+use Rattle.listing.specs.Layers.{Layers, Topped, derived}
+use Rattle.listing.specs.Written.{listAt}
 use Rattle.listing.proofs.Layers.{in-range, derived-length}
 use Rattle.listing.proofs.Written.{nth-at}
 use Rattle.pairing.specs.Sound.{Sound}
@@ -211,15 +209,17 @@ counted-over P up u i a h = derived-length (factorLayers P) i a ∙ rw (← add-
 
 module _ (min max : Bool) (P Q : Factor) (i a j b : ℕ) (ha : a < getD (P .counts) i 0) (hb : b < getD (Q .counts) j 0)
   where
-    pub pair-under : listsOf min max P Q (2 * number min (P .counts) (Q .counts) i a j b) ≡ underPair min P Q i a j b
+    abbrev n : ℕ
+    n = number min (P .counts) (Q .counts) i a j b
+
+    pub pair-under : listsOf min max P Q (2 * n) ≡ underPair min P Q i a j b
     unfolding listAt
     pair-under =
-        let z : 2 * number min (P .counts) (Q .counts) i a j b ≡ 2 * number min (P .counts) (Q .counts) i a j b + 0 = omega arith in
+        let z : 2 * n ≡ 2 * n + 0 = omega arith in
         rw z (pair-lists min max P Q i a j b ha hb 0 (omega arith) ∙ under-at min max P Q i a j b ha hb)
 
-    pub pair-over : Sound (factorLayers P) → Sound (factorLayers Q) → (upP upQ : List ℕ) → UpCounts P upP → UpCounts Q upQ
-        → length (listsOf min max P Q (2 * number min (P .counts) (Q .counts) i a j b + 1))
-        ≡ overPair max P Q upP upQ i a j b
+    pub pair-over : Sound (factorLayers P) → Sound (factorLayers Q) → (upP upQ : List ℕ)
+        → UpCounts P upP → UpCounts Q upQ → length (listsOf min max P Q (2 * n + 1)) ≡ overPair max P Q upP upQ i a j b
     unfolding listAt overPair
     pair-over sP sQ upP upQ cP cQ =
         ap length (pair-lists min max P Q i a j b ha hb 1 (omega arith)) ∙ over-at min max P Q sP sQ i a j b ha hb

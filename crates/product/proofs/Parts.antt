@@ -1,23 +1,22 @@
--- A factor's ranks in use: which counts are left, and that what the builder is given says the same as the layers in use.
+-- A factor's ranks in use: which counts are left, and that what the builder is given says what the layers in use say.
 -- Assumes nothing.
-use mathlib.Core.Path.{_≡_, refl, sym, ap, _∙_}
+use mathlib.Core.Path.{_≡_, refl, ap, _∙_}
 use mathlib.Core.Bool.{Bool, true, false}
 use mathlib.Core.List.{List}
 use Prim.Native.Nat.{ℕ, zero, suc, _+_, _-_, _*_, _≤_, _<_}
 use native.Mathlib.Decide.{decLt}
 use native.Mathlib.Omega.{arith}
 use borrow.Author.Tests.{ne-eqb}
-use lib.ListN.{length, getD, take, drop, length-drop, List·getD-eq-default}
+use lib.ListN.{length, getD, drop, length-drop, List·getD-eq-default}
 use lib.Seq.{getD-take, getD-drop, length-take-le}
 use Rattle.order.specs.Ends.{need}
-use Rattle.order.specs.Sums.{choose, sum}
-use Rattle.order.proofs.Sums.{choose-yes, sum-same}
-use Rattle.listing.specs.Listing.{Listing, limits, rank, count, before, entries, Ends}
+use Rattle.order.specs.Sums.{choose}
+use Rattle.order.proofs.Sums.{sum-same}
+use Rattle.listing.specs.Listing.{Listing, limits, rank, count, before, entries}
 use Rattle.listing.specs.Shape.{elements, Shaped}
-use Rattle.listing.specs.Layers.{Layers, layers}
-use Rattle.listing.proofs.Listing.{before-zero, before-next, before-all}
+use Rattle.listing.specs.Layers.{layers}
+use Rattle.listing.proofs.Listing.{before-zero, before-next}
 use Rattle.listing.proofs.Sequences.{sum-add}
-use Rattle.listing.proofs.ShapeExact.{shaped-ends}
 use Rattle.valid.specs.Bounds.{Bounded}
 use Rattle.valid.specs.Incidence.{Incident}
 use Rattle.valid.proofs.ClosedExact.{valid-exact}

@@ -1,16 +1,16 @@
 -- Lists past the last element of a product: they are empty, or hold the numbers of the rank below.
 -- Assumes nothing.
-use mathlib.Core.Path.{_≡_, refl, sym, ap, _∙_}
+use mathlib.Core.Path.{_≡_, refl, ap, _∙_}
 use mathlib.Core.Logic.{inl, inr}
 use mathlib.Core.Bool.{Bool, true, false}
-use mathlib.Core.List.{List, [], _∷_}
+use mathlib.Core.List.{List, []}
 use Prim.Native.Nat.{ℕ, zero, suc, _+_, _-_, _*_, _/_, _≤_, _<_}
 use native.Mathlib.Decide.{decLt}
 use native.Mathlib.Nat.{div-lt-iff-lt-mul}
 use native.Mathlib.Omega.{arith}
 use lib.ListN.{length, getD, List·getD-eq-default}
 use Rattle.order.specs.Lists.{In}
-use Rattle.order.specs.Sums.{sum, place}
+use Rattle.order.specs.Sums.{sum}
 use Rattle.listing.specs.Listing.{Listing, count, before, start, entries, rank}
 use Rattle.listing.specs.Shape.{elements}
 use Rattle.listing.specs.Layers.{Layers, Topped}
@@ -18,7 +18,7 @@ use Rattle.listing.proofs.Listing.{before-next, before-le}
 use Rattle.valid.specs.Bounds.{Bounded}
 use Rattle.valid.specs.Incidence.{Incident}
 use Rattle.pairing.specs.Trimmed.{bit}
-use Rattle.pairing.specs.Paired.{block, pairOf, pairAt, leftSubs, rightSubs, pairSubs, paired}
+use Rattle.pairing.specs.Paired.{block, pairOf, pairAt, leftSubs, rightSubs, paired}
 use Rattle.pairing.specs.Grown.{minSize, minUnder, grown}
 use Rattle.pairing.proofs.Sequences.{upTo-in}
 use Rattle.pairing.proofs.Grown.{grown-size, grown-max-under}

@@ -1,26 +1,25 @@
 -- What the builder stands on holds of two usable factors whose product is within the limits and the room.
 -- Assumes nothing.
-use mathlib.Core.Path.{_≡_, refl, sym, ap, _∙_}
+use mathlib.Core.Path.{_≡_, sym, ap, _∙_}
 use mathlib.Core.Bool.{Bool}
 use mathlib.Core.List.{List}
-use Prim.Native.Nat.{ℕ, suc, _+_, _*_, _≤_, _<_}
+use Prim.Native.Nat.{ℕ, suc, _*_, _≤_, _<_}
 use native.Mathlib.Omega.{arith}
 use lib.ListN.{length}
 use Rattle.order.specs.Lists.{In}
 use Rattle.order.specs.Sums.{sum}
-use Rattle.listing.specs.Listing.{Listing, limits, before}
+use Rattle.listing.specs.Listing.{Listing, limits}
 use Rattle.listing.specs.Shape.{elements}
 use Rattle.listing.specs.Layers.{Layers, derived}
 use Rattle.listing.specs.Written.{written}
 use Rattle.listing.proofs.ShapeExact.{shaped-ends}
 use Rattle.listing.proofs.Written.{joined-length, written-elements, written-ends-length}
-use Rattle.pairing.specs.Trimmed.{bit}
 use Rattle.pairing.specs.Product.{productOf}
 use Rattle.building.specs.Filling.{starts}
 use Rattle.building.specs.Pairs.{Factor, target, part, listsOf, listed, sizeOf, built, Plan, Ready}
 use Rattle.building.specs.Sups.{UpCounts, Derives}
 use Rattle.building.proofs.Target.{target-size}
-use Rattle.product.specs.Made.{Usable, inUse, partOf}
+use Rattle.product.specs.Made.{Usable, partOf}
 use Rattle.product.proofs.Parts.{usable-shaped, in-use-length}
 use Rattle.product.proofs.Tests.{Passed}
 use Rattle.product.proofs.Counted.{in-use-few}

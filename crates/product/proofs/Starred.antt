@@ -1,12 +1,11 @@
 -- The duocomb of two points is refused.
 -- Assumes nothing.
-use mathlib.Core.Path.{_≡_, refl, sym, ap, _∙_}
+use mathlib.Core.Path.{_≡_, refl, _∙_}
 use mathlib.Core.Bool.{true}
 use mathlib.Core.List.{List}
 use Prim.Native.Nat.{ℕ}
 use native.Mathlib.Omega.{arith}
 use lib.ListN.{length}
-use Rattle.listing.specs.declared.Answer.{Answer}
 use Rattle.listing.specs.Refusals.{combOfPoint}
 use Rattle.listing.specs.Answers.{plain}
 use Rattle.listing.specs.Listing.{limits}
@@ -14,7 +13,7 @@ use Rattle.valid.specs.Cells.{point}
 use Rattle.closure.specs.Starred.{answered}
 use Rattle.closure.proofs.Starred.{starred}
 use Rattle.product.specs.declared.Built.{Built}
-use Rattle.product.specs.Outcome.{productTest, Outcome}
+use Rattle.product.specs.Outcome.{Outcome}
 use Rattle.product.specs.Made.{factorsTest}
 use Rattle.product.proofs.Made.{built-refused}
 use Rattle.product.proofs.Chain.{comb-decides, rest-decides}

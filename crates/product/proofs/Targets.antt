@@ -140,8 +140,9 @@ module _ (min max : Bool) (A B : Listing) (uA : Usable min max A) (uB : Usable m
 
   pub target-sound : Sound T
   target-sound =
-      alike-sound target-alike
-      (product-sound min max (layers A) (layers B) (valid-sound limits A (uA .valid)) (valid-sound limits B (uB .valid)))
+      let sA = valid-sound limits A (uA .valid) in
+      let sB = valid-sound limits B (uB .valid) in
+      alike-sound target-alike (product-sound min max (layers A) (layers B) sA sB)
 
 pub part-sound : (min max : Bool) (L : Listing) → Usable min max L → Sound (factorLayers (partOf min max L))
 part-sound min max L u =

@@ -1,18 +1,17 @@
 -- The tests of a product in their order: the first that fails decides, one law for each.
 -- Assumes nothing.
-use mathlib.Core.Path.{_≡_, refl, ap}
+use mathlib.Core.Path.{_≡_, refl}
 use mathlib.Core.Bool.{Bool, true, false, true≢false, _||_}
-use Prim.Native.Nat.{ℕ, zero, suc, _*_, _≤_, _<_}
+use Prim.Native.Nat.{ℕ, _≤_, _<_}
 use native.Mathlib.Omega.{arith}
 use borrow.Author.Tests.{lt-ltb, le-ltb, eq-eqb, ne-eqb, eqb-true, ltb-false, not-false}
 use lib.ListN.{length}
-use Rattle.listing.specs.declared.Answer.{Answer}
-use Rattle.listing.specs.Refusals.{leftInvalid, rightInvalid, combOfPoint}
+use Rattle.listing.specs.Refusals.{leftInvalid, rightInvalid}
 use Rattle.listing.specs.Refusals.{productRanks, productElements, productIncidences, outputShort}
-use Rattle.listing.specs.Answers.{plain, fine, on, _orElse_}
+use Rattle.listing.specs.Answers.{plain, fine, _orElse_}
 use Rattle.listing.specs.Listing.{Listing, Limits}
 use Rattle.listing.specs.Shape.{elements}
-use Rattle.listing.proofs.Answers.{or-fine, or-stop, on-no, on-or-no}
+use Rattle.listing.proofs.Answers.{on-no, on-or-no}
 use Rattle.valid.specs.Tests.{isValid}
 use Rattle.product.specs.Outcome.{sizeTest}
 use Rattle.product.specs.Made.{factorsTest}

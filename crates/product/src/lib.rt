@@ -1,7 +1,7 @@
 // The four products of cells.
-pub mod factors;
-pub mod make;
-pub mod sizes;
+mod factors;
+mod make;
+mod sizes;
 
 use listing::Answer;
 ghost use Rattle.listing.specs.Listing.{listing};

@@ -84,7 +84,8 @@ fn is_comb_of_point(min: bool, max: bool, p: usize, q: usize) -> bool
 // The nullitope, written out.
 fn put_nullitope(counts: &mut [u16], ends: &mut [u16], inc: &[u16]) -> Built
     ensures { λ r. ⌜ Made
-        (sizeTest limits nullitope (length (now (counts .entry))) (length (now (ends .entry))) (length (now (inc .entry))))
+        (sizeTest limits nullitope (length (now (counts .entry))) (length (now (ends .entry)))
+        (length (now (inc .entry))))
         nullitope (now (counts .entry)) (now (ends .entry)) (now (inc .entry)) (now (counts .exit)) (now (ends .exit))
         (now (inc .entry)) r ⌝ }
 {

@@ -15,7 +15,7 @@ ghost use Rattle.pairing.specs.Product.{productOf};
 ghost use Rattle.product.specs.Outcome.{sizeTest};
 ghost use Rattle.product.specs.Made.{Usable, inUse, Counted, Little, Measures};
 
-// What a factor has in use: how many ranks, elements and subs, and how many elements of the lowest and the highest rank.
+// What a factor has in use: how many ranks, elements and subs, and how many elements of its lowest and highest rank.
 pub struct Used {
     pub ranks: usize,
     pub elements: usize,
@@ -45,7 +45,8 @@ pub fn range<'a>(min: bool, max: bool, counts: &'a [u16]) -> &'a [u16]
 fn subs_listed(ends: &[u16], inc: &[u16], from: usize, to: usize) -> usize
     requires { ⌜ Ends (now ends) (now inc) ⌝ }
     requires { ⌜ (from ≤ to) × (2 * to ≤ length (now ends)) × (to ≤ 4097) × (length (now inc) ≤ 32768) ⌝ }
-    ensures { λ r. ⌜ r ≡ sum (λ k. length (entries (now (ends .entry)) (now (inc .entry)) (2 * (from + k)))) (to - from) ⌝ }
+    ensures { λ r. ⌜ r ≡ sum (λ k. length (entries (now (ends .entry)) (now (inc .entry)) (2 * (from + k))))
+        (to - from) ⌝ }
     ensures { λ r. ⌜ r ≤ 32768 * (to - from) ⌝ }
 {
     let mut n: usize = 0;

@@ -1,53 +1,47 @@
+-- `make`: the factors' refusal decides, or else what is tested of valid factors.
+-- Assumes nothing.
+use mathlib.Core.Path.{refl, _∙_}
+use borrow.Author.Needs.{needs}
 use Rattle.listing.proofs.Answers.{no-of, stops}
 use Rattle.product.proofs.Chain.{factors-decide, rest-decides, made-outcome}
 use Rattle.product.proofs.Tests.{factors-valid}
 use Rattle.product.proofs.Made.{made-refused}
-use native.Mathlib.Omega.{arith}
-use mathlib.Core.Path.{_≡_, refl, sym, ap, _∙_}
-use Prim.Native.Nat.{ℕ, zero, suc, _+_, _-_, _*_, _≤_, _<_}
-use lib.ListN.{length, getD, take, drop}
-use borrow.Author.Needs.{needs}
 use Rattle.product.proofs.make.make.Statement.{statement}
 use Rattle.product.proofs.make.make.Tie as tie
-use Rattle.product.proofs.make.make.Reads as reads
-use Rattle.product.proofs.make.make.Lts as lts
-use Rattle.product.proofs.factors.check_factors.Reads as check-factors-reads
-use Rattle.product.proofs.make.product_of_valid.Reads as product-of-valid-reads
-use Rattle.product.proofs.make.refused.Reads as refused-reads
 
--- src/make.rt:209:9
 check-factors-requires : tie.Need-check-factors-requires
 check-factors-requires c κs = search needs
 
--- src/make.rt:211:9
 refused-requires : tie.Need-refused-requires
 refused-requires c κs = search needs
 
--- src/make.rt:211:9
 returns : tie.Need-returns
-returns c = let e = c .before .before .before .check-factors .ensures in
+returns c =
+    let e = c .before .before .before .check-factors .ensures in
     let h = c .before .if1 .taken in
-    made-outcome _ _ _ _ _ _ _ _ _ _ _ _ (e ∙ factors-decide _ _ _ _ _ _ _ _ (stops e h)) (made-refused _ _ h _ refl _ _ _ _ (c .refused .ensures _ h))
+    made-outcome _ _ _ _ _ _ _ _ _ _ _ _ (e ∙ factors-decide _ _ _ _ _ _ _ _ (stops e h))
+    (made-refused _ _ h _ refl _ _ _ _ (c .refused .ensures _ h))
 
--- src/make.rt:213:5
 product-of-valid-requires : tie.Need-product-of-valid-requires
-product-of-valid-requires c κs = factors-valid _ _ _ (no-of (c .before .before .before .before .before .check-factors .ensures) (c .before .before .before .if1 .left))
+product-of-valid-requires c κs =
+    let d = c .before .before .before in
+    factors-valid _ _ _ (no-of (d .before .before .check-factors .ensures) (d .if1 .left))
 
--- src/make.rt:191:1
 same-length : tie.Need-same-length
 same-length c = search needs
 
--- src/make.rt:191:1
 same-length-2 : tie.Need-same-length-2
 same-length-2 c = search needs
 
--- src/make.rt:191:1
 same-length-3 : tie.Need-same-length-3
 same-length-3 c = search needs
 
--- src/make.rt:191:1
 returns-2 : tie.Need-returns-2
-returns-2 c = made-outcome _ _ _ _ _ _ _ _ _ _ _ _ (rest-decides _ _ _ _ _ _ _ _ (no-of (c .before .before .before .before .before .before .before .before .before .before .before .before .check-factors .ensures) (c .before .before .before .before .before .before .before .before .before .before .if1 .left))) (c .before .before .before .before .before .before .product-of-valid .ensures)
+returns-2 c =
+    let b = c .before .before .before .before .before .before in
+    let d = b .before .before .before .before in
+    let z = no-of (d .before .before .check-factors .ensures) (d .if1 .left) in
+    made-outcome _ _ _ _ _ _ _ _ _ _ _ _ (rest-decides _ _ _ _ _ _ _ _ z) (b .product-of-valid .ensures)
 
 pub make-spec : {M : Type 1} → statement M
 make-spec =

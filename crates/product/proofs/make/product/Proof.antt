@@ -1,27 +1,24 @@
+-- `product`: where the sizes pass, all that the builder asks holds, and what it writes is the product.
+-- Assumes nothing.
+use mathlib.Core.Path.{_≡_}
+use native.Mathlib.Omega.{arith}
+use borrow.Author.Needs.{needs}
+use lib.ListN.{length}
 use Rattle.listing.specs.Listing.{Listing, listing, limits}
 use Rattle.listing.proofs.Answers.{no-of}
 use Rattle.pairing.specs.Product.{productOf}
+use Rattle.product.specs.Outcome.{sizeTest}
 use Rattle.product.specs.Made.{Measures}
 use Rattle.product.proofs.Planned.{built-is, build-asked}
 use Rattle.product.proofs.Parts.{usable-shaped, usable-high}
 use Rattle.product.proofs.Tests.{Passed, sizes-passed}
 use Rattle.product.proofs.Made.{made-refused, made-written}
-use native.Mathlib.Omega.{arith}
-use mathlib.Core.Path.{_≡_, refl, sym, ap, _∙_}
-use Prim.Native.Nat.{ℕ, zero, suc, _+_, _-_, _*_, _≤_, _<_}
-use lib.ListN.{length, getD, take, drop}
-use borrow.Author.Needs.{needs}
 use Rattle.product.proofs.make.product.Statement.{statement}
 use Rattle.product.proofs.make.product.Tie as tie
-use Rattle.product.proofs.make.product.Reads as reads
-use Rattle.product.proofs.make.product.Lts as lts
-use Rattle.building.proofs.build.build.Reads as build-reads
-use Rattle.product.proofs.make.refused.Reads as refused-reads
-use Rattle.product.proofs.make.written.Reads as written-reads
-use Rattle.product.proofs.sizes.check_sizes.Reads as check-sizes-reads
-use Rattle.product.proofs.sizes.count_used.Reads as count-used-reads
-use Rattle.product.proofs.sizes.product_sizes.Reads as product-sizes-reads
-use Rattle.product.proofs.sizes.range.Reads as range-reads
+
+-- where the function began
+abbrev start : tie.After-check-sizes → tie.Start
+start c = c .before .before .before .before .before .before .before .before .before .before .before .before .before
 
 -- the factors, and their product
 abbrev left : tie.Start → Listing
@@ -34,74 +31,92 @@ abbrev result : tie.Start → Listing
 result s = productOf (s .args .min) (s .args .max) (left s) (right s)
 
 -- the sizes are those of the product
-measures : (c : tie.After-check-sizes) → Measures (result (c .before .before .before .before .before .before .before .before .before .before .before .before .before)) (c .before .product-sizes .result)
+measures : (c : tie.After-check-sizes) → Measures (result (start c)) (c .before .product-sizes .result)
 measures c =
-    c .before .product-sizes .ensures _ _ (c .before .before .before .before .before .before .before .before .before .before .before .before .before .pre .0) (c .before .before .before .before .before .before .before .before .before .before .before .before .before .pre .1) (c .before .before .before .count-used .ensures .1)
-    (c .before .before .count-used2 .ensures .1)
+    let s = start c in
+    let d = c .before in
+    let a = d .before .before .count-used .ensures .1 in
+    let b = d .before .count-used2 .ensures .1 in
+    d .product-sizes .ensures _ _ (s .pre .0) (s .pre .1) a b
 
--- and within the limits and the room
-passed : (c : tie.Else1) → Passed limits (result (c .before .before .before .before .before .before .before .before .before .before .before .before .before .before .before)) (length (c .before .before .before .before .before .before .before .before .before .before .before .before .before .before .before .args .counts .now)) (length (c .before .before .before .before .before .before .before .before .before .before .before .before .before .before .before .args .ends .now)) (length (c .before .before .before .before .before .before .before .before .before .before .before .before .before .before .before .args .inc .now))
-passed c = sizes-passed _ _ _ _ _ (no-of (c .before .before .check-sizes .ensures _ (measures (c .before .before))) (c .if1 .left))
+-- the test's answer is that of the product's sizes
+tested : (c : tie.After-check-sizes) → let a = start c .args in
+    c .check-sizes .result
+    ≡ sizeTest limits (result (start c)) (length (a .counts .now)) (length (a .ends .now)) (length (a .inc .now))
+tested c = c .check-sizes .ensures _ (measures c)
 
--- src/make.rt:120:9
+-- past the test they are within the limits and the room
+passed : (c : tie.Else1) → let s = start (c .before .before) in
+    Passed limits (result s) (length (s .args .counts .now)) (length (s .args .ends .now)) (length (s .args .inc .now))
+passed c = sizes-passed _ _ _ _ _ (no-of (tested (c .before .before)) (c .if1 .left))
+
 count-used-requires : tie.Need-count-used-requires
 count-used-requires c κs = search needs
 
--- src/make.rt:121:9
 count-used-requires-2 : tie.Need-count-used-requires-2
 count-used-requires-2 c κs = search needs
 
--- src/make.rt:122:9
 product-sizes-requires : tie.Need-product-sizes-requires
 product-sizes-requires c κs = search needs
 
--- src/make.rt:123:9
 check-sizes-requires : tie.Need-check-sizes-requires
 check-sizes-requires c κs = search needs
 
--- src/make.rt:125:9
 refused-requires : tie.Need-refused-requires
 refused-requires c κs = search needs
 
--- src/make.rt:125:9
 returns : tie.Need-returns
-returns c = let m = measures (c .before .before .before) in
-    made-refused _ _ (c .before .if1 .taken) _ (c .before .before .before .check-sizes .ensures _ m) _ _ _ _ (c .refused .ensures _ (c .before .if1 .taken))
+returns c =
+    let h = c .before .if1 .taken in
+    made-refused _ _ h _ (tested (c .before .before .before)) _ _ _ _ (c .refused .ensures _ h)
 
--- src/make.rt:127:9
 range-requires : tie.Need-range-requires
-range-requires c κs = omega (arith, usable-high _ _ _ (c .before .before .before .before .before .before .before .before .before .before .before .before .before .before .before .pre .0), usable-shaped _ _ _ (c .before .before .before .before .before .before .before .before .before .before .before .before .before .before .before .pre .0) .some-rank)
+range-requires c κs =
+    let u = start (c .before .before) .pre .0 in
+    omega (arith, usable-high _ _ _ u, usable-shaped _ _ _ u .some-rank)
 
--- src/make.rt:128:9
 range-requires-2 : tie.Need-range-requires-2
-range-requires-2 c κs = omega (arith, usable-high _ _ _ (c .before .before .before .before .before .before .before .before .before .before .before .before .before .before .before .before .pre .1), usable-shaped _ _ _ (c .before .before .before .before .before .before .before .before .before .before .before .before .before .before .before .before .pre .1) .some-rank)
+range-requires-2 c κs =
+    let u = start (c .before .before .before) .pre .1 in
+    omega (arith, usable-high _ _ _ u, usable-shaped _ _ _ u .some-rank)
 
--- src/make.rt:129:5
 build-requires : tie.Need-build-requires
-build-requires c κs = build-asked _ _ _ _ (c .before .before .before .before .before .before .before .before .before .before .before .before .before .before .before .before .before .before .before .before .pre .0) (c .before .before .before .before .before .before .before .before .before .before .before .before .before .before .before .before .before .before .before .before .pre .1) _ _ (c .before .before .before .before .range .ensures) (c .before .before .before .range2 .ensures) (c .before .before .before .before .before .before .before .before .before .before .before .before .before .before .before .before .before .before .before .before .args .counts .now) (c .before .before .before .before .before .before .before .before .before .before .before .before .before .before .before .before .before .before .before .before .args .ends .now) (c .before .before .before .before .before .before .before .before .before .before .before .before .before .before .before .before .before .before .before .before .args .inc .now) (passed (c .before .before .before .before .before))
+build-requires c κs =
+    let s = start (c .before .before .before .before .before .before .before) in
+    let a = s .args in
+    let h = passed (c .before .before .before .before .before) in
+    let p = c .before .before .before .before .range .ensures in
+    let q = c .before .before .before .range2 .ensures in
+    build-asked _ _ _ _ (s .pre .0) (s .pre .1) _ _ p q (a .counts .now) (a .ends .now) (a .inc .now) h
 
--- src/make.rt:132:5
 written-requires : tie.Need-written-requires
-written-requires c κs = let m = measures (c .before .before .before .before .before .before .before .before .before .before .before .before .before .before) in let q = passed (c .before .before .before .before .before .before .before .before .before .before .before .before) in omega (arith, m, q)
+written-requires c κs =
+    let d = c .before .before .before .before .before .before .before .before .before .before .before .before in
+    let m = measures (d .before .before) in
+    omega (arith, m, passed d)
 
--- src/make.rt:95:1
 same-length : tie.Need-same-length
 same-length c = search needs
 
--- src/make.rt:95:1
 same-length-2 : tie.Need-same-length-2
 same-length-2 c = search needs
 
--- src/make.rt:95:1
 same-length-3 : tie.Need-same-length-3
 same-length-3 c = search needs
 
--- src/make.rt:95:1
 returns-2 : tie.Need-returns-2
-returns-2 c = let m = measures (c .before .before .before .before .before .before .before .before .before .before .before .before .before .before .before) in
-    let b = built-is _ _ _ _ (c .before .before .before .before .before .before .before .before .before .before .before .before .before .before .before .before .before .before .before .before .before .before .before .before .before .before .before .before .pre .0) (c .before .before .before .before .before .before .before .before .before .before .before .before .before .before .before .before .before .before .before .before .before .before .before .before .before .before .before .before .pre .1) _ _ (c .before .before .before .before .before .before .before .before .before .before .before .before .range .ensures) (c .before .before .before .before .before .before .before .before .before .before .before .range2 .ensures) in
-    made-written _ _ (c .before .before .before .before .before .before .before .before .before .before .before .before .before .if1 .left) _ (c .before .before .before .before .before .before .before .before .before .before .before .before .before .before .before .check-sizes .ensures _ m) _ _ _ _ _ _ _ (c .written .ensures _ m (c .before .before .before .before .before .before .before .before .before .before .before .before .before .if1 .left))
-    (rw b at (c .before .before .before .before .before .before .before .build .ensures .0)) (rw b at (c .before .before .before .before .before .before .before .build .ensures .1 .0)) (rw b at (c .before .before .before .before .before .before .before .build .ensures .1 .1))
+returns-2 c =
+    let b = c .before .before .before .before .before .before .before in
+    let d = b .before .before .before .before .before .before in
+    let t = d .before .before in
+    let s = start t in
+    let z = d .if1 .left in
+    let w = c .written .ensures _ (measures t) z in
+    let p = b .before .before .before .before .before .range .ensures in
+    let q = b .before .before .before .before .range2 .ensures in
+    let e = built-is _ _ _ _ (s .pre .0) (s .pre .1) _ _ p q in
+    made-written _ _ z _ (tested t) _ _ _ _ _ _ _ w
+    (rw e at (b .build .ensures .0)) (rw e at (b .build .ensures .1 .0)) (rw e at (b .build .ensures .1 .1))
 
 pub product-spec : {M : Type 1} → statement M
 product-spec =

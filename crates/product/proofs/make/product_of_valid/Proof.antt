@@ -1,4 +1,9 @@
+-- `product_of_valid`: the nullitope, a refused duocomb, or the pairs with the left or the right factor first.
+-- Assumes nothing.
 use mathlib.Core.Bool.{false}
+use mathlib.Core.Path.{_≡_, refl, sym, ap, _∙_}
+use native.Mathlib.Omega.{arith}
+use borrow.Author.Needs.{needs}
 use Rattle.listing.specs.declared.Answer.{Answer}
 use Rattle.listing.specs.Listing.{Listing, listing}
 use Rattle.valid.proofs.ClosedExact.{valid-exact}
@@ -7,21 +12,12 @@ use Rattle.closure.specs.Result.{nullCase, combCase}
 use Rattle.product.specs.Made.{Usable}
 use Rattle.product.proofs.Chain.{comb-decides, null-made, first-made, second-made}
 use Rattle.product.proofs.Made.{made-refused}
-use native.Mathlib.Omega.{arith}
-use mathlib.Core.Path.{_≡_, refl, sym, ap, _∙_}
-use Prim.Native.Nat.{ℕ, zero, suc, _+_, _-_, _*_, _≤_, _<_}
-use lib.ListN.{length, getD, take, drop}
-use borrow.Author.Needs.{needs}
 use Rattle.product.proofs.make.product_of_valid.Statement.{statement}
 use Rattle.product.proofs.make.product_of_valid.Tie as tie
-use Rattle.product.proofs.make.product_of_valid.Reads as reads
-use Rattle.product.proofs.make.product_of_valid.Lts as lts
-use Rattle.listing.proofs.inner.plain.Reads as plain-reads
-use Rattle.product.proofs.make.is_comb_of_point.Reads as is-comb-of-point-reads
-use Rattle.product.proofs.make.is_null.Reads as is-null-reads
-use Rattle.product.proofs.make.product.Reads as product-reads
-use Rattle.product.proofs.make.put_nullitope.Reads as put-nullitope-reads
-use Rattle.product.proofs.make.refused.Reads as refused-reads
+
+-- where the function began, seen from the first test
+abbrev start : tie.After-is-null → tie.Start
+start c = c .before .before .before .before .before .before .before .before .before .before
 
 -- the factors
 abbrev left : tie.Start → Listing
@@ -31,109 +27,110 @@ abbrev right : tie.Start → Listing
 right s = listing (s .args .qcounts .now) (s .args .qends .now) (s .args .qinc .now)
 
 -- past the first test none has rank 0
-no-null : (c : tie.Else1) → nullCase (c .before .before .before .before .before .before .before .before .before .before .before .args .min) (c .before .before .before .before .before .before .before .before .before .before .before .args .max) (left (c .before .before .before .before .before .before .before .before .before .before .before)) (right (c .before .before .before .before .before .before .before .before .before .before .before)) ≡ false
+no-null : (c : tie.Else1) → let s = start (c .before) in
+    nullCase (s .args .min) (s .args .max) (left s) (right s) ≡ false
 no-null c = sym (c .before .is-null .ensures _ _ refl refl) ∙ c .if1 .left
 
 -- past the second, it is no duocomb with one of rank 1
-no-comb : (c : tie.Else2) → combCase (c .before .before .before .before .before .before .before .before .before .before .before .before .before .args .min) (c .before .before .before .before .before .before .before .before .before .before .before .before .before .args .max) (left (c .before .before .before .before .before .before .before .before .before .before .before .before .before)) (right (c .before .before .before .before .before .before .before .before .before .before .before .before .before)) ≡ false
+no-comb : (c : tie.Else2) → let s = start (c .before .before .before) in
+    combCase (s .args .min) (s .args .max) (left s) (right s) ≡ false
 no-comb c = sym (c .before .is-comb-of-point .ensures _ _ refl refl (no-null (c .before .before))) ∙ c .if2 .left
 
 -- so both can be used
-usable : (c : tie.Else2) → Usable (c .before .before .before .before .before .before .before .before .before .before .before .before .before .args .min) (c .before .before .before .before .before .before .before .before .before .before .before .before .before .args .max) (left (c .before .before .before .before .before .before .before .before .before .before .before .before .before)) × Usable (c .before .before .before .before .before .before .before .before .before .before .before .before .before .args .min) (c .before .before .before .before .before .before .before .before .before .before .before .before .before .args .max) (right (c .before .before .before .before .before .before .before .before .before .before .before .before .before))
+usable : (c : tie.Else2) → let s = start (c .before .before .before) in
+    Usable (s .args .min) (s .args .max) (left s) × Usable (s .args .min) (s .args .max) (right s)
 usable c =
     let n = needed _ _ _ _ (no-null (c .before .before)) (no-comb c) in
-    (record { valid = c .before .before .before .before .before .before .before .before .before .before .before .before .before .pre .0; high = n .0 }, record { valid = c .before .before .before .before .before .before .before .before .before .before .before .before .before .pre .1; high = n .1 })
+    let v = start (c .before .before .before) .pre in
+    (record { valid = v .0; high = n .0 }, record { valid = v .1; high = n .1 })
 
--- src/make.rt:172:13
 sub-p : tie.Need-sub-p
-sub-p c = omega (arith, valid-exact _ _ .0 (c .before .before .before .before .before .before .before .before .before .pre .0) .0 .some-rank)
+sub-p c =
+    let v = c .before .before .before .before .before .before .before .before .before .pre .0 in
+    omega (arith, valid-exact _ _ .0 v .0 .some-rank)
 
--- src/make.rt:173:13
 sub-q : tie.Need-sub-q
-sub-q c = omega (arith, valid-exact _ _ .0 (c .before .before .before .before .before .before .before .before .before .pre .1) .0 .some-rank)
+sub-q c =
+    let v = c .before .before .before .before .before .before .before .before .before .pre .1 in
+    omega (arith, valid-exact _ _ .0 v .0 .some-rank)
 
--- src/make.rt:174:8
 is-null-requires : tie.Need-is-null-requires
 is-null-requires c κs = search needs
 
--- src/make.rt:175:9
 put-nullitope-requires : tie.Need-put-nullitope-requires
 put-nullitope-requires c κs = search needs
 
--- src/make.rt:175:9
 same-length : tie.Need-same-length
 same-length c = search needs
 
--- src/make.rt:175:9
 same-length-2 : tie.Need-same-length-2
 same-length-2 c = search needs
 
--- src/make.rt:175:9
 same-length-3 : tie.Need-same-length-3
 same-length-3 c = search needs
 
--- src/make.rt:175:9
 returns : tie.Need-returns
-returns c = null-made _ _ _ _ _ _ _ _ _ _ _ (sym (c .before .before .before .before .before .before .before .before .before .is-null .ensures _ _ refl refl) ∙ c .before .before .before .before .before .before .before .before .if1 .taken) (c .before .before .before .before .put-nullitope .ensures)
+returns c =
+    let d = c .before .before .before .before .before .before .before .before in
+    let n = sym (d .before .is-null .ensures _ _ refl refl) ∙ d .if1 .taken in
+    null-made _ _ _ _ _ _ _ _ _ _ _ n (c .before .before .before .before .put-nullitope .ensures)
 
--- src/make.rt:177:8
 is-comb-of-point-requires : tie.Need-is-comb-of-point-requires
 is-comb-of-point-requires c κs = search needs
 
--- src/make.rt:178:24
 plain-requires : tie.Need-plain-requires
 plain-requires c κs = search needs
 
--- src/make.rt:178:9
 refused-requires : tie.Need-refused-requires
 refused-requires c κs = search needs
 
--- src/make.rt:178:9
 returns-2 : tie.Need-returns-2
-returns-2 c = let k = c .before .plain .ensures in
+returns-2 c =
+    let d = c .before .before .before in
+    let k = c .before .plain .ensures in
     let h : c .before .plain .result .no ≡ 0 → ⊥ = λ z. omega (arith, ap (λ (a : Answer). a .no) k) in
-    let y = sym (c .before .before .before .is-comb-of-point .ensures _ _ refl refl (no-null (c .before .before .before .before))) ∙ c .before .before .if2 .taken in
+    let y = sym (d .is-comb-of-point .ensures _ _ refl refl (no-null (d .before))) ∙ c .before .before .if2 .taken in
     made-refused _ _ h _ (k ∙ comb-decides _ _ _ _ _ _ _ _ y) _ _ _ _ (c .refused .ensures _ h)
 
--- src/make.rt:181:9
 product-requires : tie.Need-product-requires
 product-requires c κs = usable (c .before .before .before .before)
 
--- src/make.rt:181:9
 same-length-4 : tie.Need-same-length-4
 same-length-4 c = search needs
 
--- src/make.rt:181:9
 same-length-5 : tie.Need-same-length-5
 same-length-5 c = search needs
 
--- src/make.rt:181:9
 same-length-6 : tie.Need-same-length-6
 same-length-6 c = search needs
 
--- src/make.rt:181:9
 returns-3 : tie.Need-returns-3
-returns-3 c = first-made _ _ _ _ _ _ _ _ _ _ _ (no-null (c .before .before .before .before .before .before .before .before .before .before .before .before .before)) (no-comb (c .before .before .before .before .before .before .before .before .before .before .before)) (c .before .before .before .before .before .before .before .before .before .before .if3 .taken) (c .before .before .before .before .before .before .product .ensures)
+returns-3 c =
+    let b = c .before .before .before .before .before .before in
+    let t = b .before .before .before .before in
+    let d = t .before in
+    first-made _ _ _ _ _ _ _ _ _ _ _ (no-null (d .before .before)) (no-comb d) (t .if3 .taken) (b .product .ensures)
 
--- src/make.rt:185:5
 product-requires-2 : tie.Need-product-requires-2
-product-requires-2 c κs = (usable (c .before .before .before .before) .1, usable (c .before .before .before .before) .0)
+product-requires-2 c κs =
+    let u = usable (c .before .before .before .before) in
+    (u .1, u .0)
 
--- src/make.rt:148:1
 same-length-7 : tie.Need-same-length-7
 same-length-7 c = search needs
 
--- src/make.rt:148:1
 same-length-8 : tie.Need-same-length-8
 same-length-8 c = search needs
 
--- src/make.rt:148:1
 same-length-9 : tie.Need-same-length-9
 same-length-9 c = search needs
 
--- src/make.rt:148:1
 returns-4 : tie.Need-returns-4
-returns-4 c = second-made _ _ _ _ _ _ _ _ _ _ _ (no-null (c .before .before .before .before .before .before .before .before .before .before .before .before .before)) (no-comb (c .before .before .before .before .before .before .before .before .before .before .before)) (c .before .before .before .before .before .before .before .before .before .before .if3 .left) (c .before .before .before .before .before .before .product2 .ensures)
+returns-4 c =
+    let b = c .before .before .before .before .before .before in
+    let t = b .before .before .before .before in
+    let d = t .before in
+    second-made _ _ _ _ _ _ _ _ _ _ _ (no-null (d .before .before)) (no-comb d) (t .if3 .left) (b .product2 .ensures)
 
 pub product-of-valid-spec : {M : Type 1} → statement M
 product-of-valid-spec =

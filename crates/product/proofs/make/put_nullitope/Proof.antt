@@ -1,62 +1,67 @@
-use lib.ListN.{length-set}
-use Rattle.pairing.specs.Product.{nullitope}
-use Rattle.listing.proofs.Answers.{no-of}
-use Rattle.product.proofs.Tests.{sizes-passed}
-use Rattle.product.proofs.Made.{made-refused, made-written, nullitope-measures, one-set, two-set}
+-- `put_nullitope`: its sizes are 1, 1 and 0; where there is room, three numbers are written.
+-- Assumes nothing.
+use mathlib.Core.Path.{_≡_, refl}
 use native.Mathlib.Omega.{arith}
-use mathlib.Core.Path.{_≡_, refl, sym, ap, _∙_}
-use Prim.Native.Nat.{ℕ, zero, suc, _+_, _-_, _*_, _≤_, _<_}
-use lib.ListN.{length, getD, take, drop}
 use borrow.Author.Needs.{needs}
+use lib.ListN.{length, length-set}
+use Rattle.listing.specs.Listing.{limits}
+use Rattle.listing.proofs.Answers.{no-of}
+use Rattle.pairing.specs.Product.{nullitope}
+use Rattle.product.proofs.Tests.{Passed, sizes-passed}
+use Rattle.product.specs.Outcome.{sizeTest}
+use Rattle.product.proofs.Made.{made-refused, made-written, nullitope-measures, one-set, two-set}
 use Rattle.product.proofs.make.put_nullitope.Statement.{statement}
 use Rattle.product.proofs.make.put_nullitope.Tie as tie
-use Rattle.product.proofs.make.put_nullitope.Reads as reads
-use Rattle.product.proofs.make.put_nullitope.Lts as lts
-use Rattle.product.proofs.make.refused.Reads as refused-reads
-use Rattle.product.proofs.make.written.Reads as written-reads
-use Rattle.product.proofs.sizes.check_sizes.Reads as check-sizes-reads
 
--- src/make.rt:84:9
+-- the test's answer is that of the nullitope's sizes
+tested : (c : tie.After-check-sizes) → let a = c .before .before .before .before .args in
+    c .check-sizes .result
+    ≡ sizeTest limits nullitope (length (a .counts .now)) (length (a .ends .now)) (length (a .inc .now))
+tested c = c .check-sizes .ensures nullitope nullitope-measures
+
+-- past the test there is room
+passed : (c : tie.Else1) → let a = c .before .before .before .before .before .before .args in
+    Passed limits nullitope (length (a .counts .now)) (length (a .ends .now)) (length (a .inc .now))
+passed c = sizes-passed _ _ _ _ _ (no-of (tested (c .before .before)) (c .if1 .left))
+
 check-sizes-requires : tie.Need-check-sizes-requires
 check-sizes-requires c κs = search needs
 
--- src/make.rt:86:9
 refused-requires : tie.Need-refused-requires
 refused-requires c κs = search needs
 
--- src/make.rt:86:9
 returns : tie.Need-returns
-returns c = made-refused _ nullitope (c .before .if1 .taken) _ (c .before .before .before .check-sizes .ensures nullitope nullitope-measures) _ _ _ _ (c .refused .ensures nullitope (c .before .if1 .taken))
+returns c =
+    let h = c .before .if1 .taken in
+    made-refused _ nullitope h _ (tested (c .before .before .before)) _ _ _ _ (c .refused .ensures nullitope h)
 
--- src/make.rt:88:5
 slice-write-counts : tie.Need-slice-write-counts
-slice-write-counts c = omega (arith, sizes-passed _ _ _ _ _ (no-of (c .before .before .check-sizes .ensures nullitope nullitope-measures) (c .if1 .left)))
+slice-write-counts c = omega (arith, passed c)
 
--- src/make.rt:89:5
 slice-write-ends : tie.Need-slice-write-ends
-slice-write-ends c = omega (arith, sizes-passed _ _ _ _ _ (no-of (c .before .before .check-sizes .ensures nullitope nullitope-measures) (c .if1 .left)))
+slice-write-ends c = omega (arith, passed c)
 
--- src/make.rt:90:5
 slice-write-ends-2 : tie.Need-slice-write-ends-2
-slice-write-ends-2 c = simp length-set (omega (arith, sizes-passed _ _ _ _ _ (no-of (c .before .before .check-sizes .ensures nullitope nullitope-measures) (c .if1 .left))))
+slice-write-ends-2 c = simp length-set (omega (arith, passed c))
 
--- src/make.rt:91:5
 written-requires : tie.Need-written-requires
 written-requires c κs = search needs
 
--- src/make.rt:73:1
 same-length : tie.Need-same-length
 same-length c = search needs
 
--- src/make.rt:73:1
 same-length-2 : tie.Need-same-length-2
 same-length-2 c = search needs
 
--- src/make.rt:73:1
 returns-2 : tie.Need-returns-2
-returns-2 c = let e = c .before .before .before .check-sizes .ensures nullitope nullitope-measures in
-    let q = sizes-passed _ _ _ _ _ (no-of e (c .before .if1 .left)) in
-    made-written _ nullitope (c .before .if1 .left) _ e _ _ _ _ _ _ _ (c .written .ensures nullitope nullitope-measures (c .before .if1 .left)) (one-set (c .before .before .before .before .before .before .before .args .counts .now) 1 (q .room-counts)) (two-set (c .before .before .before .before .before .before .before .args .ends .now) 0 0 (q .room-ends)) refl
+returns-2 c =
+    let a = c .before .before .before .before .before .before .before .args in
+    let t = tested (c .before .before .before) in
+    let z = c .before .if1 .left in
+    let q = passed (c .before) in
+    let w = c .written .ensures nullitope nullitope-measures z in
+    made-written _ nullitope z _ t _ _ _ _ _ _ _ w
+    (one-set (a .counts .now) 1 (q .room-counts)) (two-set (a .ends .now) 0 0 (q .room-ends)) refl
 
 pub put-nullitope-spec : {M : Type 1} → statement M
 put-nullitope-spec =
