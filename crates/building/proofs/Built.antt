@@ -13,13 +13,15 @@ use Rattle.listing.specs.Listing.{Listing, before}
 use Rattle.listing.specs.Layers.{Layers, derived}
 use Rattle.listing.specs.Written.{joined, table, lengths, written}
 use Rattle.listing.proofs.Written.{table-length, table-at}
-use Rattle.building.specs.Filling.{over, Holds, Row}
-use Rattle.building.specs.Pairs.{Factor, target, listsOf, sizeOf, countsOf, Plan}
-use Rattle.building.specs.Sups.{upCount, UpCounts, Derives, Fillable, Filled}
-use Rattle.building.proofs.Numbers.{some-rank, before-lt}
-use Rattle.building.proofs.Target.{target-size, target-counts}
-use Rattle.building.proofs.Fits.{bit-le}
-use Rattle.building.proofs.CountsLaid.{counts-length}
+use Rattle.placing.specs.Laid.{Holds}
+use Rattle.placing.specs.Factors.{Factor}
+use Rattle.writing.specs.Filling.{Row}
+use Rattle.writing.specs.Pairs.{target, listsOf, sizeOf, Plan}
+use Rattle.gathering.specs.Sups.{upCount, UpCounts, Fillable, Filled}
+use Rattle.building.specs.Built.{over, countsOf, Derives}
+use Rattle.placing.proofs.Numbers.{some-rank, before-lt, bit-le}
+use Rattle.writing.proofs.Target.{target-size}
+use Rattle.building.proofs.CountsLaid.{target-counts, counts-length}
 use Rattle.building.proofs.Whole.{holds-over, whole-fillable, whole-inc, whole-ends}
 
 pub zeros : (n k : ℕ) → _≡_ {A = ℕ} (getD (replicate n 0) k 0) 0

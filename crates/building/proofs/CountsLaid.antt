@@ -1,18 +1,25 @@
 -- The counts of the product, written in three parts.
 -- Assumes nothing.
-use mathlib.Core.Path.{_≡_, sym}
+use mathlib.Core.Path.{_≡_, sym, _∙_}
 use mathlib.Core.Bool.{Bool}
 use mathlib.Core.List.{List, _++_}
 use Prim.Native.Nat.{ℕ, suc, _+_, _-_, _<_}
 use native.Mathlib.Omega.{arith}
 use lib.ListN.{length, length-append}
-use Rattle.listing.specs.Written.{table}
+use Rattle.listing.specs.Layers.{derived}
+use Rattle.listing.specs.Written.{table, written}
 use Rattle.listing.proofs.Written.{table-length, table-at}
 use Rattle.pairing.specs.Trimmed.{bit}
-use Rattle.building.specs.Filling.{Laid, Holds}
-use Rattle.building.specs.Pairs.{pairsIn, countsOf}
-use Rattle.building.proofs.Laying.{laid-holds, holds-then}
-use Rattle.building.proofs.Parts.{when, when-length, when-laid}
+use Rattle.pairing.specs.Paired.{paired}
+use Rattle.placing.specs.Factors.{Factor}
+use Rattle.writing.specs.Pairs.{factorLayers, target}
+use Rattle.placing.specs.Laid.{Laid, Holds}
+use Rattle.placing.specs.Places.{pairsIn}
+use Rattle.building.specs.Built.{countsOf}
+use Rattle.placing.proofs.Laying.{laid-holds, holds-then}
+use Rattle.placing.proofs.Parts.{when, when-length, when-laid}
+use Rattle.writing.proofs.Sizes.{grown-table}
+use Rattle.writing.proofs.Target.{pairs-table}
 
 module _ (min max : Bool) (p q : List ℕ) where
   abbrev sizes : ℕ → ℕ
@@ -44,3 +51,10 @@ module _ (min max : Bool) (p q : List ℕ) where
       let k₃ : Holds b (when max 1) d₂ d₃ = when-laid max 1 b d₂ d₃ l₃ in
       holds-then 0 d d₁ (when min 1) (table sizes n ++ when max 1) d₃ (when-laid min 1 0 d d₁ l₁)
       (rw a′ at (holds-then a d₁ d₂ (table sizes n) (when max 1) d₃ k₂ (rw b′ at k₃)))
+
+-- they are the counts of its layers
+pub target-counts : (P Q : Factor) → 0 < length (P .counts) → 0 < length (Q .counts) → (min max : Bool)
+    → written (target min max P Q) (derived (target min max P Q)) .counts ≡ countsOf min max (P .counts) (Q .counts)
+unfolding target written countsOf
+target-counts P Q hp hq min max =
+    grown-table min max (paired (factorLayers P) (factorLayers Q)) ∙ rw (pairs-table P Q hp hq)

@@ -1,16 +1,3 @@
-pub mod Laying
-pub mod Parts
-pub mod Rows
-pub mod Numbers
-pub mod Fits
-pub mod Sizes
-pub mod Target
-pub mod Extremes
-pub mod Raising
-pub mod Counting
-pub mod Strewing
-pub mod Gathering
-pub mod SupsFilled
 pub mod CountsLaid
 pub mod Whole
 pub mod Built

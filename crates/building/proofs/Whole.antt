@@ -2,7 +2,7 @@
 -- there before.
 -- Assumes nothing.
 use mathlib.Core.Path.{_≡_, refl, sym, ap, _∙_}
-use mathlib.Core.List.{List, [], _∷_, _++_}
+use mathlib.Core.List.{List, _++_}
 use Prim.Native.Nat.{ℕ, zero, suc, _+_, _-_, _*_, _/_, _%_, _≤_, _<_}
 use native.Mathlib.Decide.{decLt}
 use native.Mathlib.Omega.{arith}
@@ -11,14 +11,15 @@ use lib.Seq.{ext-getD, getD-take, getD-drop, getD-append-add}
 use Rattle.order.specs.Sums.{sum}
 use Rattle.order.proofs.Sums.{sum-lt, part-same, place-ok}
 use Rattle.listing.specs.Listing.{before, start, entries, Ends}
-use Rattle.listing.specs.Layers.{gather}
 use Rattle.listing.specs.Written.{joined, table, lengths}
 use Rattle.listing.proofs.Written.{joined-length, joined-split, table-length, table-at}
-use Rattle.building.specs.Filling.{starts, over, Holds, Row}
-use Rattle.building.specs.Sups.{Derives, gathered, Fillable, Filled}
-use Rattle.building.proofs.Numbers.{before-lt}
-use Rattle.building.proofs.Rows.{starts-next, starts-le, starts-room, starts-two}
-use Rattle.building.proofs.SupsFilled.{gather-same}
+use Rattle.placing.specs.Laid.{Holds}
+use Rattle.writing.specs.Filling.{starts, Row}
+use Rattle.gathering.specs.Sups.{gathered, Fillable, Filled}
+use Rattle.building.specs.Built.{over, Derives}
+use Rattle.placing.proofs.Numbers.{before-lt}
+use Rattle.writing.proofs.Rows.{starts-next, starts-le, starts-room}
+use Rattle.gathering.proofs.SupsFilled.{gather-same}
 
 -- ---- one list over another
 

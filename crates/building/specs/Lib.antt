@@ -1,4 +1,1 @@
-pub mod Filling
-pub mod Pairs
-pub mod Sups
-pub mod Blocks
+pub mod Built

@@ -1,15 +1,18 @@
 // The product of two factors, written into lent slices.
-use crate::block;
-use crate::pairs;
-use crate::put;
-use crate::sups;
+use gathering::sups;
+use placing::block;
+use placing::put;
+use writing::pairs;
 ghost use mathlib.Core.Path.{_≡_};
 ghost use mathlib.Core.List.{List};
 ghost use Prim.Native.Nat.{ℕ, suc, _+_, _-_, _≤_, _<_};
 ghost use lib.ListN.{length};
-ghost use Rattle.building.specs.Filling.{over, Laid, Holds};
-ghost use Rattle.building.specs.Pairs.{pairsIn, pairsTo, sizeOf, countsOf, part, listed, built, Ready};
-ghost use Rattle.building.specs.Sups.{UpCounts, Derives};
+ghost use Rattle.placing.specs.Laid.{Laid, Holds};
+ghost use Rattle.placing.specs.Places.{pairsIn, pairsTo};
+ghost use Rattle.placing.specs.Factors.{part};
+ghost use Rattle.writing.specs.Pairs.{sizeOf, listed, Ready};
+ghost use Rattle.gathering.specs.Sups.{UpCounts};
+ghost use Rattle.building.specs.Built.{over, countsOf, built, Derives};
 
 // Writes the number of pairs of each of n ranks, from place `at` on. Returns the place after the last.
 fn put_sizes(counts: &mut [u16], at: usize, p: &[u16], q: &[u16], n: usize) -> usize

@@ -21,7 +21,7 @@ use Rattle.closure.proofs.Results.{result-product, result-null, nullitope-close
 use Rattle.closure.proofs.Sizes.{productOf-ranks, productOf-elements, productOf-incidences, productOf-within}
 use Rattle.closure.proofs.Valid.{valid-sound}
 use Rattle.closure.proofs.Products.{four-closed}
-use Rattle.building.specs.Filling.{over}
+use Rattle.building.specs.Built.{over}
 use Rattle.product.specs.declared.Built.{Built}
 use Rattle.product.specs.Outcome.{productTest, Outcome}
 use Rattle.product.proofs.Tests.{Passed}

@@ -16,7 +16,7 @@ use Rattle.listing.proofs.Layers.{in-range, derived-in}
 use Rattle.listing.proofs.Written.{nth-at, written-count, written-before}
 use Rattle.pairing.specs.Sound.{Sound}
 use Rattle.closure.proofs.Alike.{Alike, alike-derived}
-use Rattle.building.specs.Sups.{Derives}
+use Rattle.building.specs.Built.{Derives}
 
 -- a number past all parts falls behind the last
 pub place-past : (f : ℕ → ℕ) (n k : ℕ) → sum f (suc n) ≤ k → place f (suc n) k ≡ (n, k - sum f n)

@@ -28,10 +28,11 @@ use Rattle.pairing.proofs.AddMax.{max-size-low}
 use Rattle.pairing.proofs.Grown.{grown-top, grown-size, grown-under, grown-min-under}
 use Rattle.pairing.proofs.PairedLengths.{paired-sups}
 use Rattle.pairing.proofs.GrownLengths.{grown-sups, grown-max-sups}
-use Rattle.building.specs.Pairs.{Factor, used, factorLayers, target, listsOf, pairsTo, offsetIn, number, subsOf}
-use Rattle.building.specs.Pairs.{underPair, overPair}
-use Rattle.building.specs.Sups.{upCount, UpCounts}
-use Rattle.building.proofs.Numbers.{some-rank}
+use Rattle.placing.specs.Factors.{Factor, used}
+use Rattle.placing.specs.Places.{pairsTo, offsetIn, number, subsOf}
+use Rattle.writing.specs.Pairs.{factorLayers, target, listsOf, underPair, overPair}
+use Rattle.gathering.specs.Sups.{upCount, UpCounts}
+use Rattle.placing.proofs.Numbers.{some-rank}
 
 pub factor-topped : (P : Factor) → Topped (factorLayers P)
 unfolding Topped

@@ -10,7 +10,7 @@ use Rattle.listing.specs.Answers.{ifZero}
 use Rattle.order.specs.Sums.{sum}
 use Rattle.listing.specs.Listing.{Listing, before}
 use Rattle.pairing.specs.Product.{nullitope}
-use Rattle.building.specs.Filling.{over}
+use Rattle.building.specs.Built.{over}
 use Rattle.product.specs.declared.Built.{Built}
 use Rattle.product.specs.declared.sizes.Sizes.{Sizes}
 use Rattle.product.specs.Outcome.{builtOf, after}

@@ -23,7 +23,8 @@ use Rattle.valid.proofs.ClosedExact.{valid-exact}
 use Rattle.pairing.specs.Trimmed.{bit, trimSize, trimUnder, trimmed}
 use Rattle.pairing.proofs.Trimmed.{raised-used}
 use Rattle.closure.proofs.Alike.{Alike}
-use Rattle.building.specs.Pairs.{Factor, used, factorLayers}
+use Rattle.placing.specs.Factors.{Factor, used}
+use Rattle.writing.specs.Pairs.{factorLayers}
 use Rattle.product.specs.Made.{Usable, inUse, partOf}
 
 high-bits : (min max : Bool) (n : ℕ) → need min max ≤ n → bit min + bit max ≤ n

@@ -22,7 +22,8 @@ use Rattle.pairing.specs.Paired.{block, pairOf, pairAt, leftSubs, rightSubs, pa
 use Rattle.pairing.specs.Grown.{minSize, minUnder, grown}
 use Rattle.pairing.proofs.Sequences.{upTo-in}
 use Rattle.pairing.proofs.Grown.{grown-size, grown-max-under}
-use Rattle.building.specs.Pairs.{used, factorLayers, target}
+use Rattle.placing.specs.Factors.{used}
+use Rattle.writing.specs.Pairs.{factorLayers, target}
 use Rattle.product.specs.Made.{Usable, inUse, partOf}
 use Rattle.product.proofs.Parts.{used-above, usable-shaped, usable-bounded, usable-incident, usable-high}
 use Rattle.product.proofs.Parts.{in-use-length, in-use-at, in-use-before}

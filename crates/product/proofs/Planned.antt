@@ -15,10 +15,12 @@ use Rattle.listing.specs.Written.{written}
 use Rattle.listing.proofs.ShapeExact.{shaped-ends}
 use Rattle.listing.proofs.Written.{joined-length, written-elements, written-ends-length}
 use Rattle.pairing.specs.Product.{productOf}
-use Rattle.building.specs.Filling.{starts}
-use Rattle.building.specs.Pairs.{Factor, target, part, listsOf, listed, sizeOf, built, Plan, Ready}
-use Rattle.building.specs.Sups.{UpCounts, Derives}
-use Rattle.building.proofs.Target.{target-size}
+use Rattle.placing.specs.Factors.{Factor, part}
+use Rattle.writing.specs.Filling.{starts}
+use Rattle.writing.specs.Pairs.{target, listsOf, listed, sizeOf, Plan, Ready}
+use Rattle.gathering.specs.Sups.{UpCounts}
+use Rattle.building.specs.Built.{built, Derives}
+use Rattle.writing.proofs.Target.{target-size}
 use Rattle.product.specs.Made.{Usable, partOf}
 use Rattle.product.proofs.Parts.{usable-shaped, in-use-length}
 use Rattle.product.proofs.Tests.{Passed}

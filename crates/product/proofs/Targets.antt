@@ -21,7 +21,7 @@ use Rattle.pairing.proofs.Positions.{pairAt-exists}
 use Rattle.pairing.proofs.Product.{product-topped, product-sound}
 use Rattle.closure.proofs.Alike.{Alike, alike-derived, alike-exists}
 use Rattle.closure.proofs.Valid.{valid-sound}
-use Rattle.building.specs.Pairs.{factorLayers, target}
+use Rattle.writing.specs.Pairs.{factorLayers, target}
 use Rattle.product.specs.Made.{Usable, partOf}
 use Rattle.product.proofs.Parts.{part-alike}
 

@@ -27,7 +27,7 @@ use Rattle.pairing.specs.Trimmed.{bit}
 use Rattle.pairing.specs.Lengths.{allSubs}
 use Rattle.closure.specs.Result.{combCase, resultOf}
 use Rattle.closure.specs.Sizes.{allElements}
-use Rattle.building.specs.Pairs.{Factor, part}
+use Rattle.placing.specs.Factors.{Factor, part}
 use Rattle.product.specs.declared.Built.{Built}
 use Rattle.product.specs.declared.sizes.Used.{Used}
 use Rattle.product.specs.declared.sizes.Sizes.{Sizes}

@@ -1,9 +1,9 @@
 // How large a product is, known from its factors before a number is written.
-use building::block;
 use listing::Answer;
 use listing::inner;
 use listing::limit;
 use listing::refusal;
+use placing::block;
 ghost use mathlib.Core.Path.{_≡_};
 ghost use Prim.Native.Nat.{ℕ, _+_, _-_, _*_, _≤_};
 ghost use lib.ListN.{length};

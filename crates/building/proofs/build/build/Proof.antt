@@ -1,23 +1,16 @@
-use Rattle.building.specs.Pairs.{Factor, part, countsOf, Plan}
-use lib.Seq.{length-take-le}
+use Rattle.placing.specs.Factors.{Factor, part}
+use Rattle.writing.specs.Pairs.{Plan}
+use Rattle.building.specs.Built.{countsOf}
+use Rattle.placing.proofs.Numbers.{bit-le}
 use Rattle.building.proofs.Built.{zeros, ups, ups-right, counts-room, fill-asked, built-all}
-use Rattle.building.proofs.Fits.{bit-le}
-use Rattle.building.specs.Sups.{UpCounts}
-use mathlib.Core.List.{List}
+use lib.Seq.{length-take-le}
 use native.Mathlib.Omega.{arith}
-use mathlib.Core.Path.{_≡_, refl, sym, ap, _∙_}
-use Prim.Native.Nat.{ℕ, zero, suc, _+_, _-_, _*_, _≤_, _<_}
-use lib.ListN.{length, getD, take, drop}
+use mathlib.Core.Path.{sym}
+use Prim.Native.Nat.{_-_, _≤_}
+use lib.ListN.{length}
 use borrow.Author.Needs.{needs}
 use Rattle.building.proofs.build.build.Statement.{statement}
 use Rattle.building.proofs.build.build.Tie as tie
-use Rattle.building.proofs.build.build.Reads as reads
-use Rattle.building.proofs.build.build.Lts as lts
-use Rattle.building.proofs.block.bit_of.Reads as bit-of-reads
-use Rattle.building.proofs.build.put_counts.Reads as put-counts-reads
-use Rattle.building.proofs.pairs.put_elements.Reads as put-elements-reads
-use Rattle.building.proofs.sups.fill.Reads as fill-reads
-use Rattle.building.proofs.sups.tally.Reads as tally-reads
 
 abbrev P : tie.Start → Factor
 P s = part (s .args .min) (s .args .p .now) (s .args .pends .now) (s .args .pinc .now)
@@ -39,15 +32,12 @@ fits s =
     counts-room (a .min) (a .max) (P s) (Q s) (ups (P s)) (ups (Q s)) (a .counts .now) (a .ends .now) (a .inc .now)
     (sound s) (s .pre .1 .0) (s .pre .1 .1)
 
--- src/build.rt:73:9
 bit-of-requires : tie.Need-bit-of-requires
 bit-of-requires c κs = search needs
 
--- src/build.rt:75:17
 slice-aggregate-tally : tie.Need-slice-aggregate-tally
 slice-aggregate-tally c = search needs
 
--- src/build.rt:75:5
 tally-requires : tie.Need-tally-requires
 tally-requires c κs = let s = c .before .before .before .before .before .before .before .before .before .before .before in
     let e = c .before .bit-of .ensures in
@@ -56,11 +46,9 @@ tally-requires c κs = let s = c .before .before .before .before .before .before
       (g .lists-P, (omega (arith, g .ends-P), (g .few-P, zeros 4096))),
     )
 
--- src/build.rt:77:17
 slice-aggregate-tally-2 : tie.Need-slice-aggregate-tally-2
 slice-aggregate-tally-2 c = search needs
 
--- src/build.rt:77:5
 tally-requires-2 : tie.Need-tally-requires-2
 tally-requires-2 c κs = let s = c .before .before .before .before .before .before .before .before .before .before .before .before .before .before in
     let e = c .before .before .before .before .bit-of .ensures in
@@ -69,7 +57,6 @@ tally-requires-2 c κs = let s = c .before .before .before .before .before .befo
       (g .lists-Q, (omega (arith, g .ends-Q), (g .few-Q, zeros 4096))),
     )
 
--- src/build.rt:78:9
 put-counts-requires : tie.Need-put-counts-requires
 put-counts-requires c κs = let s = c .before .before .before .before .before .before .before .before .before .before .before .before .before .before .before .before .before in
     let g = sound s in
@@ -77,62 +64,49 @@ put-counts-requires c κs = let s = c .before .before .before .before .before .b
     let q = g .ranks-Q in
     (omega arith, (g .elements, fits s))
 
--- src/build.rt:80:51
 slice-aggregate-put-elements : tie.Need-slice-aggregate-put-elements
 slice-aggregate-put-elements c = search needs
 
--- src/build.rt:80:57
 slice-aggregate-put-elements-2 : tie.Need-slice-aggregate-put-elements-2
 slice-aggregate-put-elements-2 c = search needs
 
--- src/build.rt:79:9
 put-elements-requires : tie.Need-put-elements-requires
 put-elements-requires c κs = let s = c .before .before .before .before .before .before .before .before .before .before .before .before .before .before .before .before .before .before .before .before .before .before .before .before in
     let e = c .before .before .before .before .before .before .before .before .before .before .before .before .before .before .bit-of .ensures in
     s .pre .0 _ _ (rw e at (c .before .before .before .before .before .before .before .before .before .before .before .before .tally .ensures)) (rw e at (c .before .before .before .before .before .before .before .before .before .tally2 .ensures))
 
--- src/build.rt:82:16
 slice-reshare-prefix-fill : tie.Need-slice-reshare-prefix-fill
 slice-reshare-prefix-fill c = let w = c .before .before .before .before .before .before .before .before .before .before .before .put-counts .ensures in omega (arith, w .0, w .1 .same-length, fits (c .before .before .before .before .before .before .before .before .before .before .before .before .before .before .before .before .before .before .before .before .before .before .before .before .before .before .before .before .before))
 
--- src/build.rt:82:16
 slice-aggregate-fill : tie.Need-slice-aggregate-fill
 slice-aggregate-fill c = let w = c .before .before .before .before .before .before .before .before .before .before .before .before .put-counts .ensures in
     sym (length-take-le _ _ (omega (arith, w .0, w .1 .same-length, fits (c .before .before .before .before .before .before .before .before .before .before .before .before .before .before .before .before .before .before .before .before .before .before .before .before .before .before .before .before .before .before))))
 
--- src/build.rt:82:42
 mul-fill : tie.Need-mul-fill
 mul-fill c = omega (arith, c .before .before .before .before .before .put-elements .ensures .0, sound (c .before .before .before .before .before .before .before .before .before .before .before .before .before .before .before .before .before .before .before .before .before .before .before .before .before .before .before .before .before .before) .elements)
 
--- src/build.rt:82:34
 slice-reshare-prefix-fill-2 : tie.Need-slice-reshare-prefix-fill-2
 slice-reshare-prefix-fill-2 c = let w = c .before .before .before .before .before .put-elements .ensures in omega (arith, w .0, w .1 .ends-length, sound (c .before .before .before .before .before .before .before .before .before .before .before .before .before .before .before .before .before .before .before .before .before .before .before .before .before .before .before .before .before .before) .room-for-ends)
 
--- src/build.rt:82:34
 slice-aggregate-fill-2 : tie.Need-slice-aggregate-fill-2
 slice-aggregate-fill-2 c = let w = c .before .before .before .before .before .before .put-elements .ensures in
     sym (length-take-le _ _ (omega (arith, w .0, w .1 .ends-length, sound (c .before .before .before .before .before .before .before .before .before .before .before .before .before .before .before .before .before .before .before .before .before .before .before .before .before .before .before .before .before .before .before) .room-for-ends)))
 
--- src/build.rt:82:5
 fill-requires : tie.Need-fill-requires
 fill-requires c κs = let s = c .before .before .before .before .before .before .before .before .before .before .before .before .before .before .before .before .before .before .before .before .before .before .before .before .before .before .before .before .before .before .before .before in
     let w = c .before .before .before .before .before .before .before .before .before .before .before .before .before .before .put-counts .ensures in
     let v = c .before .before .before .before .before .before .before .put-elements .ensures in
     fill-asked _ _ (P s) (Q s) _ _ _ _ _ (sound s) (s .pre .1 .0) (s .pre .1 .1) _ _ _ _ _ (w .0) (w .1) (v .0) (v .1)
 
--- src/build.rt:46:1
 same-length : tie.Need-same-length
 same-length c = search needs
 
--- src/build.rt:46:1
 same-length-2 : tie.Need-same-length-2
 same-length-2 c = search needs
 
--- src/build.rt:46:1
 same-length-3 : tie.Need-same-length-3
 same-length-3 c = search needs
 
--- src/build.rt:46:1
 returns : tie.Need-returns
 returns c = let s = c .before .before .before .before .before .before .before .before .before .before .before .before .before .before .before .before .before .before .before .before .before .before .before .before .before .before .before .before .before .before .before .before .before .before .before in
     let w = c .before .before .before .before .before .before .before .before .before .before .before .before .before .before .before .before .before .put-counts .ensures in

@@ -1,17 +1,13 @@
-use Rattle.building.proofs.Numbers.{pairs-next, pairs-le}
-use Rattle.building.proofs.Laying.{laid-none, laid-next}
-use Rattle.building.specs.Pairs.{pairsIn, pairsTo}
-use Rattle.building.specs.Filling.{Laid}
+use Rattle.placing.specs.Places.{pairsIn}
+use Rattle.placing.specs.Laid.{Laid}
+use Rattle.placing.proofs.Numbers.{pairs-next, pairs-le}
+use Rattle.placing.proofs.Laying.{laid-none, laid-next}
 use borrow.Author.Needs.{needs}
 use native.Mathlib.Omega.{arith}
-use mathlib.Core.Path.{_≡_, refl, sym, ap, _∙_}
-use Prim.Native.Nat.{ℕ, zero, suc, _+_, _-_, _*_, _≤_, _<_}
-use lib.ListN.{length, getD, take, drop}
+use mathlib.Core.Path.{_≡_, ap, _∙_}
+use Prim.Native.Nat.{suc, _+_, _-_, _≤_}
 use Rattle.building.proofs.build.put_sizes.Statement.{statement}
 use Rattle.building.proofs.build.put_sizes.Tie as tie
-use Rattle.building.proofs.build.put_sizes.Reads as reads
-use Rattle.building.proofs.build.put_sizes.Lts as lts
-use Rattle.building.proofs.block.pairs_in.Reads as pairs-in-reads
 
 abbrev Inv-loop : tie.InvT-loop
 Inv-loop counts₀ at p q n k₀ counts k = (k ≤ n) × Laid at (λ r. pairsIn p q r (suc r)) k counts₀ counts
@@ -19,19 +15,15 @@ Inv-loop counts₀ at p q n k₀ counts k = (k ≤ n) × Laid at (λ r. pairsIn 
 abbrev μ-loop : tie.MeasureT-loop
 μ-loop counts₀ at p q n k₀ counts k = n - k
 
--- src/build.rt:22:5
 loop-holds : tie.Need-loop-holds Inv-loop μ-loop
 loop-holds c = (omega arith, laid-none _ _ _)
 
--- src/build.rt:23:51
 add-pairs-in : tie.Need-add-pairs-in Inv-loop μ-loop
 add-pairs-in c = search needs
 
--- src/build.rt:23:26
 pairs-in-requires : tie.Need-pairs-in-requires Inv-loop μ-loop
 pairs-in-requires c κs = search needs
 
--- src/build.rt:23:26
 cast-counts : tie.Need-cast-counts Inv-loop μ-loop
 cast-counts c = let a = c .before .before .before .before .before .before .args in
     let k = c .before .before .loop .k in
@@ -43,27 +35,21 @@ cast-counts c = let a = c .before .before .before .before .before .before .args 
       pairs-le (a .p .now) (a .q .now) (k + 1) (a .n) (omega arith),
     )
 
--- src/build.rt:23:16
 add-counts : tie.Need-add-counts Inv-loop μ-loop
 add-counts c = search needs
 
--- src/build.rt:23:9
 mul-counts : tie.Need-mul-counts Inv-loop μ-loop
 mul-counts c = search needs
 
--- src/build.rt:23:9
 slice-write-counts : tie.Need-slice-write-counts Inv-loop μ-loop
 slice-write-counts c = let l = c .before .before .loop .inv .1 .same-length in omega (arith, c .before .before .before .before .before .before .pre)
 
--- src/build.rt:24:9
 add-k : tie.Need-add-k Inv-loop μ-loop
 add-k c = search needs
 
--- src/build.rt:22:5
 loop-less : tie.Need-loop-less Inv-loop μ-loop
 loop-less c = search needs
 
--- src/build.rt:22:5
 loop-again : tie.Need-loop-again Inv-loop μ-loop
 loop-again c = let a = c .before .before .before .before .before .before .args in
     let l = c .before .before .loop .inv .1 in
@@ -73,15 +59,12 @@ loop-again c = let a = c .before .before .before .before .before .before .args i
           (c .pairs-in .ensures ∙ ap (pairsIn (a .p .now) (a .q .now) (c .before .before .loop .k)) e),
     )
 
--- src/build.rt:26:5
 add-result : tie.Need-add-result Inv-loop μ-loop
 add-result c = omega (arith, c .before .before .before .before .before .pre)
 
--- src/build.rt:15:1
 same-length : tie.Need-same-length Inv-loop μ-loop
 same-length c = c .before .loop .inv .1 .same-length
 
--- src/build.rt:15:1
 returns : tie.Need-returns Inv-loop μ-loop
 returns c = let l = c .before .loop .inv .1 in let e : c .before .loop .k ≡ c .before .before .before .before .before .args .n = omega arith in (omega arith, rw (← e) l)
 

@@ -4,7 +4,7 @@ use mathlib.Core.Path.{refl}
 use native.Mathlib.Omega.{arith}
 use borrow.Author.Needs.{needs}
 use Rattle.listing.proofs.ShapeExact.{shaped-ends}
-use Rattle.building.proofs.Fits.{bit-le}
+use Rattle.placing.proofs.Numbers.{bit-le}
 use Rattle.product.proofs.Counted.{room, counted, little}
 use Rattle.product.proofs.Parts.{usable-shaped, usable-high}
 use Rattle.product.proofs.sizes.count_used.Statement.{statement}

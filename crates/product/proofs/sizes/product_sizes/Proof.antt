@@ -5,7 +5,7 @@ use Prim.Native.Nat.{ℕ, _*_, _≤_}
 use native.Mathlib.Omega.{arith}
 use borrow.Author.Needs.{needs}
 use Rattle.pairing.specs.Trimmed.{bit}
-use Rattle.building.proofs.Fits.{bit-le}
+use Rattle.placing.proofs.Numbers.{bit-le}
 use Rattle.product.proofs.Counted.{measured}
 use Rattle.product.proofs.sizes.product_sizes.Statement.{statement}
 use Rattle.product.proofs.sizes.product_sizes.Tie as tie

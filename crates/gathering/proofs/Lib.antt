@@ -1,0 +1,5 @@
+pub mod Raising
+pub mod Counting
+pub mod Strewing
+pub mod Gathering
+pub mod SupsFilled

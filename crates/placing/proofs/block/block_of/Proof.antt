@@ -1,0 +1,93 @@
+use Rattle.placing.specs.Places.{offsetIn}
+use native.Mathlib.Omega.{arith}
+use mathlib.Core.Path.{ap, _∙_}
+use Prim.Native.Nat.{ℕ, _-_}
+use lib.ListN.{getD}
+use borrow.Author.Needs.{needs}
+use Rattle.placing.proofs.block.block_of.Statement.{statement}
+use Rattle.placing.proofs.block.block_of.Tie as tie
+
+bit-of-requires : tie.Need-bit-of-requires
+bit-of-requires c κs = search needs
+
+offset-requires : tie.Need-offset-requires
+offset-requires c κs = search needs
+
+add-first : tie.Need-add-first
+unfolding offsetIn
+add-first c = omega (arith, c .offset .ensures, c .before .before .before .before .pre .1)
+
+is-low-requires : tie.Need-is-low-requires
+is-low-requires c κs = search needs
+
+cap-of-requires : tie.Need-cap-of-requires
+cap-of-requires c κs = search needs
+
+elements-before-requires : tie.Need-elements-before-requires
+elements-before-requires c κs = search needs
+
+elements-before-requires-2 : tie.Need-elements-before-requires-2
+elements-before-requires-2 c κs = search needs
+
+less-requires : tie.Need-less-requires
+less-requires c κs = search needs
+
+offset-requires-2 : tie.Need-offset-requires-2
+offset-requires-2 c κs = search needs
+
+less-requires-2 : tie.Need-less-requires-2
+less-requires-2 c κs = search needs
+
+offset-requires-3 : tie.Need-offset-requires-3
+offset-requires-3 c κs = search needs
+
+count-at-requires : tie.Need-count-at-requires
+count-at-requires c κs = search needs
+
+wide-requires : tie.Need-wide-requires
+wide-requires c κs = search needs
+
+count-at-requires-2 : tie.Need-count-at-requires-2
+count-at-requires-2 c κs = search needs
+
+wide-requires-2 : tie.Need-wide-requires-2
+wide-requires-2 c κs = search needs
+
+returns : tie.Need-returns
+unfolding offsetIn
+returns c = let s = c .before .before .before .before .before .before .before .before .before .before .before .before .before .before .before .before in
+    let p = s .args .p .now in
+    let q = s .args .q .now in
+    record {
+      base = c .before .before .before .before .before .before .before .before .before .before .before .before .before .bit-of .ensures;
+      first = omega (arith, c .before .before .before .before .before .before .before .before .before .before .before .before .offset .ensures, s .pre .1);
+      low = c .before .before .before .before .before .before .before .before .before .before .before .is-low .ensures;
+      cap = c .before .before .before .before .before .before .before .before .before .before .cap-of .ensures;
+      p-before = c .before .before .before .before .before .before .before .before .before .elements-before .ensures;
+      q-before = c .before .before .before .before .before .before .before .before .elements-before2 .ensures;
+      left = c .before .before .before .before .before .before .offset2 .ensures ∙ ap (λ (h : ℕ). offsetIn p q h (s .args .j)) (c .before .before .before .before .before .before .before .less .ensures);
+      right = c .before .before .before .before .offset3 .ensures ∙ ap (offsetIn p q (s .args .i)) (c .before .before .before .before .before .less2 .ensures);
+      width = c .before .before .wide .ensures .0 ∙ c .before .before .before .count-at .ensures;
+      step = c .wide2 .ensures .0 ∙ c .before .count-at2 .ensures ∙ ap (λ (k : ℕ). getD q k 0) (c .before .before .before .before .before .less2 .ensures);
+    }
+
+pub block-of-spec : {M : Type 1} → statement M
+block-of-spec =
+    tie.close
+    (tie.spec
+    bit-of-requires
+    offset-requires
+    add-first
+    is-low-requires
+    cap-of-requires
+    elements-before-requires
+    elements-before-requires-2
+    less-requires
+    offset-requires-2
+    less-requires-2
+    offset-requires-3
+    count-at-requires
+    wide-requires
+    count-at-requires-2
+    wide-requires-2
+    returns)

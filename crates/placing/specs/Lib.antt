@@ -1,0 +1,4 @@
+pub mod Laid
+pub mod Factors
+pub mod Places
+pub mod Blocks

@@ -1,0 +1,5 @@
+pub mod Rows
+pub mod Fits
+pub mod Sizes
+pub mod Target
+pub mod Extremes
