@@ -44,8 +44,8 @@ fn put_counts(min: bool, max: bool, p: &[u16], q: &[u16], counts: &mut [u16]) ->
 }
 
 // Writes the product of two factors: its counts, its ends and its incidences. Each factor is given by the counts of its
-// ranks in use, its ends and its incidences; where min is set, its minimal element is not in use and one is added to the
-// pairs, and where max is set the same of the maximal one.
+// ranks in use, its ends and its incidences; where min is set, its minimal element is not in use and one is added to
+// the pairs, and where max is set the same of the maximal one.
 pub fn build(
     min: bool,
     max: bool,

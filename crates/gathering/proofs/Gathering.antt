@@ -6,7 +6,8 @@ use mathlib.Core.List.{List, [], _∷_}
 use Prim.Native.Nat.{ℕ, zero, suc, _+_, _-_, _*_, _≤_, _<_}
 use native.Mathlib.Nat.{eq-or-lt-of-le}
 use native.Mathlib.Omega.{arith}
-use lib.ListN.{length, getD, take, drop, replicate, length-take, length-drop, length-replicate, take-append-drop, replicate-append-replicate}
+use lib.ListN.{length, getD, take, drop, replicate, length-take, length-drop, length-replicate, take-append-drop}
+use lib.ListN.{replicate-append-replicate}
 use lib.Seq.{ext-getD, getD-take, getD-drop}
 use Rattle.order.specs.Lists.{occurs}
 use Rattle.order.specs.Sums.{sum}
@@ -45,7 +46,8 @@ module _ (first n from to k t : ℕ) (inc next inc′ next′ : List ℕ) (ht : 
       s .rest t
       (λ x j h i q.
       omega (arith, length-replicate (occurs x (take d l)) k, occurs-some x l d, apart .below x h))
-      ∙ sym (getD-take (to - from) (drop from inc) d 0 (omega arith) ∙ getD-drop from inc d 0 ∙ ap (λ (p : ℕ). getD inc p 0) e)
+      ∙ sym (getD-take (to - from) (drop from inc) d 0 (omega arith)
+      ∙ getD-drop from inc d 0 ∙ ap (λ (p : ℕ). getD inc p 0) e)
 
   -- there is room at its cursor
   pub element-room : (x : ℕ) → x ≡ getD l d 0 → x < n → getD next′ (first + x) 0 < from
@@ -61,7 +63,8 @@ module _ (first n from to k t : ℕ) (inc next inc′ next′ : List ℕ) (ht : 
       )
 
   -- one entry more has been gone through
-  module _ (x : ℕ) (next″ inc″ : List ℕ) (ex : x ≡ getD l d 0) (r′ : Raised first n (λ y. occurs y (x ∷ [])) next′ next″)
+  module _ (x : ℕ) (next″ inc″ : List ℕ) (ex : x ≡ getD l d 0)
+      (r′ : Raised first n (λ y. occurs y (x ∷ [])) next′ next″)
       (s′ : Strewn first n (λ y. replicate (occurs y (x ∷ [])) k) next′ inc′ inc″) where
     more : (y : ℕ) → occurs y (take (t + 1 - from) l) ≡ occurs y (take d l) + occurs y (x ∷ [])
     more y =
@@ -140,7 +143,8 @@ start-le ends inc good i (suc j) h l = go (λ a. start-le ends inc good i j a (o
 
 module _ (first n here m k : ℕ) (ends inc next inc′ next′ : List ℕ) (good : Ends ends inc)
     (hm : 2 * (here + m) ≤ length ends) (hk : k < m)
-    (apart : Apart first n (λ x. length (gather (λ i. entries ends inc (2 * (here + i) + 0)) x m)) (start ends (2 * here)) next)
+    (apart : Apart first n (λ x. length (gather (λ i. entries ends inc (2 * (here + i) + 0)) x m))
+    (start ends (2 * here)) next)
     (s : Strewn first n (λ y. gather (λ i. entries ends inc (2 * (here + i) + 0)) y k) next inc inc′)
     (r : Raised first n (λ y. length (gather (λ i. entries ends inc (2 * (here + i) + 0)) y k)) next next′) where
   abbrev f : ℕ → List ℕ

@@ -107,7 +107,8 @@ module _ (first n : ℕ) where
       go (yes l) d = omega (arith, r .before k l)
       go (no l) (yes m) =
           let e : first + (k - first) ≡ k = omega arith in
-          let a : getD up′ (first + (k - first)) 0 ≡ getD up (first + (k - first)) 0 + g (k - first) = r .at (k - first) (omega arith) in
+          let a : getD up′ (first + (k - first)) 0 ≡ getD up (first + (k - first)) 0 + g (k - first) =
+          r .at (k - first) (omega arith) in
           omega (arith, rw e at a, h (k - first))
       go (no l) (no m) = omega (arith, r .after k (omega arith))
 

@@ -46,7 +46,8 @@ module _ (first n : ℕ) where
         go (no a) (yes b) = absurd (none (omega arith))
         go (no a) (no b) =
             let e : y ≡ x = omega arith in
-            let m : length (one y) ≡ 1 = length-replicate (occurs y (x ∷ [])) k ∙ ap (λ (t : ℕ). occurs t (x ∷ [])) e ∙ occurs-this x in
+            let m : length (one y) ≡ 1 =
+            length-replicate (occurs y (x ∷ [])) k ∙ ap (λ (t : ℕ). occurs t (x ∷ [])) e ∙ occurs-this x in
             let z : j ≡ 0 = omega arith in
             let q : place + 0 ≡ place = omega arith in
             rw (e, z, q, occurs-this x) (getD-set-same inc place k 0 r)
@@ -63,7 +64,8 @@ module _ (first n : ℕ) where
   -- ---- a run after another
 
   module _ (so so′ tot : ℕ → List ℕ) (size g : ℕ → ℕ) (top : ℕ) (next next′ inc inc′ inc″ : List ℕ)
-      (s : Strewn first n so next inc inc′) (r : Raised first n size next next′) (s′ : Strewn first n so′ next′ inc′ inc″)
+      (s : Strewn first n so next inc inc′) (r : Raised first n size next next′)
+      (s′ : Strewn first n so′ next′ inc′ inc″)
       (apart : Apart first n g top next) (es : (x : ℕ) → size x ≡ length (so x))
       (fit : (x : ℕ) → x < n → length (so x) + length (so′ x) ≤ g x) (et : (x : ℕ) → tot x ≡ so x ++ so′ x) where
     cursor : (x : ℕ) → x < n → getD next′ (first + x) 0 ≡ getD next (first + x) 0 + length (so x)
@@ -94,7 +96,8 @@ module _ (first n : ℕ) where
             s′ .rest (getD next (first + x) 0 + j) (λ y i hy hi e. kept x j y i h hy a hi e) ∙ s .at x j h a
             ∙ sym (ap (λ (t : List ℕ). getD t j 0) (et x) ∙ List·getD-append (so x) (so′ x) 0 j a)
         go (no a) =
-            let e : getD next (first + x) 0 + j ≡ getD next′ (first + x) 0 + (j - length (so x)) = omega (arith, cursor x h) in
+            let e : getD next (first + x) 0 + j ≡ getD next′ (first + x) 0 + (j - length (so x)) =
+            omega (arith, cursor x h) in
             let f : length (so x) + (j - length (so x)) ≡ j = omega arith in
             ap (λ (p : ℕ). getD inc″ p 0) e ∙ s′ .at x (j - length (so x)) h (omega (arith, total x))
             ∙ sym (ap (λ (t : List ℕ). getD t j 0) (et x)

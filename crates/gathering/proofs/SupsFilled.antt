@@ -41,7 +41,8 @@ module _ (counts ends inc : List ℕ) (ready : Fillable counts ends inc) where
       go (yes a) = omega (arith, ends-before e e′ a (omega arith))
       go (no a) =
           let m : start ends (suc (2 * e′)) ≤ start ends (suc (2 * e)) =
-          start-le ends inc (ready .lists) (suc (2 * e′)) (suc (2 * e)) (omega arith) (omega (arith, ready .two-each)) in
+          start-le ends inc (ready .lists) (suc (2 * e′)) (suc (2 * e)) (omega arith)
+          (omega (arith, ready .two-each)) in
           omega arith
 
   -- ---- with the sups of the ranks below r filled in

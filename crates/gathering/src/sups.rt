@@ -91,8 +91,8 @@ pub fn tally(up: &mut [u16], counts: &[u16], ends: &[u16], inc: &[u16], base: us
     }
 }
 
-// Writes k at the cursor of the element that the entry x names, of n elements whose cursors stand from place `first` on.
-// An entry that names none is passed over.
+// Writes k at the cursor of the element that the entry x names, of n elements whose cursors stand from place `first`
+// on. An entry that names none is passed over.
 fn fill_entry(inc: &mut [u16], next: &mut [u16], first: usize, n: usize, x: usize, k: usize)
     requires { ⌜ (first + n ≤ length (now next)) × (k < 65536) ⌝ }
     requires { ⌜ (x < n → getD (now next) (first + x) 0 < length (now inc)) ⌝ }
@@ -134,8 +134,8 @@ fn fill_element(
     }
 }
 
-// Fills in the sups of n elements, whose cursors stand from place `first` on, from the subs of the m elements over them,
-// which begin at the place `here` of the lists.
+// Fills in the sups of n elements, whose cursors stand from place `first` on, from the subs of the m elements over
+// them, which begin at the place `here` of the lists.
 fn fill_rank(
     ends: &[u16],
     inc: &mut [u16],

@@ -52,8 +52,8 @@ pub fn put_up_to(d: &mut [u16], at: usize, n: usize) -> usize
     at + j
 }
 
-// Writes the added minimal element where it is asked for: nothing under it, and room for its sups. Returns the place after
-// those.
+// Writes the added minimal element where it is asked for: nothing under it, and room for its sups. Returns the place
+// after those.
 pub fn put_min(ends: &mut [u16], min: bool, sups: usize) -> usize
     requires { ⌜ (2 * bit min ≤ length (now ends)) × (sups < 65536) ⌝ }
     ensures { λ r. ⌜ r ≡ cond min sups 0 ⌝ }
@@ -86,8 +86,8 @@ pub fn put_max(ends: &mut [u16], inc: &mut [u16], max: bool, e: usize, at: usize
     at
 }
 
-// Writes one element, by its number e, from place `at` on: what it has under it, and its two ends, with room left for its
-// sups. Returns the place after those.
+// Writes one element, by its number e, from place `at` on: what it has under it, and its two ends, with room left for
+// its sups. Returns the place after those.
 pub fn put_element(
     ends: &mut [u16],
     inc: &mut [u16],

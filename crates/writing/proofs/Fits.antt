@@ -18,7 +18,8 @@ use Rattle.placing.specs.Places.{offsetIn, firstAt, number, subsOf}
 use Rattle.placing.specs.Blocks.{BlockOf}
 use Rattle.writing.specs.Filling.{starts, Put}
 use Rattle.writing.specs.Pairs.{listsOf, underPair, overPair, sizeOf, Plan}
-use Rattle.placing.proofs.Numbers.{bit-le, product-le, some-rank, before-lt, number-at, number-more, number-lt, first-le}
+use Rattle.placing.proofs.Numbers.{bit-le, product-le, some-rank, before-lt}
+use Rattle.placing.proofs.Numbers.{number-at, number-more, number-lt, first-le}
 use Rattle.writing.proofs.Rows.{starts-room, put-one}
 
 -- the same plan, with room of the same size

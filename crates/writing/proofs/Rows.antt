@@ -85,7 +85,9 @@ module _ (lists : ℕ → List ℕ) where
         go (yes a) = l .before _ (omega (arith, starts-room e k a)) ∙ r .subs-done k j a b
         go (no a) =
             let s : e ≡ k = omega arith in
-            subst (λ (n : ℕ). j < length (lists (2 * n)) → getD inc′ (starts lists (2 * n) + j) 0 ≡ getD (lists (2 * n)) j 0)
+            subst (
+            λ (n : ℕ).
+            j < length (lists (2 * n)) → getD inc′ (starts lists (2 * n) + j) 0 ≡ getD (lists (2 * n)) j 0)
             s (λ q. l .inside j q) b
 
     row-next : Row lists (e + 1) ends₀ inc₀ ends′ inc′

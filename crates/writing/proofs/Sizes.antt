@@ -113,7 +113,8 @@ module _ (max : Bool) (M : Layers) where
 
 module _ (M : Layers) where
   -- its place, its rank and what it has under it, whether or not an element was added below
-  high-sum : (min : Bool) → sum (grown min true M .size) (grown min true M .top) ≡ bit min + sum (M .size) (suc (M .top))
+  high-sum : (min : Bool)
+      → sum (grown min true M .size) (grown min true M .top) ≡ bit min + sum (M .size) (suc (M .top))
   unfolding sum minSize
   high-sum true =
       sum-first (minSize (addMax M)) (suc (M .top))
@@ -151,7 +152,8 @@ module _ (M : Layers) where
     pub high-subs : nth H (derived H) (2 * (bit min + sum (M .size) (suc (M .top)))) ≡ upTo (M .size (M .top))
     unfolding listAt
     high-subs =
-        let z : 2 * (bit min + sum (M .size) (suc (M .top))) + 0 ≡ 2 * (bit min + sum (M .size) (suc (M .top))) = omega arith in
+        let n = bit min + sum (M .size) (suc (M .top)) in
+        let z : 2 * n + 0 ≡ 2 * n = omega arith in
         rw z at (high-at 0 (omega arith)) ∙ high-under min
 
     pub high-sups : length (nth H (derived H) (2 * (bit min + sum (M .size) (suc (M .top))) + 1)) ≡ 0

@@ -46,8 +46,8 @@ fn sups_over(upp: &[u16], upq: &[u16], block: Block, a: usize, b: usize) -> usiz
     x + y + block.cap
 }
 
-// The pair of element a of rank i, whose subs in use are `left`, and element b of rank j, from place `at` on. Returns the
-// place after it.
+// The pair of element a of rank i, whose subs in use are `left`, and element b of rank j, from place `at` on. Returns
+// the place after it.
 fn put_pair(
     min: bool,
     max: bool,
@@ -77,7 +77,8 @@ fn put_pair(
     requires { ⌜ at ≡ starts (listed min max (now p) (now pends) (now pinc) (now q) (now qends) (now qinc))
         (2 * number min (now p) (now q) i a j b) ⌝ }
     ensures { λ r. ⌜ Put (listed min max (now (p .entry)) (now (pends .entry)) (now (pinc .entry)) (now (q .entry))
-        (now (qends .entry)) (now (qinc .entry))) (number min (now (p .entry)) (now (q .entry)) i a j b) (number min (now (p .entry)) (now (q .entry)) i a j (b + 1)) r
+        (now (qends .entry)) (now (qinc .entry))) (number min (now (p .entry)) (now (q .entry)) i a j b)
+        (number min (now (p .entry)) (now (q .entry)) i a j (b + 1)) r
         (now (ends .entry)) (now (inc .entry)) (now (ends .exit)) (now (inc .exit)) ⌝ }
 {
     let right = used_subs(qends, qinc, block.base + block.qbefore + b, j);
@@ -127,7 +128,8 @@ pub fn put_row(
     requires { ⌜ at ≡ starts (listed min max (now p) (now pends) (now pinc) (now q) (now qends) (now qinc))
         (2 * number min (now p) (now q) i a j 0) ⌝ }
     ensures { λ r. ⌜ Put (listed min max (now (p .entry)) (now (pends .entry)) (now (pinc .entry)) (now (q .entry))
-        (now (qends .entry)) (now (qinc .entry))) (number min (now (p .entry)) (now (q .entry)) i a j 0) (number min (now (p .entry)) (now (q .entry)) i (a + 1) j 0) r
+        (now (qends .entry)) (now (qinc .entry))) (number min (now (p .entry)) (now (q .entry)) i a j 0)
+        (number min (now (p .entry)) (now (q .entry)) i (a + 1) j 0) r
         (now (ends .entry)) (now (inc .entry)) (now (ends .exit)) (now (inc .exit)) ⌝ }
 {
     let left = used_subs(pends, pinc, block.base + block.pbefore + a, i);

@@ -38,7 +38,8 @@ fn put_block(
     requires { ⌜ at ≡ starts (listed min max (now p) (now pends) (now pinc) (now q) (now qends) (now qinc))
         (2 * firstAt min (now p) (now q) (i + j) i) ⌝ }
     ensures { λ r. ⌜ Put (listed min max (now (p .entry)) (now (pends .entry)) (now (pinc .entry)) (now (q .entry))
-        (now (qends .entry)) (now (qinc .entry))) (firstAt min (now (p .entry)) (now (q .entry)) (i + j) i) (firstAt min (now (p .entry)) (now (q .entry)) (i + j) (i + 1)) r
+        (now (qends .entry)) (now (qinc .entry))) (firstAt min (now (p .entry)) (now (q .entry)) (i + j) i)
+        (firstAt min (now (p .entry)) (now (q .entry)) (i + j) (i + 1)) r
         (now (ends .entry)) (now (inc .entry)) (now (ends .exit)) (now (inc .exit)) ⌝ }
 {
     let block = block::block_of(min, max, p, q, start, i, j);
@@ -98,7 +99,8 @@ fn put_rank(
     requires { ⌜ at ≡ starts (listed min max (now p) (now pends) (now pinc) (now q) (now qends) (now qinc))
         (2 * firstAt min (now p) (now q) rank 0) ⌝ }
     ensures { λ r. ⌜ Put (listed min max (now (p .entry)) (now (pends .entry)) (now (pinc .entry)) (now (q .entry))
-        (now (qends .entry)) (now (qinc .entry))) (firstAt min (now (p .entry)) (now (q .entry)) rank 0) (firstAt min (now (p .entry)) (now (q .entry)) (rank + 1) 0) r
+        (now (qends .entry)) (now (qinc .entry))) (firstAt min (now (p .entry)) (now (q .entry)) rank 0)
+        (firstAt min (now (p .entry)) (now (q .entry)) (rank + 1) 0) r
         (now (ends .entry)) (now (inc .entry)) (now (ends .exit)) (now (inc .exit)) ⌝ }
 {
     let mut to = at;
@@ -148,7 +150,8 @@ fn put_ranks(
     requires { ⌜ at ≡ starts (listed min max (now p) (now pends) (now pinc) (now q) (now qends) (now qinc))
         (2 * firstAt min (now p) (now q) 0 0) ⌝ }
     ensures { λ r. ⌜ Put (listed min max (now (p .entry)) (now (pends .entry)) (now (pinc .entry)) (now (q .entry))
-        (now (qends .entry)) (now (qinc .entry))) (firstAt min (now (p .entry)) (now (q .entry)) 0 0) (firstAt min (now (p .entry)) (now (q .entry)) (length (now (p .entry)) + length (now (q .entry)) - 1) 0) r
+        (now (qends .entry)) (now (qinc .entry))) (firstAt min (now (p .entry)) (now (q .entry)) 0 0)
+        (firstAt min (now (p .entry)) (now (q .entry)) (length (now (p .entry)) + length (now (q .entry)) - 1) 0) r
         (now (ends .entry)) (now (inc .entry)) (now (ends .exit)) (now (inc .exit)) ⌝ }
 {
     let ranks = p.len() + q.len() - 1;
@@ -179,7 +182,8 @@ fn put_ranks(
     to
 }
 
-// All elements: the added minimal one, the pairs, the added maximal one, as they are asked for. Returns how many they are.
+// All elements: the added minimal one, the pairs, the added maximal one, as they are asked for. Returns how many they
+// are.
 pub fn put_elements(
     min: bool,
     max: bool,

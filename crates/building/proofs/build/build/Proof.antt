@@ -1,14 +1,16 @@
-use Rattle.placing.specs.Factors.{Factor, part}
-use Rattle.writing.specs.Pairs.{Plan}
-use Rattle.building.specs.Built.{countsOf}
-use Rattle.placing.proofs.Numbers.{bit-le}
-use Rattle.building.proofs.Built.{zeros, ups, ups-right, counts-room, fill-asked, built-all}
-use lib.Seq.{length-take-le}
-use native.Mathlib.Omega.{arith}
+-- `build`: the up-counts are right, so the plan holds; what put_counts, put_elements and fill leave is the product.
+-- Assumes nothing.
 use mathlib.Core.Path.{sym}
 use Prim.Native.Nat.{_-_, _≤_}
+use native.Mathlib.Omega.{arith}
+use lib.Seq.{length-take-le}
 use lib.ListN.{length}
 use borrow.Author.Needs.{needs}
+use Rattle.placing.specs.Factors.{Factor, part}
+use Rattle.placing.proofs.Numbers.{bit-le}
+use Rattle.writing.specs.Pairs.{Plan}
+use Rattle.building.specs.Built.{countsOf}
+use Rattle.building.proofs.Built.{zeros, ups, ups-right, counts-room, fill-asked, built-all}
 use Rattle.building.proofs.build.build.Statement.{statement}
 use Rattle.building.proofs.build.build.Tie as tie
 

@@ -1,12 +1,14 @@
+-- `put_counts`: the three parts, each where the one before ended, are the counts.
+-- Assumes nothing.
+use mathlib.Core.Path.{_≡_}
+use Prim.Native.Nat.{_+_, _-_}
+use native.Mathlib.Omega.{arith}
+use lib.ListN.{length}
+use Rattle.pairing.specs.Trimmed.{bit}
 use Rattle.placing.specs.Laid.{Holds}
 use Rattle.writing.specs.Pairs.{sizeOf}
 use Rattle.building.specs.Built.{countsOf}
 use Rattle.building.proofs.CountsLaid.{counts-length, counts-laid}
-use Rattle.pairing.specs.Trimmed.{bit}
-use native.Mathlib.Omega.{arith}
-use mathlib.Core.Path.{_≡_}
-use Prim.Native.Nat.{_+_, _-_}
-use lib.ListN.{length}
 use Rattle.building.proofs.build.put_counts.Statement.{statement}
 use Rattle.building.proofs.build.put_counts.Tie as tie
 

@@ -1,11 +1,13 @@
+-- `put_sizes`. Invariant: the sizes of the ranks below k are written, and nothing else. Measure: the ranks left.
+-- Assumes nothing.
+use mathlib.Core.Path.{_≡_, ap, _∙_}
+use Prim.Native.Nat.{suc, _+_, _-_, _≤_}
+use native.Mathlib.Omega.{arith}
+use borrow.Author.Needs.{needs}
 use Rattle.placing.specs.Places.{pairsIn}
 use Rattle.placing.specs.Laid.{Laid}
 use Rattle.placing.proofs.Numbers.{pairs-next, pairs-le}
 use Rattle.placing.proofs.Laying.{laid-none, laid-next}
-use borrow.Author.Needs.{needs}
-use native.Mathlib.Omega.{arith}
-use mathlib.Core.Path.{_≡_, ap, _∙_}
-use Prim.Native.Nat.{suc, _+_, _-_, _≤_}
 use Rattle.building.proofs.build.put_sizes.Statement.{statement}
 use Rattle.building.proofs.build.put_sizes.Tie as tie
 

@@ -1,7 +1,9 @@
-use Rattle.placing.proofs.Laying.{laid-at}
-use native.Mathlib.Omega.{arith}
+-- `fill`: the cursors stand where the sups begin, and fill_ranks asks no more.
+-- Assumes nothing.
 use Prim.Native.Nat.{_-_}
+use native.Mathlib.Omega.{arith}
 use borrow.Author.Needs.{needs}
+use Rattle.placing.proofs.Laying.{laid-at}
 use Rattle.gathering.proofs.sups.fill.Statement.{statement}
 use Rattle.gathering.proofs.sups.fill.Tie as tie
 

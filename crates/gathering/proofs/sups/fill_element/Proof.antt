@@ -1,39 +1,54 @@
+-- `fill_element`. Invariant: k is written for the entries from `from` up to t, at the cursor of each, and the cursors
+-- are raised by as many. Measure: the entries left.
+-- Assumes nothing.
+use mathlib.Core.Path.{_≡_, _∙_}
+use Prim.Native.Nat.{_-_, _≤_, _<_}
+use native.Mathlib.Omega.{arith}
 use lib.ListN.{length-take, replicate, length, getD, take, drop}
 use lib.Seq.{take-all}
+use borrow.Author.Needs.{needs}
+use Rattle.order.specs.Lists.{occurs}
 use Rattle.gathering.specs.Sups.{Raised, Strewn, between}
 use Rattle.gathering.proofs.Gathering.{element-read, element-room, element-raised, element-strewn}
 use Rattle.gathering.proofs.Strewing.{strewn-none}
 use Rattle.gathering.proofs.Raising.{occurs-nil, raised-none}
-use Rattle.order.specs.Lists.{occurs}
-use borrow.Author.Needs.{needs}
-use native.Mathlib.Omega.{arith}
-use mathlib.Core.Path.{_≡_, _∙_}
-use Prim.Native.Nat.{_-_, _≤_, _<_}
 use Rattle.gathering.proofs.sups.fill_element.Statement.{statement}
 use Rattle.gathering.proofs.sups.fill_element.Tie as tie
 
 abbrev Inv-loop : tie.InvT-loop
-Inv-loop inc₀ next₀ first n from to k t₀ inc next t = (from ≤ t) × (t ≤ to) × Raised first n (λ y. occurs y (take (t - from) (between inc₀ from to))) next₀ next
+Inv-loop inc₀ next₀ first n from to k t₀ inc next t =
+    (from ≤ t) × (t ≤ to) × Raised first n (λ y. occurs y (take (t - from) (between inc₀ from to))) next₀ next
     × Strewn first n (λ y. replicate (occurs y (take (t - from) (between inc₀ from to))) k) next₀ inc₀ inc
 
 abbrev μ-loop : tie.MeasureT-loop
 μ-loop inc₀ next₀ first n from to k t₀ inc next t = to - t
 
+-- where the function began, seen from later states
+abbrev begun : tie.After-fill-entry-arg2 Inv-loop μ-loop → tie.Start Inv-loop μ-loop
+begun c = c .before .before .before .before .before .before .before .before
+
 -- the entry is of the list
 inside : (c : tie.After-wide Inv-loop μ-loop)
     → let a = c .before .before .before .before .before .before .args in
-    (a .from ≤ c .before .before .before .loop .t) × (c .before .before .before .loop .t < a .to) × (a .to ≤ length (a .inc .now))
-inside c = (c .before .before .before .loop .inv .0, c .before .before .loop-test .taken, c .before .before .before .before .before .before .pre .1 .0 .1)
+    (a .from ≤ c .before .before .before .loop .t) × (c .before .before .before .loop .t < a .to)
+    × (a .to ≤ length (a .inc .now))
+inside c = (
+  c .before .before .before .loop .inv .0,
+  c .before .before .loop-test .taken,
+  c .before .before .before .before .before .before .pre .1 .0 .1,
+)
 
 entry : (c : tie.After-wide Inv-loop μ-loop)
     → let a = c .before .before .before .before .before .before .args in
     c .wide .result ≡ getD (between (a .inc .now) (a .from) (a .to)) (c .before .before .before .loop .t - a .from) 0
 entry c =
     let v = c .before .before .before .loop .inv in
-    c .wide .ensures .0 ∙ element-read _ _ _ _ _ _ _ _ _ _ (inside c) (c .before .before .before .before .before .before .pre .1 .1) (v .3) (v .2)
+    c .wide .ensures .0 ∙ element-read _ _ _ _ _ _ _ _ _ _ (inside c)
+    (c .before .before .before .before .before .before .pre .1 .1) (v .3) (v .2)
 
 loop-holds : tie.Need-loop-holds Inv-loop μ-loop
-loop-holds c = let s = c .before .before in
+loop-holds c =
+    let s = c .before .before in
     let e : s .args .from - s .args .from ≡ 0 = omega arith in
     rw e (
       omega arith,
@@ -46,13 +61,16 @@ mul-wide : tie.Need-mul-wide Inv-loop μ-loop
 mul-wide c = search needs
 
 slice-read-wide : tie.Need-slice-read-wide Inv-loop μ-loop
-slice-read-wide c = let v = c .before .before .loop .inv in omega (arith, v .3 .same-length, c .before .before .before .before .before .pre .1 .0)
+slice-read-wide c =
+    let v = c .before .before .loop .inv in
+    omega (arith, v .3 .same-length, c .before .before .before .before .before .pre .1 .0)
 
 wide-requires : tie.Need-wide-requires Inv-loop μ-loop
 wide-requires c κs = search needs
 
 fill-entry-requires : tie.Need-fill-entry-requires Inv-loop μ-loop
-fill-entry-requires c κs = let s = c .before .before .before .before .before .before .before .before in
+fill-entry-requires c κs =
+    let s = begun c in
     let v = c .before .before .before .before .before .loop .inv in
     let m = entry (c .before .before) in
     let b = s .pre .1 .0 in
@@ -68,7 +86,8 @@ loop-less : tie.Need-loop-less Inv-loop μ-loop
 loop-less c = search needs
 
 loop-again : tie.Need-loop-again Inv-loop μ-loop
-loop-again c = let s = c .before .before .before .before .before .before .before .before .before .before .before .before .before in
+loop-again c =
+    let s = begun (c .before .before .before .before .before) in
     let v = c .before .before .before .before .before .before .before .before .before .before .loop .inv in
     let w = c .before .before .before .before .fill-entry .ensures in
     let m = entry (c .before .before .before .before .before .before .before) in
@@ -86,7 +105,8 @@ same-length-2 : tie.Need-same-length-2 Inv-loop μ-loop
 same-length-2 c = c .before .loop .inv .2 .same-length
 
 returns : tie.Need-returns Inv-loop μ-loop
-returns c = let a = c .before .before .before .before .args in
+returns c =
+    let a = c .before .before .before .before .args in
     let v = c .before .loop .inv in
     let e : c .before .loop .t ≡ a .to = omega arith in
     let l = between (a .inc .now) (a .from) (a .to) in

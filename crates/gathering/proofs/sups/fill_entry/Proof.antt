@@ -1,8 +1,10 @@
+-- `fill_entry`: k is written at the cursor of x, which is raised by one; or nothing is done.
+-- Assumes nothing.
+use Prim.Native.Nat.{_-_}
+use native.Mathlib.Omega.{arith}
+use borrow.Author.Needs.{needs}
 use Rattle.gathering.proofs.Strewing.{strewn-one, strewn-past}
 use Rattle.gathering.proofs.Raising.{raised-one, raised-past}
-use native.Mathlib.Omega.{arith}
-use Prim.Native.Nat.{_-_}
-use borrow.Author.Needs.{needs}
 use Rattle.gathering.proofs.sups.fill_entry.Statement.{statement}
 use Rattle.gathering.proofs.sups.fill_entry.Tie as tie
 
@@ -25,13 +27,25 @@ mul-inc : tie.Need-mul-inc
 mul-inc c = search needs
 
 slice-write-inc : tie.Need-slice-write-inc
-slice-write-inc c = omega (arith, c .wide .ensures .0, c .before .before .before .before .before .pre .1 .0 (c .before .before .if1 .taken))
+slice-write-inc c =
+    omega (
+      arith,
+      c .wide .ensures .0,
+      c .before .before .before .before .before .pre .1 .0
+          (c .before .before .if1 .taken),
+    )
 
 add-next : tie.Need-add-next
 add-next c = search needs
 
 cast-next : tie.Need-cast-next
-cast-next c = omega (arith, c .wide .ensures .0, c .before .before .before .before .before .pre .1 .1 (c .before .before .if1 .taken))
+cast-next c =
+    omega (
+      arith,
+      c .wide .ensures .0,
+      c .before .before .before .before .before .pre .1 .1
+          (c .before .before .if1 .taken),
+    )
 
 add-next-2 : tie.Need-add-next-2
 add-next-2 c = search needs
@@ -49,10 +63,12 @@ same-length-2 : tie.Need-same-length-2
 same-length-2 c = search needs
 
 returns : tie.Need-returns
-returns c = let s = c .before .before .before .before .before in
+returns c =
+    let s = c .before .before .before .before .before in
     rw (c .wide .ensures .0) (
       raised-one _ _ _ _ (c .before .before .if1 .taken) (s .pre .0 .0),
-      strewn-one _ _ _ _ (s .args .next .now) _ (c .before .before .if1 .taken) (s .pre .1 .0 (c .before .before .if1 .taken)),
+      strewn-one _ _ _ _ (s .args .next .now) _ (c .before .before .if1 .taken)
+          (s .pre .1 .0 (c .before .before .if1 .taken)),
     )
 
 returns-2 : tie.Need-returns-2

@@ -1,26 +1,35 @@
+-- `fill_rank`. Invariant: what the first k elements of the rank above list is gathered, and the cursors are raised by
+-- as many. Measure: the elements left.
+-- Assumes nothing.
+use mathlib.Core.Path.{_≡_}
+use Prim.Native.Nat.{_+_, _-_, _*_, _≤_, _<_}
+use native.Mathlib.Omega.{arith}
+use lib.ListN.{length}
+use borrow.Author.Needs.{needs}
+use Rattle.listing.specs.Layers.{gather}
+use Rattle.listing.specs.Listing.{entries}
 use Rattle.gathering.specs.Sups.{Raised, Strewn}
 use Rattle.gathering.proofs.Gathering.{gather-none, rank-apart, rank-raised, rank-strewn}
 use Rattle.gathering.proofs.Strewing.{strewn-none}
 use Rattle.gathering.proofs.Raising.{raised-none}
-use Rattle.listing.specs.Layers.{gather}
-use Rattle.listing.specs.Listing.{entries}
-use borrow.Author.Needs.{needs}
-use native.Mathlib.Omega.{arith}
-use mathlib.Core.Path.{_≡_}
-use Prim.Native.Nat.{_+_, _-_, _*_, _≤_, _<_}
-use lib.ListN.{length}
 use Rattle.gathering.proofs.sups.fill_rank.Statement.{statement}
 use Rattle.gathering.proofs.sups.fill_rank.Tie as tie
 
 abbrev Inv-loop : tie.InvT-loop
-Inv-loop ends inc₀ next₀ first n here m k₀ inc next k = (k ≤ m) × Raised first n (λ y. length (gather (λ i. entries ends inc₀ (2 * (here + i) + 0)) y k)) next₀ next
+Inv-loop ends inc₀ next₀ first n here m k₀ inc next k =
+    (k ≤ m) × Raised first n (λ y. length (gather (λ i. entries ends inc₀ (2 * (here + i) + 0)) y k)) next₀ next
     × Strewn first n (λ y. gather (λ i. entries ends inc₀ (2 * (here + i) + 0)) y k) next₀ inc₀ inc
 
 abbrev μ-loop : tie.MeasureT-loop
 μ-loop ends inc₀ next₀ first n here m k₀ inc next k = m - k
 
+-- where the function began, seen from later states
+abbrev begun : tie.After-fill-element-arg2 Inv-loop μ-loop → tie.Start Inv-loop μ-loop
+begun c = c .before .before .before .before .before .before .before .before .before .before
+
 loop-holds : tie.Need-loop-holds Inv-loop μ-loop
-loop-holds c = (omega arith, raised-none _ _ _ _ (λ x h. gather-none _ x), strewn-none _ _ _ _ _ (λ x h. gather-none _ x))
+loop-holds c =
+    (omega arith, raised-none _ _ _ _ (λ x h. gather-none _ x), strewn-none _ _ _ _ _ (λ x h. gather-none _ x))
 
 add-e : tie.Need-add-e Inv-loop μ-loop
 add-e c = omega (arith, c .before .before .before .before .before .pre .1 .1 .0)
@@ -41,12 +50,14 @@ wide-requires : tie.Need-wide-requires Inv-loop μ-loop
 wide-requires c κs = search needs
 
 fill-element-requires : tie.Need-fill-element-requires Inv-loop μ-loop
-fill-element-requires c κs = let s = c .before .before .before .before .before .before .before .before .before .before in
+fill-element-requires c κs =
+    let s = begun c in
     let v = c .before .before .before .before .before .before .loop .inv in
     let e = 2 * (s .args .here + c .before .before .before .before .before .before .loop .k) in
     let g = s .pre .1 .0 in
     let h : e < length (s .args .ends .now) = omega (arith, s .pre .1 .1 .0) in
-    let b = rank-apart _ _ _ _ _ _ _ _ _ _ g (s .pre .1 .1 .0) (c .before .before .before .before .before .loop-test .taken) (s .pre .1 .1 .1) (v .2) (v .1) in
+    let b = rank-apart _ _ _ _ _ _ _ _ _ _ g (s .pre .1 .1 .0)
+    (c .before .before .before .before .before .loop-test .taken) (s .pre .1 .1 .1) (v .2) (v .1) in
     let p = c .before .before .before .before .start-of .ensures in
     let q = c .before .before .wide .ensures in (
       omega (arith, v .1 .same-length, s .pre .0),
@@ -60,7 +71,8 @@ loop-less : tie.Need-loop-less Inv-loop μ-loop
 loop-less c = search needs
 
 loop-again : tie.Need-loop-again Inv-loop μ-loop
-loop-again c = let s = c .before .before .before .before .before .before .before .before .before .before .before .before .before .before .before in
+loop-again c =
+    let s = begun (c .before .before .before .before .before) in
     let v = c .before .before .before .before .before .before .before .before .before .before .before .loop .inv in
     let w = c .before .before .before .before .fill-element .ensures in
     let p = c .before .before .before .before .before .before .before .before .before .start-of .ensures in
@@ -80,7 +92,8 @@ same-length-2 : tie.Need-same-length-2 Inv-loop μ-loop
 same-length-2 c = c .before .loop .inv .1 .same-length
 
 returns : tie.Need-returns Inv-loop μ-loop
-returns c = let v = c .before .loop .inv in
+returns c =
+    let v = c .before .loop .inv in
     let e : c .before .loop .k ≡ c .before .before .before .before .before .args .m = omega arith in
     rw (← e) (v .1, v .2)
 

@@ -1,10 +1,13 @@
-use Rattle.placing.specs.Laid.{Laid}
-use Rattle.placing.proofs.Laying.{laid-none, laid-next}
-use borrow.Author.Needs.{needs}
-use native.Mathlib.Omega.{arith}
+-- `set_cursors`. Invariant: the cursors of the first e elements are set, and no other has changed. Measure: the
+-- elements left.
+-- Assumes nothing.
 use mathlib.Core.Path.{_≡_, refl}
 use Prim.Native.Nat.{_+_, _-_, _*_, _≤_}
+use native.Mathlib.Omega.{arith}
 use lib.ListN.{getD}
+use borrow.Author.Needs.{needs}
+use Rattle.placing.specs.Laid.{Laid}
+use Rattle.placing.proofs.Laying.{laid-none, laid-next}
 use Rattle.gathering.proofs.sups.set_cursors.Statement.{statement}
 use Rattle.gathering.proofs.sups.set_cursors.Tie as tie
 
@@ -30,7 +33,9 @@ mul-next-3 : tie.Need-mul-next-3 Inv-loop μ-loop
 mul-next-3 c = search needs
 
 slice-write-next : tie.Need-slice-write-next Inv-loop μ-loop
-slice-write-next c = let l = c .before .before .loop .inv .1 .same-length in omega (arith, c .before .before .before .pre)
+slice-write-next c =
+    let l = c .before .before .loop .inv .1 .same-length in
+    omega (arith, c .before .before .before .pre)
 
 add-e : tie.Need-add-e Inv-loop μ-loop
 add-e c = search needs
@@ -39,15 +44,22 @@ loop-less : tie.Need-loop-less Inv-loop μ-loop
 loop-less c = search needs
 
 loop-again : tie.Need-loop-again Inv-loop μ-loop
-loop-again c = let l = c .before .before .loop .inv .1 in
-    let z : 0 + c .before .before .loop .e ≡ c .before .before .loop .e = omega arith in
-    (omega arith, rw z at (laid-next 0 _ (c .before .before .loop .e) _ _ _ l (omega (arith, c .before .before .before .pre)) refl))
+loop-again c =
+    let l = c .before .before .loop .inv .1 in
+    let z : 0 + c .before .before .loop .e ≡ c .before .before .loop .e = omega arith in (
+      omega arith,
+      rw z at (laid-next 0 _ (c .before .before .loop .e) _ _ _ l
+          (omega (arith, c .before .before .before .pre)) refl),
+    )
 
 same-length : tie.Need-same-length Inv-loop μ-loop
 same-length c = c .before .loop .inv .1 .same-length
 
 returns : tie.Need-returns Inv-loop μ-loop
-returns c = let l = c .before .loop .inv .1 in let e : c .before .loop .e ≡ c .before .before .args .n = omega arith in rw (← e) l
+returns c =
+    let l = c .before .loop .inv .1 in
+    let e : c .before .loop .e ≡ c .before .before .args .n = omega arith in
+    rw (← e) l
 
 pub set-cursors-spec : {M : Type 1} → statement M
 set-cursors-spec =

@@ -1,7 +1,9 @@
-use Rattle.gathering.proofs.Raising.{raised-one, raised-past}
-use native.Mathlib.Omega.{arith}
+-- `tally_entry`: the count of x is raised by one, or nothing is done.
+-- Assumes nothing.
 use Prim.Native.Nat.{_-_}
+use native.Mathlib.Omega.{arith}
 use borrow.Author.Needs.{needs}
+use Rattle.gathering.proofs.Raising.{raised-one, raised-past}
 use Rattle.gathering.proofs.sups.tally_entry.Statement.{statement}
 use Rattle.gathering.proofs.sups.tally_entry.Tie as tie
 

@@ -1,11 +1,18 @@
-use Rattle.placing.specs.Places.{offsetIn}
-use native.Mathlib.Omega.{arith}
+-- `block_of`: each part of the block is what its function answers.
+-- Assumes nothing.
 use mathlib.Core.Path.{ap, _∙_}
 use Prim.Native.Nat.{ℕ, _-_}
+use native.Mathlib.Omega.{arith}
 use lib.ListN.{getD}
 use borrow.Author.Needs.{needs}
+use Rattle.placing.specs.Places.{offsetIn}
 use Rattle.placing.proofs.block.block_of.Statement.{statement}
 use Rattle.placing.proofs.block.block_of.Tie as tie
+
+-- where the function began, seen from later states
+abbrev begun : tie.After-count-at → tie.Start
+begun c =
+    c .before .before .before .before .before .before .before .before .before .before .before .before .before
 
 bit-of-requires : tie.Need-bit-of-requires
 bit-of-requires c κs = search needs
@@ -55,20 +62,31 @@ wide-requires-2 c κs = search needs
 
 returns : tie.Need-returns
 unfolding offsetIn
-returns c = let s = c .before .before .before .before .before .before .before .before .before .before .before .before .before .before .before .before in
+returns c =
+    let s = begun (c .before .before .before) in
     let p = s .args .p .now in
     let q = s .args .q .now in
     record {
-      base = c .before .before .before .before .before .before .before .before .before .before .before .before .before .bit-of .ensures;
-      first = omega (arith, c .before .before .before .before .before .before .before .before .before .before .before .before .offset .ensures, s .pre .1);
+      base = c .before .before .before .before .before .before .before .before .before .before .before .before .before
+          .bit-of .ensures;
+      first = omega (
+        arith,
+        c .before .before .before .before .before .before .before .before .before .before .before .before
+            .offset .ensures,
+        s .pre .1,
+      );
       low = c .before .before .before .before .before .before .before .before .before .before .before .is-low .ensures;
       cap = c .before .before .before .before .before .before .before .before .before .before .cap-of .ensures;
       p-before = c .before .before .before .before .before .before .before .before .before .elements-before .ensures;
       q-before = c .before .before .before .before .before .before .before .before .elements-before2 .ensures;
-      left = c .before .before .before .before .before .before .offset2 .ensures ∙ ap (λ (h : ℕ). offsetIn p q h (s .args .j)) (c .before .before .before .before .before .before .before .less .ensures);
-      right = c .before .before .before .before .offset3 .ensures ∙ ap (offsetIn p q (s .args .i)) (c .before .before .before .before .before .less2 .ensures);
+      left = c .before .before .before .before .before .before .offset2 .ensures
+          ∙ ap (λ (h : ℕ). offsetIn p q h (s .args .j))
+          (c .before .before .before .before .before .before .before .less .ensures);
+      right = c .before .before .before .before .offset3 .ensures
+          ∙ ap (offsetIn p q (s .args .i)) (c .before .before .before .before .before .less2 .ensures);
       width = c .before .before .wide .ensures .0 ∙ c .before .before .before .count-at .ensures;
-      step = c .wide2 .ensures .0 ∙ c .before .count-at2 .ensures ∙ ap (λ (k : ℕ). getD q k 0) (c .before .before .before .before .before .less2 .ensures);
+      step = c .wide2 .ensures .0 ∙ c .before .count-at2 .ensures
+          ∙ ap (λ (k : ℕ). getD q k 0) (c .before .before .before .before .before .less2 .ensures);
     }
 
 pub block-of-spec : {M : Type 1} → statement M

@@ -1,9 +1,12 @@
-use Rattle.listing.proofs.Listing.{before-zero, before-next}
-use Rattle.listing.specs.Listing.{before}
-use borrow.Author.Needs.{needs}
-use native.Mathlib.Omega.{arith}
+-- `elements_before`. Invariant: n is the number of elements of the ranks below k, and k is at most the rank. Measure:
+-- the ranks left.
+-- Assumes nothing.
 use mathlib.Core.Path.{_≡_, sym, ap, _∙_}
 use Prim.Native.Nat.{_-_, _*_, _≤_}
+use native.Mathlib.Omega.{arith}
+use borrow.Author.Needs.{needs}
+use Rattle.listing.specs.Listing.{before}
+use Rattle.listing.proofs.Listing.{before-zero, before-next}
 use Rattle.placing.proofs.block.elements_before.Statement.{statement}
 use Rattle.placing.proofs.block.elements_before.Tie as tie
 
@@ -32,10 +35,17 @@ loop-less : tie.Need-loop-less Inv-loop μ-loop
 loop-less c = search needs
 
 loop-again : tie.Need-loop-again Inv-loop μ-loop
-loop-again c = omega (arith, before-next (c .before .before .before .before .before .args .counts .now) (c .before .before .before .loop .k))
+loop-again c =
+    omega (
+      arith,
+      before-next (c .before .before .before .before .before .args .counts .now)
+          (c .before .before .before .loop .k),
+    )
 
 returns : tie.Need-returns Inv-loop μ-loop
-returns c = let e : c .before .loop .k ≡ c .before .before .before .args .rank = omega arith in c .before .loop .inv .2 ∙ ap (before (c .before .before .before .args .counts .now)) e
+returns c =
+    let e : c .before .loop .k ≡ c .before .before .before .args .rank = omega arith in
+    c .before .loop .inv .2 ∙ ap (before (c .before .before .before .args .counts .now)) e
 
 pub elements-before-spec : {M : Type 1} → statement M
 elements-before-spec =

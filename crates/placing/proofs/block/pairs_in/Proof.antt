@@ -1,10 +1,13 @@
-use Rattle.placing.specs.Places.{pairsIn}
-use Rattle.placing.proofs.Numbers.{sum-none, sum-next, product-le}
-use borrow.Author.Needs.{needs}
-use native.Mathlib.Omega.{arith}
+-- `pairs_in`. Invariant: n is the number of pairs whose first member is of a rank below k, and k is at most i.
+-- Measure: the ranks left.
+-- Assumes nothing.
 use mathlib.Core.Path.{_≡_, sym, ap, _∙_}
 use Prim.Native.Nat.{_-_, _*_, _≤_}
+use native.Mathlib.Omega.{arith}
 use lib.ListN.{getD}
+use borrow.Author.Needs.{needs}
+use Rattle.placing.specs.Places.{pairsIn}
+use Rattle.placing.proofs.Numbers.{sum-none, sum-next, product-le}
 use Rattle.placing.proofs.block.pairs_in.Statement.{statement}
 use Rattle.placing.proofs.block.pairs_in.Tie as tie
 
@@ -49,15 +52,22 @@ loop-less : tie.Need-loop-less Inv-loop μ-loop
 loop-less c = search needs
 
 loop-again : tie.Need-loop-again Inv-loop μ-loop
-loop-again c = let s = c .before .before .before .before .before .before .before .before .args in
+loop-again c =
+    let s = c .before .before .before .before .before .before .before .before .args in
     let k = c .before .before .before .before .before .loop .k in
-    let x : c .before .before .wide .result ≡ getD (s .p .now) k 0 = c .before .before .wide .ensures .0 ∙ c .before .before .before .count-at .ensures in
-    let y : c .wide2 .result ≡ getD (s .q .now) (s .rank - k) 0 = c .wide2 .ensures .0 ∙ c .before .count-at2 .ensures in
-    let m : c .before .before .wide .result * c .wide2 .result ≡ getD (s .p .now) k 0 * getD (s .q .now) (s .rank - k) 0 = rw (x, y) in
+    let a = getD (s .p .now) k 0 in
+    let b = getD (s .q .now) (s .rank - k) 0 in
+    let x : c .before .before .wide .result ≡ a =
+    c .before .before .wide .ensures .0 ∙ c .before .before .before .count-at .ensures in
+    let y : c .wide2 .result ≡ b = c .wide2 .ensures .0 ∙ c .before .count-at2 .ensures in
+    let m : c .before .before .wide .result * c .wide2 .result ≡ a * b = rw (x, y) in
     omega (arith, small c, sum-next (λ r. getD (s .p .now) r 0 * getD (s .q .now) (s .rank - r) 0) k)
 
 returns : tie.Need-returns Inv-loop μ-loop
-returns c = let e : c .before .loop .k ≡ c .before .before .before .before .args .i = omega arith in c .before .loop .inv .2 ∙ ap (pairsIn (c .before .before .before .before .args .p .now) (c .before .before .before .before .args .q .now) (c .before .before .before .before .args .rank)) e
+returns c =
+    let s = c .before .before .before .before .args in
+    let e : c .before .loop .k ≡ s .i = omega arith in
+    c .before .loop .inv .2 ∙ ap (pairsIn (s .p .now) (s .q .now) (s .rank)) e
 
 pub pairs-in-spec : {M : Type 1} → statement M
 pairs-in-spec =

@@ -1,9 +1,11 @@
-use Rattle.placing.proofs.Laying.{laid-none, laid-one}
-use native.Mathlib.Omega.{arith}
+-- `put_if`: one number is written, or none.
+-- Assumes nothing.
 use mathlib.Core.Path.{refl}
 use Prim.Native.Nat.{_-_, _<_}
+use native.Mathlib.Omega.{arith}
 use lib.ListN.{length}
 use borrow.Author.Needs.{needs}
+use Rattle.placing.proofs.Laying.{laid-none, laid-one}
 use Rattle.placing.proofs.put.put_if.Statement.{statement}
 use Rattle.placing.proofs.put.put_if.Tie as tie
 

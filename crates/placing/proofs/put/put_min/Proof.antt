@@ -1,7 +1,9 @@
-use lib.ListN.{length-set, length}
-use native.Mathlib.Omega.{arith}
+-- `put_min`: the two ends are written, or nothing.
+-- Assumes nothing.
 use mathlib.Core.Path.{refl}
 use Prim.Native.Nat.{_-_, _<_}
+use native.Mathlib.Omega.{arith}
+use lib.ListN.{length-set, length}
 use borrow.Author.Needs.{needs}
 use Rattle.placing.proofs.put.put_min.Statement.{statement}
 use Rattle.placing.proofs.put.put_min.Tie as tie

@@ -1,10 +1,13 @@
-use Rattle.placing.specs.Laid.{Laid}
-use Rattle.placing.proofs.Laying.{laid-none, laid-next}
-use borrow.Author.Needs.{needs}
-use native.Mathlib.Omega.{arith}
+-- `put_scaled`. Invariant: the first j numbers of the list are written, each scaled and moved, and nothing else.
+-- Measure: the numbers left.
+-- Assumes nothing.
 use mathlib.Core.Path.{_≡_}
 use Prim.Native.Nat.{_+_, _-_, _*_, _≤_, _<_}
+use native.Mathlib.Omega.{arith}
 use lib.ListN.{length, getD}
+use borrow.Author.Needs.{needs}
+use Rattle.placing.specs.Laid.{Laid}
+use Rattle.placing.proofs.Laying.{laid-none, laid-next}
 use Rattle.placing.proofs.put.put_scaled.Statement.{statement}
 use Rattle.placing.proofs.put.put_scaled.Tie as tie
 
@@ -16,8 +19,11 @@ abbrev μ-loop : tie.MeasureT-loop
 
 -- the number written is small
 small : (c : tie.After-wide Inv-loop μ-loop)
-    → c .before .before .before .before .before .before .args .off + c .wide .result * c .before .before .before .before .before .before .args .scale < 65536
-small c = rw (c .wide .ensures .0) (c .before .before .before .before .before .before .pre .1 (c .before .before .before .loop .j) (c .before .before .loop-test .taken))
+    → c .before .before .before .before .before .before .args .off
+    + c .wide .result * c .before .before .before .before .before .before .args .scale < 65536
+small c =
+    rw (c .wide .ensures .0) (c .before .before .before .before .before .before .pre .1
+    (c .before .before .before .loop .j) (c .before .before .loop-test .taken))
 
 loop-holds : tie.Need-loop-holds Inv-loop μ-loop
 loop-holds c = (omega arith, laid-none _ _ _)
@@ -47,7 +53,9 @@ mul-d-2 : tie.Need-mul-d-2 Inv-loop μ-loop
 mul-d-2 c = search needs
 
 slice-write-d : tie.Need-slice-write-d Inv-loop μ-loop
-slice-write-d c = let s = c .before .before .before .loop .inv .1 .same-length in omega arith
+slice-write-d c =
+    let s = c .before .before .before .loop .inv .1 .same-length in
+    omega arith
 
 add-j : tie.Need-add-j Inv-loop μ-loop
 add-j c = search needs
@@ -56,7 +64,9 @@ loop-less : tie.Need-loop-less Inv-loop μ-loop
 loop-less c = search needs
 
 loop-again : tie.Need-loop-again Inv-loop μ-loop
-loop-again c = let l = c .before .before .before .loop .inv .1 in (omega arith, laid-next _ _ _ _ _ _ l (omega arith) (rw (c .wide .ensures .0)))
+loop-again c =
+    let l = c .before .before .before .loop .inv .1 in
+    (omega arith, laid-next _ _ _ _ _ _ l (omega arith) (rw (c .wide .ensures .0)))
 
 add-result : tie.Need-add-result Inv-loop μ-loop
 add-result c = search needs
@@ -65,7 +75,10 @@ same-length : tie.Need-same-length Inv-loop μ-loop
 same-length c = c .before .loop .inv .1 .same-length
 
 returns : tie.Need-returns Inv-loop μ-loop
-returns c = let l = c .before .loop .inv .1 in let e : c .before .loop .j ≡ length (c .before .before .before .before .args .list .now) = omega arith in (omega arith, rw (← e) l)
+returns c =
+    let l = c .before .loop .inv .1 in
+    let e : c .before .loop .j ≡ length (c .before .before .before .before .args .list .now) = omega arith in
+    (omega arith, rw (← e) l)
 
 pub put-scaled-spec : {M : Type 1} → statement M
 put-scaled-spec =

@@ -1,9 +1,11 @@
-use Rattle.placing.specs.Laid.{Laid}
-use Rattle.placing.proofs.Laying.{laid-none, laid-next}
-use borrow.Author.Needs.{needs}
-use native.Mathlib.Omega.{arith}
+-- `put_up_to`. Invariant: the numbers below j are written, and nothing else. Measure: the numbers left.
+-- Assumes nothing.
 use mathlib.Core.Path.{_≡_, refl}
 use Prim.Native.Nat.{_-_, _≤_}
+use native.Mathlib.Omega.{arith}
+use borrow.Author.Needs.{needs}
+use Rattle.placing.specs.Laid.{Laid}
+use Rattle.placing.proofs.Laying.{laid-none, laid-next}
 use Rattle.placing.proofs.put.put_up_to.Statement.{statement}
 use Rattle.placing.proofs.put.put_up_to.Tie as tie
 
@@ -35,7 +37,9 @@ loop-less : tie.Need-loop-less Inv-loop μ-loop
 loop-less c = search needs
 
 loop-again : tie.Need-loop-again Inv-loop μ-loop
-loop-again c = let l = c .before .loop .inv .1 in (omega arith, laid-next _ _ _ _ _ _ l (omega arith) refl)
+loop-again c =
+    let l = c .before .loop .inv .1 in
+    (omega arith, laid-next _ _ _ _ _ _ l (omega arith) refl)
 
 add-result : tie.Need-add-result Inv-loop μ-loop
 add-result c = search needs
@@ -44,7 +48,10 @@ same-length : tie.Need-same-length Inv-loop μ-loop
 same-length c = c .before .loop .inv .1 .same-length
 
 returns : tie.Need-returns Inv-loop μ-loop
-returns c = let l = c .before .loop .inv .1 in let e : c .before .loop .j ≡ c .before .before .args .n = omega arith in (omega arith, rw (← e) l)
+returns c =
+    let l = c .before .loop .inv .1 in
+    let e : c .before .loop .j ≡ c .before .before .args .n = omega arith in
+    (omega arith, rw (← e) l)
 
 pub put-up-to-spec : {M : Type 1} → statement M
 put-up-to-spec =

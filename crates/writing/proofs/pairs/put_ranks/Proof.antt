@@ -1,25 +1,38 @@
-use Rattle.placing.specs.Factors.{Factor, part}
-use Rattle.placing.specs.Places.{pairsTo, firstAt}
-use Rattle.writing.specs.Pairs.{listed}
-use Rattle.writing.specs.Filling.{Put}
-use Rattle.placing.proofs.Numbers.{pairs-none, pairs-next}
-use Rattle.writing.proofs.Fits.{plan-room, first-few}
-use Rattle.writing.proofs.Rows.{put-none, put-then}
-use Rattle.pairing.specs.Trimmed.{bit}
-use borrow.Author.Needs.{needs}
-use native.Mathlib.Omega.{arith}
+-- `put_ranks`. Invariant: the pairs of the ranks below `rank` are written, and `start` is the number of the next.
+-- Measure: the ranks left.
+-- Assumes nothing.
 use mathlib.Core.Path.{_≡_, refl}
 use Prim.Native.Nat.{_+_, _-_, _≤_}
+use native.Mathlib.Omega.{arith}
 use lib.ListN.{length}
+use borrow.Author.Needs.{needs}
+use Rattle.pairing.specs.Trimmed.{bit}
+use Rattle.placing.specs.Factors.{Factor, part}
+use Rattle.placing.specs.Places.{pairsTo, firstAt}
+use Rattle.placing.proofs.Numbers.{pairs-none, pairs-next}
+use Rattle.writing.specs.Pairs.{listed}
+use Rattle.writing.specs.Filling.{Put}
+use Rattle.writing.proofs.Fits.{plan-room, first-few}
+use Rattle.writing.proofs.Rows.{put-none, put-then}
 use Rattle.writing.proofs.pairs.put_ranks.Statement.{statement}
 use Rattle.writing.proofs.pairs.put_ranks.Tie as tie
 
 abbrev Inv-loop : tie.InvT-loop
-Inv-loop min max p pends pinc q qends qinc upp upq ends₀ inc₀ at ranks start₀ to₀ rank₀ ends inc start to rank = (rank ≤ ranks) × (start ≡ bit min + pairsTo p q rank)
-    × Put (listed min max p pends pinc q qends qinc) (firstAt min p q 0 0) (firstAt min p q rank 0) to ends₀ inc₀ ends inc
+Inv-loop min max p pends pinc q qends qinc upp upq ends₀ inc₀ at ranks start₀ to₀ rank₀ ends inc start to rank
+    = (rank ≤ ranks) × (start ≡ bit min + pairsTo p q rank)
+    × Put (listed min max p pends pinc q qends qinc) (firstAt min p q 0 0) (firstAt min p q rank 0) to ends₀ inc₀ ends
+    inc
 
 abbrev μ-loop : tie.MeasureT-loop
-μ-loop min max p pends pinc q qends qinc upp upq ends₀ inc₀ at ranks start₀ to₀ rank₀ ends inc start to rank = ranks - rank
+μ-loop min max p pends pinc q qends qinc upp upq ends₀ inc₀ at ranks start₀ to₀ rank₀ ends inc start to rank = ranks
+    - rank
+
+-- where the function began, seen from later states
+abbrev begun : tie.After-slice-known2 Inv-loop μ-loop → tie.Start Inv-loop μ-loop
+begun c = c .before .before .before .before .before .before .before .before .before .before
+
+abbrev begun₂ : tie.After-slice-known4 Inv-loop μ-loop → tie.Start Inv-loop μ-loop
+begun₂ c = begun (c .before .before .before .before .before .before .before .before .before .before)
 
 abbrev P : tie.Start Inv-loop μ-loop → Factor
 P s = part (s .args .min) (s .args .p .now) (s .args .pends .now) (s .args .pinc .now)
@@ -28,20 +41,26 @@ abbrev Q : tie.Start Inv-loop μ-loop → Factor
 Q s = part (s .args .min) (s .args .q .now) (s .args .qends .now) (s .args .qinc .now)
 
 add-ranks : tie.Need-add-ranks Inv-loop μ-loop
-add-ranks c = omega (arith, c .before .before .before .before .before .before .before .before .before .before .pre .0 .ranks-P, c .before .before .before .before .before .before .before .before .before .before .pre .0 .ranks-Q)
+add-ranks c = omega (arith, begun c .pre .0 .ranks-P, begun c .pre .0 .ranks-Q)
 
 sub-ranks : tie.Need-sub-ranks Inv-loop μ-loop
-sub-ranks c = omega (arith, c .before .before .before .before .before .before .before .before .before .before .pre .0 .ranks-P, c .before .before .before .before .before .before .before .before .before .before .pre .0 .ranks-Q)
+sub-ranks c = omega (arith, begun c .pre .0 .ranks-P, begun c .pre .0 .ranks-Q)
 
 bit-of-requires : tie.Need-bit-of-requires Inv-loop μ-loop
 bit-of-requires c κs = search needs
 
 loop-holds : tie.Need-loop-holds Inv-loop μ-loop
-loop-holds c = let s = c .before .before .before .before .before .before .before .before .before .before .before in
-    (omega arith, omega (arith, c .bit-of .ensures, pairs-none (s .args .p .now) (s .args .q .now)), put-none _ _ _ _ _ _ (s .pre .1) refl)
+loop-holds c =
+    let s = begun (c .before) in (
+      omega arith,
+      omega (arith, c .bit-of .ensures, pairs-none (s .args .p .now) (s .args .q .now)),
+      put-none _ _ _ _ _
+          _ (s .pre .1) refl,
+    )
 
 put-rank-requires : tie.Need-put-rank-requires Inv-loop μ-loop
-put-rank-requires c κs = let s = c .before .before .before .before .before .before .before .before .before .before .before .before .before .before .before in
+put-rank-requires c κs =
+    let s = begun (c .before .before .before .before .before) in
     let v = c .before .before .before .loop .inv in (
       plan-room (s .pre .0) _ _ (v .2 .ends-length) (v .2 .inc-length),
       (omega arith, (v .1, v .2 .place)),
@@ -51,26 +70,39 @@ add-pairs-in : tie.Need-add-pairs-in Inv-loop μ-loop
 add-pairs-in c = search needs
 
 pairs-in-requires : tie.Need-pairs-in-requires Inv-loop μ-loop
-pairs-in-requires c κs = omega (arith, c .before .before .before .before .before .before .before .before .before .before .before .before .before .before .before .before .before .before .before .before .pre .0 .ranks-P, c .before .before .before .before .before .before .before .before .before .before .before .before .before .before .before .before .before .before .before .before .pre .0 .ranks-Q)
+pairs-in-requires c κs = omega (arith, begun₂ c .pre .0 .ranks-P, begun₂ c .pre .0 .ranks-Q)
 
-add-start : tie.Need-add-start Inv-loop μ-loop
-add-start c = let s = c .before .before .before .before .before .before .before .before .before .before .before .before .before .before .before .before .before .before .before .before .before in
+add-begun : tie.Need-add-start Inv-loop μ-loop
+add-begun c =
+    let s = begun₂ (c .before) in
     let k = c .before .before .before .before .before .before .before .before .before .loop .rank in
     let p = s .pre .0 .ranks-P in
     let q = s .pre .0 .ranks-Q in
-    omega (arith, first-few _ _ (P s) (Q s) _ _ _ _ (s .pre .0) k (k + 1) (omega arith) (omega arith), c .pairs-in .ensures, c .before .before .before .before .before .before .before .before .before .loop .inv .1)
+    omega (
+      arith,
+      first-few _ _ (P s) (Q s) _ _ _ _ (s .pre .0) k (k + 1) (omega arith) (omega arith),
+      c .pairs-in .ensures,
+      c .before .before .before .before .before .before .before .before .before .loop .inv .1,
+    )
 
 add-rank : tie.Need-add-rank Inv-loop μ-loop
-add-rank c = omega (arith, c .before .before .before .before .before .before .before .before .before .before .before .before .before .before .before .before .before .before .before .before .before .pre .0 .ranks-P, c .before .before .before .before .before .before .before .before .before .before .before .before .before .before .before .before .before .before .before .before .before .pre .0 .ranks-Q)
+add-rank c = omega (arith, begun₂ (c .before) .pre .0 .ranks-P, begun₂ (c .before) .pre .0 .ranks-Q)
 
 loop-less : tie.Need-loop-less Inv-loop μ-loop
 loop-less c = search needs
 
 loop-again : tie.Need-loop-again Inv-loop μ-loop
-loop-again c = let s = c .before .before .before .before .before .before .before .before .before .before .before .before .before .before .before .before .before .before .before .before .before .args in
+loop-again c =
+    let s = begun₂ (c .before) .args in
     let v = c .before .before .before .before .before .before .before .before .before .loop .inv in (
       omega arith,
-      omega (arith, v .1, c .pairs-in .ensures, pairs-next (s .p .now) (s .q .now) (c .before .before .before .before .before .before .before .before .before .loop .rank)),
+      omega (
+        arith,
+        v .1,
+        c .pairs-in .ensures,
+        pairs-next (s .p .now) (s .q .now)
+            (c .before .before .before .before .before .before .before .before .before .loop .rank),
+      ),
       put-then _ _ _ _ _ _ _ _ _ _ _ _ (v .2) (c .before .before .before .before .before .put-rank .ensures),
     )
 
@@ -81,7 +113,8 @@ same-length-2 : tie.Need-same-length-2 Inv-loop μ-loop
 same-length-2 c = c .before .loop .inv .2 .inc-length
 
 returns : tie.Need-returns Inv-loop μ-loop
-returns c = let s = c .before .before .before .before .before .before .before .before .before .before .before .before .before .args in
+returns c =
+    let s = begun (c .before .before .before) .args in
     let v = c .before .loop .inv in
     let e : c .before .loop .rank ≡ length (s .p .now) + length (s .q .now) - 1 = omega arith in
     rw (← e) (v .2)
