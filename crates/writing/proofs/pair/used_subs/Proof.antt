@@ -11,8 +11,8 @@ use Rattle.writing.proofs.pair.used_subs.Tie as tie
 sub-result : tie.Need-sub-result
 sub-result c = search needs
 
-part-result-begun : tie.Need-part-result-start
-part-result-begun c = search needs
+part-result-start : tie.Need-part-result-start
+part-result-start c = search needs
 
 part-result-end : tie.Need-part-result-end
 part-result-end c = search needs

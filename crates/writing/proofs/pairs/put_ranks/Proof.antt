@@ -72,8 +72,8 @@ add-pairs-in c = search needs
 pairs-in-requires : tie.Need-pairs-in-requires Inv-loop μ-loop
 pairs-in-requires c κs = omega (arith, begun₂ c .pre .0 .ranks-P, begun₂ c .pre .0 .ranks-Q)
 
-add-begun : tie.Need-add-start Inv-loop μ-loop
-add-begun c =
+add-start : tie.Need-add-start Inv-loop μ-loop
+add-start c =
     let s = begun₂ (c .before) in
     let k = c .before .before .before .before .before .before .before .before .before .loop .rank in
     let p = s .pre .0 .ranks-P in
