@@ -14,6 +14,16 @@ use Rattle.building.proofs.Built.{zeros, ups, ups-right, counts-room, f
 use Rattle.building.proofs.build.build.Statement.{statement}
 use Rattle.building.proofs.build.build.Tie as tie
 
+-- where the function began, seen from later states
+abbrev begun : tie.After-upp → tie.Start
+begun c = c .before .before .before .before .before .before .before .before .before .before .before
+
+abbrev begun₂ : tie.After-upq3 → tie.Start
+begun₂ c = begun (c .before .before .before .before .before .before .before .before .before .before .before)
+
+abbrev begun₃ : tie.After-fill-arg3 → tie.Start
+begun₃ c = begun₂ (c .before .before .before .before .before .before .before .before .before .before)
+
 abbrev P : tie.Start → Factor
 P s = part (s .args .min) (s .args .p .now) (s .args .pends .now) (s .args .pinc .now)
 
@@ -28,7 +38,8 @@ sound s = s .pre .0 (ups (P s)) (ups (Q s)) (ups-right (P s)) (ups-right (Q s))
 
 -- the counts fit
 fits : (s : tie.Start)
-    → length (countsOf (s .args .min) (s .args .max) (s .args .p .now) (s .args .q .now)) ≤ length (s .args .counts .now)
+    → length (countsOf (s .args .min) (s .args .max) (s .args .p .now) (s .args .q .now))
+    ≤ length (s .args .counts .now)
 fits s =
     let a = s .args in
     counts-room (a .min) (a .max) (P s) (Q s) (ups (P s)) (ups (Q s)) (a .counts .now) (a .ends .now) (a .inc .now)
@@ -41,7 +52,8 @@ slice-aggregate-tally : tie.Need-slice-aggregate-tally
 slice-aggregate-tally c = search needs
 
 tally-requires : tie.Need-tally-requires
-tally-requires c κs = let s = c .before .before .before .before .before .before .before .before .before .before .before in
+tally-requires c κs =
+    let s = begun c in
     let e = c .before .bit-of .ensures in
     let g = sound s in (
       omega (arith, g .ranks-P, bit-le (s .args .min)),
@@ -52,7 +64,8 @@ slice-aggregate-tally-2 : tie.Need-slice-aggregate-tally-2
 slice-aggregate-tally-2 c = search needs
 
 tally-requires-2 : tie.Need-tally-requires-2
-tally-requires-2 c κs = let s = c .before .before .before .before .before .before .before .before .before .before .before .before .before .before in
+tally-requires-2 c κs =
+    let s = begun (c .before .before .before) in
     let e = c .before .before .before .before .bit-of .ensures in
     let g = sound s in (
       omega (arith, g .ranks-Q, bit-le (s .args .min)),
@@ -60,7 +73,8 @@ tally-requires-2 c κs = let s = c .before .before .before .before .before .befo
     )
 
 put-counts-requires : tie.Need-put-counts-requires
-put-counts-requires c κs = let s = c .before .before .before .before .before .before .before .before .before .before .before .before .before .before .before .before .before in
+put-counts-requires c κs =
+    let s = begun (c .before .before .before .before .before .before) in
     let g = sound s in
     let p = g .ranks-P in
     let q = g .ranks-Q in
@@ -73,31 +87,47 @@ slice-aggregate-put-elements-2 : tie.Need-slice-aggregate-put-elements-2
 slice-aggregate-put-elements-2 c = search needs
 
 put-elements-requires : tie.Need-put-elements-requires
-put-elements-requires c κs = let s = c .before .before .before .before .before .before .before .before .before .before .before .before .before .before .before .before .before .before .before .before .before .before .before .before in
-    let e = c .before .before .before .before .before .before .before .before .before .before .before .before .before .before .bit-of .ensures in
-    s .pre .0 _ _ (rw e at (c .before .before .before .before .before .before .before .before .before .before .before .before .tally .ensures)) (rw e at (c .before .before .before .before .before .before .before .before .before .tally2 .ensures))
+put-elements-requires c κs =
+    let s = begun₂ (c .before .before) in
+    let d = c .before .before .before .before .before .before .before .before .before in
+    let e = d .before .before .before .before .before .bit-of .ensures in
+    s .pre .0 _ _ (rw e at (d .before .before .before .tally .ensures)) (rw e at (d .tally2 .ensures))
 
 slice-reshare-prefix-fill : tie.Need-slice-reshare-prefix-fill
-slice-reshare-prefix-fill c = let w = c .before .before .before .before .before .before .before .before .before .before .before .put-counts .ensures in omega (arith, w .0, w .1 .same-length, fits (c .before .before .before .before .before .before .before .before .before .before .before .before .before .before .before .before .before .before .before .before .before .before .before .before .before .before .before .before .before))
+slice-reshare-prefix-fill c =
+    let d = c .before .before .before .before in
+    let w = d .before .before .before .before .before .before .before .put-counts .ensures in
+    omega (arith, w .0, w .1 .same-length, fits (begun₂ (d .before .before .before)))
 
 slice-aggregate-fill : tie.Need-slice-aggregate-fill
-slice-aggregate-fill c = let w = c .before .before .before .before .before .before .before .before .before .before .before .before .put-counts .ensures in
-    sym (length-take-le _ _ (omega (arith, w .0, w .1 .same-length, fits (c .before .before .before .before .before .before .before .before .before .before .before .before .before .before .before .before .before .before .before .before .before .before .before .before .before .before .before .before .before .before))))
+slice-aggregate-fill c =
+    let d = c .before .before .before .before .before in
+    let w = d .before .before .before .before .before .before .before .put-counts .ensures in
+    sym (length-take-le _ _ (omega (arith, w .0, w .1 .same-length, fits (begun₂ (d .before .before .before)))))
 
 mul-fill : tie.Need-mul-fill
-mul-fill c = omega (arith, c .before .before .before .before .before .put-elements .ensures .0, sound (c .before .before .before .before .before .before .before .before .before .before .before .before .before .before .before .before .before .before .before .before .before .before .before .before .before .before .before .before .before .before) .elements)
+mul-fill c =
+    let d = c .before .before .before .before .before in
+    omega (arith, d .put-elements .ensures .0, sound (begun₂ (d .before .before .before)) .elements)
 
 slice-reshare-prefix-fill-2 : tie.Need-slice-reshare-prefix-fill-2
-slice-reshare-prefix-fill-2 c = let w = c .before .before .before .before .before .put-elements .ensures in omega (arith, w .0, w .1 .ends-length, sound (c .before .before .before .before .before .before .before .before .before .before .before .before .before .before .before .before .before .before .before .before .before .before .before .before .before .before .before .before .before .before) .room-for-ends)
+slice-reshare-prefix-fill-2 c =
+    let d = c .before .before .before .before .before in
+    let w = d .put-elements .ensures in
+    omega (arith, w .0, w .1 .ends-length, sound (begun₂ (d .before .before .before)) .room-for-ends)
 
 slice-aggregate-fill-2 : tie.Need-slice-aggregate-fill-2
-slice-aggregate-fill-2 c = let w = c .before .before .before .before .before .before .put-elements .ensures in
-    sym (length-take-le _ _ (omega (arith, w .0, w .1 .ends-length, sound (c .before .before .before .before .before .before .before .before .before .before .before .before .before .before .before .before .before .before .before .before .before .before .before .before .before .before .before .before .before .before .before) .room-for-ends)))
+slice-aggregate-fill-2 c =
+    let d = c .before .before .before .before .before .before in
+    let w = d .put-elements .ensures in
+    sym (length-take-le _ _ (omega (arith, w .0, w .1 .ends-length, sound (begun₂ (d .before .before .before)) .room-for-ends)))
 
 fill-requires : tie.Need-fill-requires
-fill-requires c κs = let s = c .before .before .before .before .before .before .before .before .before .before .before .before .before .before .before .before .before .before .before .before .before .before .before .before .before .before .before .before .before .before .before .before in
-    let w = c .before .before .before .before .before .before .before .before .before .before .before .before .before .before .put-counts .ensures in
-    let v = c .before .before .before .before .before .before .before .put-elements .ensures in
+fill-requires c κs =
+    let s = begun₃ c in
+    let d = c .before .before .before .before .before .before .before in
+    let w = d .before .before .before .before .before .before .before .put-counts .ensures in
+    let v = d .put-elements .ensures in
     fill-asked _ _ (P s) (Q s) _ _ _ _ _ (sound s) (s .pre .1 .0) (s .pre .1 .1) _ _ _ _ _ (w .0) (w .1) (v .0) (v .1)
 
 same-length : tie.Need-same-length
@@ -110,9 +140,11 @@ same-length-3 : tie.Need-same-length-3
 same-length-3 c = search needs
 
 returns : tie.Need-returns
-returns c = let s = c .before .before .before .before .before .before .before .before .before .before .before .before .before .before .before .before .before .before .before .before .before .before .before .before .before .before .before .before .before .before .before .before .before .before .before in
-    let w = c .before .before .before .before .before .before .before .before .before .before .before .before .before .before .before .before .before .put-counts .ensures in
-    let v = c .before .before .before .before .before .before .before .before .before .before .put-elements .ensures in
+returns c =
+    let s = begun₃ (c .before .before .before) in
+    let d = c .before .before .before .before .before .before .before .before .before .before in
+    let w = d .before .before .before .before .before .before .before .put-counts .ensures in
+    let v = d .put-elements .ensures in
     built-all _ _ (P s) (Q s) _ _ _ _ _ (sound s) (s .pre .1 .0) (s .pre .1 .1) _ _ _ _ _ (w .0) (w .1) (v .0) (v .1) _
     (c .before .before .fill .ensures)
 

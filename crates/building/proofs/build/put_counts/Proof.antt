@@ -12,6 +12,10 @@ use Rattle.building.proofs.CountsLaid.{counts-length, counts-laid}
 use Rattle.building.proofs.build.put_counts.Statement.{statement}
 use Rattle.building.proofs.build.put_counts.Tie as tie
 
+-- where the function began, seen from later states
+abbrev begun : tie.After-put-sizes-arg → tie.Start
+begun c = c .before .before .before .before .before .before .before .before
+
 size : (s : tie.Start)
     → let a = s .args in
     length (countsOf (a .min) (a .max) (a .p .now) (a .q .now))
@@ -19,7 +23,7 @@ size : (s : tie.Start)
 size s = counts-length _ _ _ _
 
 all : (c : tie.After-slice-known4)
-    → let a = c .before .before .before .before .before .before .before .before .before .before .before .before .before .before .before .args in
+    → let a = begun (c .before .before .before .before .before .before .before) .args in
     Holds 0 (countsOf (a .min) (a .max) (a .p .now) (a .q .now)) (a .counts .now) (c .before .before .put-if2 .last .0)
 all c =
     let x = c .before .before .before .before .before .before .before .before .before .before .put-if .ensures in
@@ -27,23 +31,27 @@ all c =
     counts-laid _ _ _ _ _ _ _ _ _ _ (x .0) (y .0) (x .1) (y .1) (c .before .before .put-if2 .ensures .1)
 
 put-if-requires : tie.Need-put-if-requires
-put-if-requires c κs = let n = size (c .before .before .before .before) in omega (arith, c .before .before .before .before .pre)
+put-if-requires c κs =
+    let n = size (c .before .before .before .before) in
+    omega (arith, c .before .before .before .before .pre)
 
 add-put-sizes : tie.Need-add-put-sizes
-add-put-sizes c = omega (arith, c .before .before .before .before .before .before .before .before .pre .0)
+add-put-sizes c = omega (arith, begun c .pre .0)
 
 sub-put-sizes : tie.Need-sub-put-sizes
-sub-put-sizes c = omega (arith, c .before .before .before .before .before .before .before .before .pre .0)
+sub-put-sizes c = omega (arith, begun c .pre .0)
 
 put-sizes-requires : tie.Need-put-sizes-requires
 unfolding sizeOf
-put-sizes-requires c κs = let s = c .before .before .before .before .before .before .before .before in
+put-sizes-requires c κs =
+    let s = begun c in
     let n = size s in
     let a = c .before .before .before .put-if .ensures in
     omega (arith, s .pre .0, s .pre .1 .0, s .pre .1 .1, a .0, a .1 .same-length)
 
 put-if-requires-2 : tie.Need-put-if-requires-2
-put-if-requires-2 c κs = let s = c .before .before .before .before .before .before .before .before .before .before .before .before in
+put-if-requires-2 c κs =
+    let s = begun (c .before .before .before .before) in
     let n = size s in
     let a = c .before .before .before .before .before .before .before .put-if .ensures in
     let b = c .before .before .before .put-sizes .ensures in
@@ -53,7 +61,8 @@ same-length : tie.Need-same-length
 same-length c = all c .same-length
 
 returns : tie.Need-returns
-returns c = let s = c .before .before .before .before .before .before .before .before .before .before .before .before .before .before .before in
+returns c =
+    let s = begun (c .before .before .before .before .before .before .before) in
     let n = size s in
     let a = c .before .before .before .before .before .before .before .before .before .before .put-if .ensures .0 in
     let b = c .before .before .before .before .before .before .put-sizes .ensures .0 in

@@ -27,7 +27,8 @@ pairs-in-requires : tie.Need-pairs-in-requires Inv-loop μ-loop
 pairs-in-requires c κs = search needs
 
 cast-counts : tie.Need-cast-counts Inv-loop μ-loop
-cast-counts c = let a = c .before .before .before .before .before .before .args in
+cast-counts c =
+    let a = c .before .before .before .before .before .before .args in
     let k = c .before .before .loop .k in
     omega (
       arith,
@@ -44,7 +45,9 @@ mul-counts : tie.Need-mul-counts Inv-loop μ-loop
 mul-counts c = search needs
 
 slice-write-counts : tie.Need-slice-write-counts Inv-loop μ-loop
-slice-write-counts c = let l = c .before .before .loop .inv .1 .same-length in omega (arith, c .before .before .before .before .before .before .pre)
+slice-write-counts c =
+    let l = c .before .before .loop .inv .1 .same-length in
+    omega (arith, c .before .before .before .before .before .before .pre)
 
 add-k : tie.Need-add-k Inv-loop μ-loop
 add-k c = search needs
@@ -53,7 +56,8 @@ loop-less : tie.Need-loop-less Inv-loop μ-loop
 loop-less c = search needs
 
 loop-again : tie.Need-loop-again Inv-loop μ-loop
-loop-again c = let a = c .before .before .before .before .before .before .args in
+loop-again c =
+    let a = c .before .before .before .before .before .before .args in
     let l = c .before .before .loop .inv .1 in
     let e : c .before .before .loop .k + 1 ≡ suc (c .before .before .loop .k) = omega arith in (
       omega arith,
@@ -68,7 +72,10 @@ same-length : tie.Need-same-length Inv-loop μ-loop
 same-length c = c .before .loop .inv .1 .same-length
 
 returns : tie.Need-returns Inv-loop μ-loop
-returns c = let l = c .before .loop .inv .1 in let e : c .before .loop .k ≡ c .before .before .before .before .before .args .n = omega arith in (omega arith, rw (← e) l)
+returns c =
+    let l = c .before .loop .inv .1 in
+    let e : c .before .loop .k ≡ c .before .before .before .before .before .args .n = omega arith in
+    (omega arith, rw (← e) l)
 
 pub put-sizes-spec : {M : Type 1} → statement M
 put-sizes-spec =
