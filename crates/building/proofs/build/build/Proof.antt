@@ -120,7 +120,8 @@ slice-aggregate-fill-2 : tie.Need-slice-aggregate-fill-2
 slice-aggregate-fill-2 c =
     let d = c .before .before .before .before .before .before in
     let w = d .put-elements .ensures in
-    sym (length-take-le _ _ (omega (arith, w .0, w .1 .ends-length, sound (begun₂ (d .before .before .before)) .room-for-ends)))
+    let r = sound (begun₂ (d .before .before .before)) .room-for-ends in
+    sym (length-take-le _ _ (omega (arith, w .0, w .1 .ends-length, r)))
 
 fill-requires : tie.Need-fill-requires
 fill-requires c κs =

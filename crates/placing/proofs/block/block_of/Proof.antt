@@ -66,27 +66,22 @@ returns c =
     let s = begun (c .before .before .before) in
     let p = s .args .p .now in
     let q = s .args .q .now in
+    let d = c .before .before .before .before .before .before .before .before in
+    let h = c .before .before .before .before .before .before .before .less .ensures in
+    let l = c .before .before .before .before .before .before .offset2 .ensures in
+    let k = c .before .before .before .before .before .less2 .ensures in
+    let step = c .wide2 .ensures .0 ∙ c .before .count-at2 .ensures in
     record {
-      base = c .before .before .before .before .before .before .before .before .before .before .before .before .before
-          .bit-of .ensures;
-      first = omega (
-        arith,
-        c .before .before .before .before .before .before .before .before .before .before .before .before
-            .offset .ensures,
-        s .pre .1,
-      );
-      low = c .before .before .before .before .before .before .before .before .before .before .before .is-low .ensures;
-      cap = c .before .before .before .before .before .before .before .before .before .before .cap-of .ensures;
-      p-before = c .before .before .before .before .before .before .before .before .before .elements-before .ensures;
-      q-before = c .before .before .before .before .before .before .before .before .elements-before2 .ensures;
-      left = c .before .before .before .before .before .before .offset2 .ensures
-          ∙ ap (λ (h : ℕ). offsetIn p q h (s .args .j))
-          (c .before .before .before .before .before .before .before .less .ensures);
-      right = c .before .before .before .before .offset3 .ensures
-          ∙ ap (offsetIn p q (s .args .i)) (c .before .before .before .before .before .less2 .ensures);
+      base = d .before .before .before .before .before .bit-of .ensures;
+      first = omega (arith, d .before .before .before .before .offset .ensures, s .pre .1);
+      low = d .before .before .before .is-low .ensures;
+      cap = d .before .before .cap-of .ensures;
+      p-before = d .before .elements-before .ensures;
+      q-before = d .elements-before2 .ensures;
+      left = l ∙ ap (λ (x : ℕ). offsetIn p q x (s .args .j)) h;
+      right = c .before .before .before .before .offset3 .ensures ∙ ap (offsetIn p q (s .args .i)) k;
       width = c .before .before .wide .ensures .0 ∙ c .before .before .before .count-at .ensures;
-      step = c .wide2 .ensures .0 ∙ c .before .count-at2 .ensures
-          ∙ ap (λ (k : ℕ). getD q k 0) (c .before .before .before .before .before .less2 .ensures);
+      step = step ∙ ap (λ (x : ℕ). getD q x 0) k;
     }
 
 pub block-of-spec : {M : Type 1} → statement M

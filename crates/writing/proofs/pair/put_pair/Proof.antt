@@ -31,15 +31,13 @@ abbrev lists : tie.Start → ℕ → List ℕ
 lists s = listsOf (s .args .min) (s .args .max) (P s) (Q s)
 
 abbrev e : tie.Start → ℕ
-e s =
-    number (s .args .min) (s .args .p .now) (s .args .q .now) (s .args .i) (s .args .a) (s .args .j) (s .args .b)
+e s = number (s .args .min) (s .args .p .now) (s .args .q .now) (s .args .i) (s .args .a) (s .args .j) (s .args .b)
 
 -- what the plan says of the pair
 fits : (s : tie.Start)
     → let a = s .args in
     PairFits (a .min) (a .max) (P s) (Q s) (a .upp .now) (a .upq .now) (length (a .ends .now)) (length (a .inc .now))
-    (a .i)
-    (a .a) (a .j) (a .b) (a .block)
+    (a .i) (a .a) (a .j) (a .b) (a .block)
 fits s =
     pair-fits _ _ (P s) (Q s) _ _ _ _ (s .pre .0) _ _ _ _ _ (s .pre .1 .0) refl (s .pre .1 .1 .0 .0)
     (s .pre .1 .1 .0 .1)
@@ -47,21 +45,19 @@ fits s =
 -- what writing it leaves
 put : (c : tie.After-slice-known4)
     → let s = begun₂ (c .before .before) in
-    Put (lists s) (e s) (number (s .args .min) (s .args .p .now) (s .args .q .now) (s .args .i) (s .args .a)
-    (s .args .j) (s .args .b + 1))
+    Put (lists s) (e s)
+    (number (s .args .min) (s .args .p .now) (s .args .q .now) (s .args .i) (s .args .a) (s .args .j) (s .args .b + 1))
     (c .before .before .before .before .put-element .result) (s .args .ends .now) (s .args .inc .now)
     (c .before .before .before .before .put-element .last .0)
     (c .before .before .before .before .put-element .last .1 .0)
 put c =
     let s = begun₂ (c .before .before) in
+    let d = c .before .before .before .before .before .before .before .before .before .before in
     let w = c .before .before .before .before .put-element .ensures in
     pair-put _ _ (P s) (Q s) _ _ _ _ (s .pre .0) _ _ _ _ _ (s .pre .1 .0) refl (s .pre .1 .1 .0 .0)
     (s .pre .1 .1 .0 .1) _ _ (s .pre .1 .1 .1 .0)
-    (c .before .before .before .before .before .before .before .before .before .before .before .before .used-subs
-    .ensures) _ _ _ (s .pre .1 .1 .1 .1)
-    (c .before .before .before .before .before .before .before .before .before .before .before .sups-over .ensures)
-    (c .before .before .before .before .before .before .before .before .before .before .get-element-index .ensures) _ _
-    _ _ _ refl (w .0) (w .1 .0) (w .1 .1)
+    (d .before .before .used-subs .ensures) _ _ _ (s .pre .1 .1 .1 .1) (d .before .sups-over .ensures)
+    (d .get-element-index .ensures) _ _ _ _ _ refl (w .0) (w .1 .0) (w .1 .1)
 
 add-used-subs : tie.Need-add-used-subs
 add-used-subs c =

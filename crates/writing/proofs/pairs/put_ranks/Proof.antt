@@ -18,14 +18,14 @@ use Rattle.writing.proofs.pairs.put_ranks.Statement.{statement}
 use Rattle.writing.proofs.pairs.put_ranks.Tie as tie
 
 abbrev Inv-loop : tie.InvT-loop
-Inv-loop min max p pends pinc q qends qinc upp upq ends₀ inc₀ at ranks start₀ to₀ rank₀ ends inc start to rank
-    = (rank ≤ ranks) × (start ≡ bit min + pairsTo p q rank)
-    × Put (listed min max p pends pinc q qends qinc) (firstAt min p q 0 0) (firstAt min p q rank 0) to ends₀ inc₀ ends
-    inc
+Inv-loop min max p pends pinc q qends qinc upp upq ends₀ inc₀ at ranks start₀ to₀ rank₀ ends inc start to rank =
+    (rank ≤ ranks) × (start ≡ bit min + pairsTo p q rank)
+    × Put (listed min max p pends pinc q qends qinc) (firstAt min p q 0 0) (firstAt min p q rank 0) to ends₀ inc₀
+    ends inc
 
 abbrev μ-loop : tie.MeasureT-loop
-μ-loop min max p pends pinc q qends qinc upp upq ends₀ inc₀ at ranks start₀ to₀ rank₀ ends inc start to rank = ranks
-    - rank
+μ-loop min max p pends pinc q qends qinc upp upq ends₀ inc₀ at ranks start₀ to₀ rank₀ ends inc start to rank =
+    ranks - rank
 
 -- where the function began, seen from later states
 abbrev begun : tie.After-slice-known2 Inv-loop μ-loop → tie.Start Inv-loop μ-loop
@@ -54,8 +54,7 @@ loop-holds c =
     let s = begun (c .before) in (
       omega arith,
       omega (arith, c .bit-of .ensures, pairs-none (s .args .p .now) (s .args .q .now)),
-      put-none _ _ _ _ _
-          _ (s .pre .1) refl,
+      put-none _ _ _ _ _ _ (s .pre .1) refl,
     )
 
 put-rank-requires : tie.Need-put-rank-requires Inv-loop μ-loop
@@ -75,14 +74,15 @@ pairs-in-requires c κs = omega (arith, begun₂ c .pre .0 .ranks-P, begun₂ c 
 add-start : tie.Need-add-start Inv-loop μ-loop
 add-start c =
     let s = begun₂ (c .before) in
-    let k = c .before .before .before .before .before .before .before .before .before .loop .rank in
+    let l = c .before .before .before .before .before .before .before .before .before .loop in
+    let k = l .rank in
     let p = s .pre .0 .ranks-P in
     let q = s .pre .0 .ranks-Q in
     omega (
       arith,
       first-few _ _ (P s) (Q s) _ _ _ _ (s .pre .0) k (k + 1) (omega arith) (omega arith),
       c .pairs-in .ensures,
-      c .before .before .before .before .before .before .before .before .before .loop .inv .1,
+      l .inv .1,
     )
 
 add-rank : tie.Need-add-rank Inv-loop μ-loop
@@ -94,15 +94,10 @@ loop-less c = search needs
 loop-again : tie.Need-loop-again Inv-loop μ-loop
 loop-again c =
     let s = begun₂ (c .before) .args in
-    let v = c .before .before .before .before .before .before .before .before .before .loop .inv in (
+    let l = c .before .before .before .before .before .before .before .before .before .loop in
+    let v = l .inv in (
       omega arith,
-      omega (
-        arith,
-        v .1,
-        c .pairs-in .ensures,
-        pairs-next (s .p .now) (s .q .now)
-            (c .before .before .before .before .before .before .before .before .before .loop .rank),
-      ),
+      omega (arith, v .1, c .pairs-in .ensures, pairs-next (s .p .now) (s .q .now) (l .rank)),
       put-then _ _ _ _ _ _ _ _ _ _ _ _ (v .2) (c .before .before .before .before .before .put-rank .ensures),
     )
 
