@@ -1,7 +1,7 @@
 -- `build`: the up-counts are right, so the plan holds; what put_counts, put_elements and fill leave is the product.
 -- Assumes nothing.
 use mathlib.Core.Path.{sym}
-use Prim.Native.Nat.{_-_, _≤_}
+use Prim.Native.Nat.{_≤_}
 use native.Mathlib.Omega.{arith}
 use lib.Seq.{length-take-le}
 use lib.ListN.{length}

@@ -1,6 +1,5 @@
 -- `fill`: the cursors stand where the sups begin, and fill_ranks asks no more.
 -- Assumes nothing.
-use Prim.Native.Nat.{_-_}
 use native.Mathlib.Omega.{arith}
 use borrow.Author.Needs.{needs}
 use Rattle.placing.proofs.Laying.{laid-at}

@@ -1,6 +1,5 @@
 -- `fill_entry`: k is written at the cursor of x, which is raised by one; or nothing is done.
 -- Assumes nothing.
-use Prim.Native.Nat.{_-_}
 use native.Mathlib.Omega.{arith}
 use borrow.Author.Needs.{needs}
 use Rattle.gathering.proofs.Strewing.{strewn-one, strewn-past}

@@ -1,6 +1,5 @@
 -- `tally_entry`: the count of x is raised by one, or nothing is done.
 -- Assumes nothing.
-use Prim.Native.Nat.{_-_}
 use native.Mathlib.Omega.{arith}
 use borrow.Author.Needs.{needs}
 use Rattle.gathering.proofs.Raising.{raised-one, raised-past}

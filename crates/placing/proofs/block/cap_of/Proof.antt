@@ -1,6 +1,5 @@
 -- `cap_of`: the two tests are those of the answer, one after the other.
 -- Assumes nothing.
-use Prim.Native.Nat.{_-_}
 use borrow.Author.Tests.{eq-eqb, ne-eqb}
 use borrow.Author.Needs.{needs}
 use Rattle.placing.proofs.block.cap_of.Statement.{statement}

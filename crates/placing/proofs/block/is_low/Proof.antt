@@ -1,6 +1,5 @@
 -- `is_low`: the two tests are those of the answer, one after the other.
 -- Assumes nothing.
-use Prim.Native.Nat.{_-_}
 use borrow.Author.Needs.{needs}
 use Rattle.placing.proofs.block.is_low.Statement.{statement}
 use Rattle.placing.proofs.block.is_low.Tie as tie

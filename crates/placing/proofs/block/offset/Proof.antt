@@ -1,6 +1,5 @@
 -- `offset`: the answer of pairs_in is the offset.
 -- Assumes nothing.
-use Prim.Native.Nat.{_-_}
 use borrow.Author.Needs.{needs}
 use Rattle.placing.specs.Places.{offsetIn}
 use Rattle.placing.proofs.block.offset.Statement.{statement}

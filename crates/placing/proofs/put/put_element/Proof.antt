@@ -2,11 +2,12 @@
 -- Assumes nothing.
 use mathlib.Core.List.{List}
 use mathlib.Core.Path.{_≡_}
-use Prim.Native.Nat.{ℕ, _+_, _-_}
+use Prim.Native.Nat.{ℕ, _+_}
 use native.Mathlib.Omega.{arith}
 use lib.ListN.{length}
 use borrow.Author.Needs.{needs}
 use Rattle.pairing.specs.Trimmed.{bit}
+use Rattle.placing.specs.Laid.{Holds}
 use Rattle.placing.specs.Places.{subsOf}
 use Rattle.placing.proofs.Parts.{subs-length, left-small, right-small, subs-laid}
 use Rattle.placing.proofs.put.put_element.Statement.{statement}
@@ -22,20 +23,29 @@ subs s =
     let a = s .args in
     subsOf (a .low) (a .left .now) (a .loff) (a .scale) (a .right .now) (a .roff)
 
-size : (s : tie.Start) → length (subs s) ≡ bit (s .args .low) + length (s .args .left .now)
-    + length (s .args .right .now)
+size : (s : tie.Start)
+    → length (subs s) ≡ bit (s .args .low) + length (s .args .left .now) + length (s .args .right .now)
 size s = subs-length _ _ _ _ _ _
 
 -- the place after it
 written : (c : tie.After-slice-known5)
-    → c .before .before .put-scaled2 .result
-    ≡ (begun (c .before .before .before .before .before .before .before)) .args .at
-    + length (subs (begun (c .before .before .before .before .before .before .before)))
+    → let s = begun (c .before .before .before .before .before .before .before) in
+    c .before .before .put-scaled2 .result ≡ s .args .at + length (subs s)
 written c =
     let a = c .before .before .before .before .before .before .before .before .before .before .put-if .ensures .0 in
     let b = c .before .before .before .before .before .before .put-scaled .ensures .0 in
     let d = c .before .before .put-scaled2 .ensures .0 in
     omega (arith, size (begun (c .before .before .before .before .before .before .before)))
+
+-- and what it leaves: the subs, in their order
+laid : (c : tie.After-slice-known5)
+    → let s = begun (c .before .before .before .before .before .before .before) in
+    Holds (s .args .at) (subs s) (s .args .inc .now) (c .before .before .put-scaled2 .last .0)
+laid c =
+    let x = c .before .before .before .before .before .before .before .before .before .before .put-if .ensures in
+    let y = c .before .before .before .before .before .before .put-scaled .ensures in
+    let z = c .before .before .put-scaled2 .ensures in
+    subs-laid _ _ _ _ _ _ _ _ _ _ _ _ _ (x .0) (y .0) (x .1) (y .1) (z .1)
 
 put-if-requires : tie.Need-put-if-requires
 put-if-requires c κs =
@@ -92,18 +102,8 @@ same-length-2 c = search needs
 
 returns : tie.Need-returns
 returns c =
-    let w = written c in (
-      omega arith,
-      (
-        subs-laid _ _ _ _ _ _ _ _ _ _ _ _ _
-            (c .before .before .before .before .before .before .before .before .before .before .put-if .ensures .0)
-            (c .before .before .before .before .before .before .put-scaled .ensures .0)
-            (c .before .before .before .before .before .before .before .before .before .before .put-if .ensures .1)
-            (c .before .before .before .before .before .before .put-scaled .ensures .1)
-            (c .before .before .put-scaled2 .ensures .1),
-        rw w,
-      ),
-    )
+    let w = written c in
+    (omega arith, (laid c, rw w))
 
 pub put-element-spec : {M : Type 1} → statement M
 put-element-spec =

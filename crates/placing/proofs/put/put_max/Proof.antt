@@ -1,7 +1,7 @@
 -- `put_max`: the numbers that put_up_to writes are the subs, and both ends stand after them; or nothing is written.
 -- Assumes nothing.
 use mathlib.Core.Path.{refl}
-use Prim.Native.Nat.{_+_, _-_, _*_, _≤_, _<_}
+use Prim.Native.Nat.{_+_, _*_, _≤_, _<_}
 use native.Mathlib.Omega.{arith}
 use lib.ListN.{length-set, length}
 use borrow.Author.Needs.{needs}
