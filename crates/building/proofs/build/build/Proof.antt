@@ -18,11 +18,14 @@ use Rattle.building.proofs.build.build.Tie as tie
 abbrev begun : tie.After-upp → tie.Start
 begun c = c .before .before .before .before .before .before .before .before .before .before .before
 
-abbrev begun₂ : tie.After-upq3 → tie.Start
-begun₂ c = begun (c .before .before .before .before .before .before .before .before .before .before .before)
+abbrev begun₂ : tie.After-put-counts-arg → tie.Start
+begun₂ c = begun (c .before .before .before .before .before .before)
 
-abbrev begun₃ : tie.After-fill-arg3 → tie.Start
-begun₃ c = begun₂ (c .before .before .before .before .before .before .before .before .before .before)
+abbrev begun₃ : tie.After-put-elements-arg2 → tie.Start
+begun₃ c = begun₂ (c .before .before .before .before .before .before .before)
+
+abbrev begun₄ : tie.After-fill-arg3 → tie.Start
+begun₄ c = begun₃ (c .before .before .before .before .before .before .before .before)
 
 abbrev P : tie.Start → Factor
 P s = part (s .args .min) (s .args .p .now) (s .args .pends .now) (s .args .pinc .now)
@@ -74,7 +77,7 @@ tally-requires-2 c κs =
 
 put-counts-requires : tie.Need-put-counts-requires
 put-counts-requires c κs =
-    let s = begun (c .before .before .before .before .before .before) in
+    let s = begun₂ c in
     let g = sound s in
     let p = g .ranks-P in
     let q = g .ranks-Q in
@@ -88,7 +91,7 @@ slice-aggregate-put-elements-2 c = search needs
 
 put-elements-requires : tie.Need-put-elements-requires
 put-elements-requires c κs =
-    let s = begun₂ (c .before .before) in
+    let s = begun₃ c in
     let d = c .before .before .before .before .before .before .before .before .before in
     let e = d .before .before .before .before .before .bit-of .ensures in
     s .pre .0 _ _ (rw e at (d .before .before .before .tally .ensures)) (rw e at (d .tally2 .ensures))
@@ -97,35 +100,35 @@ slice-reshare-prefix-fill : tie.Need-slice-reshare-prefix-fill
 slice-reshare-prefix-fill c =
     let d = c .before .before .before .before in
     let w = d .before .before .before .before .before .before .before .put-counts .ensures in
-    omega (arith, w .0, w .1 .same-length, fits (begun₂ (d .before .before .before)))
+    omega (arith, w .0, w .1 .same-length, fits (begun₃ (d .before)))
 
 slice-aggregate-fill : tie.Need-slice-aggregate-fill
 slice-aggregate-fill c =
     let d = c .before .before .before .before .before in
     let w = d .before .before .before .before .before .before .before .put-counts .ensures in
-    sym (length-take-le _ _ (omega (arith, w .0, w .1 .same-length, fits (begun₂ (d .before .before .before)))))
+    sym (length-take-le _ _ (omega (arith, w .0, w .1 .same-length, fits (begun₃ (d .before)))))
 
 mul-fill : tie.Need-mul-fill
 mul-fill c =
     let d = c .before .before .before .before .before in
-    omega (arith, d .put-elements .ensures .0, sound (begun₂ (d .before .before .before)) .elements)
+    omega (arith, d .put-elements .ensures .0, sound (begun₃ (d .before)) .elements)
 
 slice-reshare-prefix-fill-2 : tie.Need-slice-reshare-prefix-fill-2
 slice-reshare-prefix-fill-2 c =
     let d = c .before .before .before .before .before in
     let w = d .put-elements .ensures in
-    omega (arith, w .0, w .1 .ends-length, sound (begun₂ (d .before .before .before)) .room-for-ends)
+    omega (arith, w .0, w .1 .ends-length, sound (begun₃ (d .before)) .room-for-ends)
 
 slice-aggregate-fill-2 : tie.Need-slice-aggregate-fill-2
 slice-aggregate-fill-2 c =
     let d = c .before .before .before .before .before .before in
     let w = d .put-elements .ensures in
-    let r = sound (begun₂ (d .before .before .before)) .room-for-ends in
+    let r = sound (begun₃ (d .before)) .room-for-ends in
     sym (length-take-le _ _ (omega (arith, w .0, w .1 .ends-length, r)))
 
 fill-requires : tie.Need-fill-requires
 fill-requires c κs =
-    let s = begun₃ c in
+    let s = begun₄ c in
     let d = c .before .before .before .before .before .before .before in
     let w = d .before .before .before .before .before .before .before .put-counts .ensures in
     let v = d .put-elements .ensures in
@@ -142,7 +145,7 @@ same-length-3 c = search needs
 
 returns : tie.Need-returns
 returns c =
-    let s = begun₃ (c .before .before .before) in
+    let s = begun₄ (c .before .before .before) in
     let d = c .before .before .before .before .before .before .before .before .before .before in
     let w = d .before .before .before .before .before .before .before .put-counts .ensures in
     let v = d .put-elements .ensures in
