@@ -6,8 +6,8 @@ mod short;
 
 use run::Kind;
 
-// The products that the tables name.
-fn small() {
+// The square, twice.
+fn dyads() {
     run::show(
         Kind::Duoprism,
         b"dyad",
@@ -19,6 +19,21 @@ fn small() {
         &cells::dyad::ENDS,
         &cells::dyad::INC,
     );
+    run::show(
+        Kind::Duotegum,
+        b"dyad",
+        &cells::dyad::COUNTS,
+        &cells::dyad::ENDS,
+        &cells::dyad::INC,
+        b"dyad",
+        &cells::dyad::COUNTS,
+        &cells::dyad::ENDS,
+        &cells::dyad::INC,
+    );
+}
+
+// A triangle, and the nullitope.
+fn triangle_and_nullitope() {
     run::show(
         Kind::Duopyramid,
         b"dyad",
@@ -41,17 +56,10 @@ fn small() {
         &cells::triangle::ENDS,
         &cells::triangle::INC,
     );
-    run::show(
-        Kind::Duotegum,
-        b"dyad",
-        &cells::dyad::COUNTS,
-        &cells::dyad::ENDS,
-        &cells::dyad::INC,
-        b"dyad",
-        &cells::dyad::COUNTS,
-        &cells::dyad::ENDS,
-        &cells::dyad::INC,
-    );
+}
+
+// The smallest duocomb, and one that is refused.
+fn combs() {
     run::show(
         Kind::Duocomb,
         b"dyad",
@@ -73,22 +81,22 @@ fn small() {
         &cells::point::COUNTS,
         &cells::point::ENDS,
         &cells::point::INC,
-    );
-    run::show(
-        Kind::Duocomb,
-        b"triangle",
-        &cells::triangle::COUNTS,
-        &cells::triangle::ENDS,
-        &cells::triangle::INC,
-        b"triangle",
-        &cells::triangle::COUNTS,
-        &cells::triangle::ENDS,
-        &cells::triangle::INC,
     );
 }
 
-// A product of valid factors need not be valid; factors that are not valid are refused, the left one first.
+// A duocomb of two triangles, and a product of valid factors that is not valid.
 fn not_valid() {
+    run::show(
+        Kind::Duocomb,
+        b"triangle",
+        &cells::triangle::COUNTS,
+        &cells::triangle::ENDS,
+        &cells::triangle::INC,
+        b"triangle",
+        &cells::triangle::COUNTS,
+        &cells::triangle::ENDS,
+        &cells::triangle::INC,
+    );
     run::show(
         Kind::Duopyramid,
         b"three on top",
@@ -100,6 +108,10 @@ fn not_valid() {
         &cells::point::ENDS,
         &cells::point::INC,
     );
+}
+
+// A left factor that is not valid.
+fn left_refused() {
     run::show(
         Kind::Duoprism,
         b"struck triangle",
@@ -113,21 +125,25 @@ fn not_valid() {
     );
     run::show(
         Kind::Duoprism,
-        b"triangle",
-        &cells::triangle::COUNTS,
-        &cells::triangle::ENDS,
-        &cells::triangle::INC,
+        b"struck triangle",
+        &cells::struck::COUNTS,
+        &cells::struck::ENDS,
+        &cells::struck::INC,
         b"struck triangle",
         &cells::struck::COUNTS,
         &cells::struck::ENDS,
         &cells::struck::INC,
     );
+}
+
+// A right factor that is not valid.
+fn right_refused() {
     run::show(
         Kind::Duoprism,
-        b"struck triangle",
-        &cells::struck::COUNTS,
-        &cells::struck::ENDS,
-        &cells::struck::INC,
+        b"triangle",
+        &cells::triangle::COUNTS,
+        &cells::triangle::ENDS,
+        &cells::triangle::INC,
         b"struck triangle",
         &cells::struck::COUNTS,
         &cells::struck::ENDS,
@@ -203,8 +219,12 @@ fn incidences() {
 }
 
 fn main() {
-    small();
+    dyads();
+    triangle_and_nullitope();
+    combs();
     not_valid();
+    left_refused();
+    right_refused();
     ranks();
     elements();
     incidences();
