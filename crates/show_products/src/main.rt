@@ -1,191 +1,37 @@
 // Tries the four products on the cells of the crate `cells`: what is answered, and what is_valid and closed say of it.
+mod cell;
 mod polygons;
 mod print;
 mod run;
 mod short;
 
+use cell::Cell;
 use run::Kind;
 
-// The square, twice.
-fn dyads() {
-    run::show(
-        Kind::Duoprism,
-        b"dyad",
-        &cells::dyad::COUNTS,
-        &cells::dyad::ENDS,
-        &cells::dyad::INC,
-        b"dyad",
-        &cells::dyad::COUNTS,
-        &cells::dyad::ENDS,
-        &cells::dyad::INC,
-    );
-    run::show(
-        Kind::Duotegum,
-        b"dyad",
-        &cells::dyad::COUNTS,
-        &cells::dyad::ENDS,
-        &cells::dyad::INC,
-        b"dyad",
-        &cells::dyad::COUNTS,
-        &cells::dyad::ENDS,
-        &cells::dyad::INC,
-    );
+// The products that the table of worked examples has, and a duocomb of two triangles.
+fn small() {
+    cell::show(Kind::Duoprism, Cell::Dyad, Cell::Dyad);
+    cell::show(Kind::Duotegum, Cell::Dyad, Cell::Dyad);
+    cell::show(Kind::Duopyramid, Cell::Dyad, Cell::Point);
+    cell::show(Kind::Duoprism, Cell::Nullitope, Cell::Triangle);
+    cell::show(Kind::Duocomb, Cell::Dyad, Cell::Dyad);
+    cell::show(Kind::Duocomb, Cell::Point, Cell::Point);
+    cell::show(Kind::Duocomb, Cell::Triangle, Cell::Triangle);
 }
 
-// A triangle, and the nullitope.
-fn triangle_and_nullitope() {
-    run::show(
-        Kind::Duopyramid,
-        b"dyad",
-        &cells::dyad::COUNTS,
-        &cells::dyad::ENDS,
-        &cells::dyad::INC,
-        b"point",
-        &cells::point::COUNTS,
-        &cells::point::ENDS,
-        &cells::point::INC,
-    );
-    run::show(
-        Kind::Duoprism,
-        b"nullitope",
-        &cells::nullitope::COUNTS,
-        &cells::nullitope::ENDS,
-        &cells::nullitope::INC,
-        b"triangle",
-        &cells::triangle::COUNTS,
-        &cells::triangle::ENDS,
-        &cells::triangle::INC,
-    );
-}
-
-// The smallest duocomb, and one that is refused.
-fn combs() {
-    run::show(
-        Kind::Duocomb,
-        b"dyad",
-        &cells::dyad::COUNTS,
-        &cells::dyad::ENDS,
-        &cells::dyad::INC,
-        b"dyad",
-        &cells::dyad::COUNTS,
-        &cells::dyad::ENDS,
-        &cells::dyad::INC,
-    );
-    run::show(
-        Kind::Duocomb,
-        b"point",
-        &cells::point::COUNTS,
-        &cells::point::ENDS,
-        &cells::point::INC,
-        b"point",
-        &cells::point::COUNTS,
-        &cells::point::ENDS,
-        &cells::point::INC,
-    );
-}
-
-// A duocomb of two triangles, and a product of valid factors that is not valid.
+// A product of valid factors that is not valid, and factors that are not valid, the left one tested first.
 fn not_valid() {
-    run::show(
-        Kind::Duocomb,
-        b"triangle",
-        &cells::triangle::COUNTS,
-        &cells::triangle::ENDS,
-        &cells::triangle::INC,
-        b"triangle",
-        &cells::triangle::COUNTS,
-        &cells::triangle::ENDS,
-        &cells::triangle::INC,
-    );
-    run::show(
-        Kind::Duopyramid,
-        b"three on top",
-        &cells::three_on_top::COUNTS,
-        &cells::three_on_top::ENDS,
-        &cells::three_on_top::INC,
-        b"point",
-        &cells::point::COUNTS,
-        &cells::point::ENDS,
-        &cells::point::INC,
-    );
-}
-
-// A left factor that is not valid.
-fn left_refused() {
-    run::show(
-        Kind::Duoprism,
-        b"struck triangle",
-        &cells::struck::COUNTS,
-        &cells::struck::ENDS,
-        &cells::struck::INC,
-        b"triangle",
-        &cells::triangle::COUNTS,
-        &cells::triangle::ENDS,
-        &cells::triangle::INC,
-    );
-    run::show(
-        Kind::Duoprism,
-        b"struck triangle",
-        &cells::struck::COUNTS,
-        &cells::struck::ENDS,
-        &cells::struck::INC,
-        b"struck triangle",
-        &cells::struck::COUNTS,
-        &cells::struck::ENDS,
-        &cells::struck::INC,
-    );
-}
-
-// A right factor that is not valid.
-fn right_refused() {
-    run::show(
-        Kind::Duoprism,
-        b"triangle",
-        &cells::triangle::COUNTS,
-        &cells::triangle::ENDS,
-        &cells::triangle::INC,
-        b"struck triangle",
-        &cells::struck::COUNTS,
-        &cells::struck::ENDS,
-        &cells::struck::INC,
-    );
-    run::show(
-        Kind::Duoprism,
-        b"nullitope",
-        &cells::nullitope::COUNTS,
-        &cells::nullitope::ENDS,
-        &cells::nullitope::INC,
-        b"struck triangle",
-        &cells::struck::COUNTS,
-        &cells::struck::ENDS,
-        &cells::struck::INC,
-    );
+    cell::show(Kind::Duopyramid, Cell::ThreeOnTop, Cell::Point);
+    cell::show(Kind::Duoprism, Cell::Struck, Cell::Triangle);
+    cell::show(Kind::Duoprism, Cell::Struck, Cell::Struck);
+    cell::show(Kind::Duoprism, Cell::Triangle, Cell::Struck);
+    cell::show(Kind::Duoprism, Cell::Nullitope, Cell::Struck);
 }
 
 // Sixteen ranks, and one more.
 fn ranks() {
-    run::show(
-        Kind::Duopyramid,
-        b"digonal of rank 8",
-        &cells::digonal_8::COUNTS,
-        &cells::digonal_8::ENDS,
-        &cells::digonal_8::INC,
-        b"digonal of rank 7",
-        &cells::digonal_7::COUNTS,
-        &cells::digonal_7::ENDS,
-        &cells::digonal_7::INC,
-    );
-    run::show(
-        Kind::Duopyramid,
-        b"digonal of rank 8",
-        &cells::digonal_8::COUNTS,
-        &cells::digonal_8::ENDS,
-        &cells::digonal_8::INC,
-        b"digonal of rank 8",
-        &cells::digonal_8::COUNTS,
-        &cells::digonal_8::ENDS,
-        &cells::digonal_8::INC,
-    );
+    cell::show(Kind::Duopyramid, Cell::Digonal8, Cell::Digonal7);
+    cell::show(Kind::Duopyramid, Cell::Digonal8, Cell::Digonal8);
 }
 
 // As many elements as there may be, and more.
@@ -205,26 +51,19 @@ fn incidences() {
         valid::is_valid(&counts, &ends, &inc),
     );
     print::text(b"\n");
-    run::show(
+    cell::paired(
         Kind::Duopyramid,
         b"edge with 8000 entries",
         &counts,
         &ends,
         &inc,
-        b"dyad",
-        &cells::dyad::COUNTS,
-        &cells::dyad::ENDS,
-        &cells::dyad::INC,
+        Cell::Dyad,
     );
 }
 
 fn main() {
-    dyads();
-    triangle_and_nullitope();
-    combs();
+    small();
     not_valid();
-    left_refused();
-    right_refused();
     ranks();
     elements();
     incidences();
