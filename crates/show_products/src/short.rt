@@ -1,4 +1,4 @@
-// The triangle as the duopyramid of a dyad and a point, which takes 4, 16 and 24 numbers, into slices of several lengths.
+// The duopyramid of a dyad and a point, which takes 4, 16 and 24 numbers, into slices of several lengths.
 use crate::print;
 use crate::run;
 use crate::run::Kind;
