@@ -101,7 +101,8 @@ returns c = λ A B uA uB cA cB.
     let d = c .before .before .before .before .before .before in
     measured (a .min) (a .max) A B uA uB (a .p) (a .q) cA cB
     (flags c .before .bit-of .ensures) (flags c .bit-of2 .ensures)
-    (d .before .before .times .ensures .0) (d .before .times2 .ensures .0) (d .times3 .ensures .0) (lowest c) (highest c)
+    (d .before .before .times .ensures .0) (d .before .times2 .ensures .0) (d .times3 .ensures .0)
+    (lowest c) (highest c)
 
 pub product-sizes-spec : {M : Type 1} → statement M
 product-sizes-spec =

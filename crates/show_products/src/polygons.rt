@@ -1,0 +1,55 @@
+// Products of polygons.
+use crate::print;
+use crate::run;
+use crate::run::Kind;
+ghost use Prim.Native.Nat.{_≤_};
+
+// The product of two polygons of n and m edges, each at the front of its slices.
+fn of_fronts(
+    kind: Kind,
+    p: &[u8],
+    n: usize,
+    pcounts: &[u16; 4],
+    pends: &[u16; 260],
+    pinc: &[u16; 512],
+    q: &[u8],
+    m: usize,
+    qcounts: &[u16; 4],
+    qends: &[u16; 260],
+    qinc: &[u16; 512],
+)
+    requires { ⌜ (n ≤ 64) × (m ≤ 64) ⌝ }
+{
+    let pe = print::between(pends, 0, 4 * n + 4);
+    let pi = print::between(pinc, 0, 8 * n);
+    let qe = print::between(qends, 0, 4 * m + 4);
+    let qi = print::between(qinc, 0, 8 * m);
+    run::show(kind, p, pcounts, pe, pi, q, qcounts, qe, qi);
+}
+
+// The product of two polygons of n and m edges.
+pub fn show(kind: Kind, p: &[u8], n: usize, q: &[u8], m: usize)
+    requires { ⌜ (n ≤ 64) × (m ≤ 64) ⌝ }
+{
+    let mut pcounts = [0u16; 4];
+    let mut pends = [0u16; 260];
+    let mut pinc = [0u16; 512];
+    let mut qcounts = [0u16; 4];
+    let mut qends = [0u16; 260];
+    let mut qinc = [0u16; 512];
+    cells::polygon::put_polygon(n, &mut pcounts, &mut pends, &mut pinc);
+    cells::polygon::put_polygon(m, &mut qcounts, &mut qends, &mut qinc);
+    of_fronts(
+        kind,
+        p,
+        n,
+        &pcounts,
+        &pends,
+        &pinc,
+        q,
+        m,
+        &qcounts,
+        &qends,
+        &qinc,
+    );
+}
