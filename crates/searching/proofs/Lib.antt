@@ -10,3 +10,4 @@ pub mod Found
 pub mod Coloured
 pub mod Orientation
 pub mod Prefix
+pub mod Course
