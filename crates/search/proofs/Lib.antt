@@ -14,4 +14,6 @@ pub mod Numbers
 pub mod Outcomes
 pub mod Leads
 pub mod Flat
+pub mod InOrder
+pub mod Contents
 pub mod Exact
