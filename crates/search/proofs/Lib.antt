@@ -17,3 +17,4 @@ pub mod Flat
 pub mod InOrder
 pub mod Contents
 pub mod Exact
+pub mod OneAnswer
