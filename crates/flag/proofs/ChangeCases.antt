@@ -5,7 +5,7 @@ use mathlib.Core.Bool.{Bool, true, false}
 use mathlib.Core.List.{List}
 use mathlib.Core.Logic.{_≢_}
 use Prim.Native.Nat.{ℕ, _+_, _<_}
-use native.Mathlib.Decide.{decLt, ℕ-discrete}
+use native.Mathlib.Decide.{decLt}
 use native.Mathlib.Omega.{arith}
 use lib.ListN.{length, take, replicate}
 use lib.Seq.{take-at}
@@ -19,7 +19,7 @@ use Rattle.valid.proofs.ClosedExact.{closed-exact}
 use Rattle.flag.specs.declared.Changed.{Changed}
 use Rattle.flag.specs.declared.Event.{Event}
 use Rattle.flag.specs.Flags.{flagTest, startTest, IsFlag}
-use Rattle.flag.specs.Change.{changeTest, changeAt, changedOf, padded, Changes}
+use Rattle.flag.specs.Change.{changeTest, changeAt, changedOf, padded}
 use Rattle.flag.specs.Events.{eventAt, nextAt}
 use Rattle.flag.proofs.FlagExact.{flag-exact}
 use Rattle.flag.proofs.Changes.{changes}

@@ -2,7 +2,7 @@
 -- their bytes; and where it is not over, all such flags and their colours.
 -- Assumes nothing.
 use mathlib.Core.Path.{_≡_, refl, sym, ap, _∙_}
-use mathlib.Core.Bool.{true≢false, false, cond}
+use mathlib.Core.Bool.{false, cond}
 use mathlib.Core.Logic.{_↔_}
 use mathlib.Core.List.{List, [], _∷_, _++_, List·Memᴰ}
 use Prim.Native.Nat.{ℕ, zero, suc, _+_, _-_, _*_, _≤_, _<_}
@@ -20,13 +20,13 @@ use Rattle.flag.specs.Flags.{IsFlag}
 use Rattle.searching.specs.Search.{State, Neighbour, More, Kept, Colouring, tone}
 use Rattle.searching.proofs.Once.{in-at}
 use Rattle.searching.proofs.Lookup.{index-only}
-use Rattle.searching.proofs.Run.{search-full}
 use Rattle.searching.proofs.Grown.{start-even, start-first}
 use Rattle.searching.proofs.Kept.{search-kept}
 use Rattle.searching.proofs.Found.{found-exact, found-count}
 use Rattle.searching.proofs.Coloured.{coloured-bytes}
 use Rattle.searching.proofs.Orientation.{bytes-flip, place-exact}
-use Rattle.searching.proofs.Course.{came-alike, clash-alike, search-came, search-clash}
+use Rattle.searching.proofs.Alike.{came-alike, clash-alike}
+use Rattle.searching.proofs.Course.{search-came, search-clash}
 use Rattle.search.specs.Rows.{rowOf, rows}
 use Rattle.search.specs.Searched.{sameList, neighbours, flatten, foundBy}
 use Rattle.search.specs.Outcome.{foundAs}

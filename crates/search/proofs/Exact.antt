@@ -25,7 +25,7 @@ use Rattle.search.specs.declared.Searched.{Searched}
 use Rattle.search.specs.Masks.{maskFits}
 use Rattle.search.specs.Rows.{rows}
 use Rattle.search.specs.Searched.{sameList, neighbours, flatten, foundBy}
-use Rattle.search.specs.Outcome.{refusedAs, foundAs, roomOf, searchedBy, tableAfter, bytesAfter}
+use Rattle.search.specs.Outcome.{refusedAs, foundAs, roomOf, tableAfter, bytesAfter}
 use Rattle.search.specs.Exact.{Inside, Taken, Leads, Holds, Finds, room, said, number, After, Promised}
 use Rattle.search.proofs.Ranks.{fits-exact}
 use Rattle.search.proofs.Rows.{same-decides}

@@ -1,13 +1,13 @@
 -- The course of a search over flags: neighbours are the changes at the ranks of a mask, from the lowest upward.
 -- Assumes nothing.
-use mathlib.Core.Path.{_≡_, refl, sym, ap, _∙_}
-use mathlib.Core.Logic.{_≢_, _⊎_, inl, inr}
+use mathlib.Core.Path.{_≡_, refl, ap, _∙_}
+use mathlib.Core.Logic.{_≢_, inl, inr}
 use mathlib.Core.List.{List, [], _∷_, map}
 use Prim.Native.Nat.{ℕ, zero, suc, _-_, _≤_, _<_}
 use native.Mathlib.Decide.{ℕ-discrete, decLt}
 use native.Mathlib.Omega.{arith}
 use lib.ListN.{length, getD}
-use Rattle.order.specs.Lists.{In, Ascending}
+use Rattle.order.specs.Lists.{Ascending}
 use Rattle.listing.specs.Listing.{Listing}
 use Rattle.flag.specs.Change.{changeAt}
 use Rattle.searching.specs.Course.{Earlier, Stands, Agrees, Inside, nbr, Came, Clash}

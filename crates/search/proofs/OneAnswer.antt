@@ -16,7 +16,7 @@ use Rattle.searching.proofs.Once.{in-at}
 use Rattle.search.specs.declared.Searched.{Searched}
 use Rattle.search.specs.Rows.{rowOf, rows}
 use Rattle.search.specs.Searched.{flatten}
-use Rattle.search.specs.Exact.{Asked, FirstMet, Repeat, Holds, Finds}
+use Rattle.search.specs.Exact.{FirstMet, Repeat, Holds, Finds}
 use Rattle.search.proofs.Rows.{rows-length, rows-at, rows-flat}
 use Rattle.search.proofs.Outcomes.{Outcome}
 
@@ -106,7 +106,8 @@ module _ (L : Listing) (mask : ℕ) where
             absurd (not-earlier row′ row byte′ byte k (λ j i. sym (e j i .0)) (λ j i. o′ j k i h) d c l)
         go (inr (inr l)) =
             let i = e (c .from) (c .earlier) in (
-              c .is ∙ ap (changeAt L (c .at)) (i .0 ∙ ap row′ (l .0)) ∙ ap (λ r. changeAt L r (row′ (d .from))) (l .1) ∙ sym (d .is),
+              c .is ∙ ap (changeAt L (c .at)) (i .0 ∙ ap row′ (l .0)) ∙ ap (λ r. changeAt L r (row′ (d .from))) (l .1)
+                  ∙ sym (d .is),
               c .turned ∙ ap (λ x. 1 - x) (i .1 ∙ ap byte′ (l .0)) ∙ sym (d .turned),
             )
 

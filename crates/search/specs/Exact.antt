@@ -26,7 +26,7 @@ use Rattle.valid.specs.Closed.{Closed}
 use Rattle.valid.specs.Tests.{closed}
 use Rattle.flag.specs.Flags.{IsFlag}
 use Rattle.flag.specs.Change.{changeAt}
-use Rattle.searching.specs.Search.{State, Once, More, Colouring, tone}
+use Rattle.searching.specs.Search.{Once, More, Colouring, tone}
 use Rattle.searching.specs.Course.{Earlier, Stands, Agrees}
 use Rattle.search.specs.declared.Searched.{Searched}
 use Rattle.search.specs.Masks.{bit}

@@ -3,8 +3,8 @@
 -- stateOf    the state that a table, its bytes and the progress of the code stand for
 -- Held       the table and the bytes have the room, n rows of it are in use, and these are indexed
 -- Rest       what stands past the first n rows and bytes is as it was
--- Moved      the code has come from the progress s, with one table and bytes, to the progress r, with another: that stands
---            for the state S, is held, and the rest is as it was
+-- Moved      the code has come from the progress s, with one table and bytes, to the progress r, with another: that
+--            stands for the state S, is held, and the rest is as it was
 -- Ended      the same at the end, where the index is no longer there
 -- AllFlags   the first n rows of a table are flags
 -- Within     a mask asks for changes at ranks from 1 to rank - 1 only

@@ -1,7 +1,8 @@
 -- What the code of the look-up keeps: chains of the rows with one hash, each from row to row downward.
 --
--- Indexed   the first n rows of a table are indexed: none stands there twice, each head is the number after the last row
---           with its hash, and next leads from each row to the number after the last row before it with the same hash
+-- Indexed   the first n rows of a table are indexed: none stands there twice, each head is the number after the last
+--           row with its hash, and next leads from each row to the number after the last row before it with the same
+--           hash
 use mathlib.Core.Path.{_≡_}
 use mathlib.Core.List.{List}
 use Prim.Native.Nat.{ℕ, _*_, _≤_, _<_}

@@ -13,8 +13,8 @@ ghost use Rattle.search.specs.Hash.{hashOf};
 ghost use Rattle.search.specs.Searched.{sameList};
 ghost use Rattle.search.specs.Held.{stateOf, Held, Moved};
 
-// How far a search has come: how many flags it has found, how many there were when the cell showed itself not orientable
-// (0 while it has not), and whether one more turned up than there is room for.
+// How far a search has come: how many flags it has found, how many there were when the cell showed itself not
+// orientable (0 while it has not), and whether one more turned up than there is room for.
 pub struct Progress {
     pub count: u16,
     pub place: u16,
@@ -64,7 +64,8 @@ pub fn meet(
     requires { ⌜ s .over ≡ false ⌝ }
     ensures { λ r. ⌜ Moved w room (now (table .entry)) (now (bytes .entry)) s (now (table .exit)) (now (bytes .exit))
         (now (heads .exit)) (now (next .exit)) r
-        (meetIn sameList room byte (stateOf w (now (table .entry)) (now (bytes .entry)) s) (take w (now (flag .entry)))) ⌝ }
+        (meetIn sameList room byte (stateOf w (now (table .entry)) (now (bytes .entry)) s)
+        (take w (now (flag .entry)))) ⌝ }
 {
     let n = s.count;
     let k = index::find(&*table, heads, next, flag, w, h, n);

@@ -1,5 +1,6 @@
-// Where a flag stands among those found. The rows with one hash are a chain: heads leads from a hash to the last of them,
-// next from a row to the last one before it, each by a number one higher than the row's, and 0 where there is none.
+// Where a flag stands among those found. The rows with one hash are a chain: heads leads from a hash to the last of
+// them, next from a row to the last one before it, each by a number one higher than the row's, and 0 where there is
+// none.
 use crate::row;
 use listing::inner;
 use listing::limit;

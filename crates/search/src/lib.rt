@@ -24,8 +24,8 @@ pub struct Searched {
     pub orientable: u8,
 }
 
-// The flags that the changes of a mask lead to from the first flag, written into the table in the order found, one after
-// another, and their orientations into the bytes.
+// The flags that the changes of a mask lead to from the first flag, written into the table in the order found, one
+// after another, and their orientations into the bytes.
 pub fn search(
     counts: &[u16],
     ends: &[u16],

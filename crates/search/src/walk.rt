@@ -1,5 +1,5 @@
-// The search on a listing that is known to be closed: flags are kept in the table in the order found, and worked in that
-// order.
+// The search on a listing that is known to be closed: flags are kept in the table in the order found, and worked in
+// that order.
 use crate::found;
 use crate::found::Progress;
 use crate::index;
@@ -177,10 +177,10 @@ fn run(
     requires { ⌜ Within (listing (now counts) (now ends) (now inc)) mask ⌝ }
     requires { ⌜ Held (length (now counts)) room (now table) (now bytes) (now heads) (now next) (start .count) ⌝ }
     requires { ⌜ AllFlags (listing (now counts) (now ends) (now inc)) (now table) (start .count) ⌝ }
-    ensures { λ p. ⌜ ((a : List ℕ) → Moved (length (now (counts .entry))) room (now (table .entry)) (now (bytes .entry)) start
-        (now (table .exit)) (now (bytes .exit)) (now (heads .exit)) (now (next .exit)) p
-        (runIn sameList room (neighbours (listing (now (counts .entry)) (now (ends .entry)) (now (inc .entry))) mask) a 0
-        (stateOf (length (now (counts .entry))) (now (table .entry)) (now (bytes .entry)) start))) ⌝ }
+    ensures { λ p. ⌜ ((a : List ℕ) → Moved (length (now (counts .entry))) room (now (table .entry)) (now (bytes .entry))
+        start (now (table .exit)) (now (bytes .exit)) (now (heads .exit)) (now (next .exit)) p
+        (runIn sameList room (neighbours (listing (now (counts .entry)) (now (ends .entry)) (now (inc .entry))) mask) a
+        0 (stateOf (length (now (counts .entry))) (now (table .entry)) (now (bytes .entry)) start))) ⌝ }
 {
     let mut s = start;
     let mut k: u16 = 0;
@@ -222,10 +222,12 @@ pub fn search_from(
     requires { ⌜ Closed limits (listing (now counts) (now ends) (now inc)) ⌝ }
     requires { ⌜ IsFlag (listing (now counts) (now ends) (now inc)) (now first) ⌝ }
     requires { ⌜ Within (listing (now counts) (now ends) (now inc)) mask ⌝ }
-    requires { ⌜ (room * length (now counts) ≤ length (now table)) × (room ≤ length (now bytes)) × (room ≤ limits .flags) ⌝ }
+    requires { ⌜ (room * length (now counts) ≤ length (now table)) × (room ≤ length (now bytes))
+        × (room ≤ limits .flags) ⌝ }
     ensures { λ p. ⌜ Ended (length (now (counts .entry))) room (now (table .entry)) (now (bytes .entry))
         (now (table .exit)) (now (bytes .exit)) p
-        (foundBy (listing (now (counts .entry)) (now (ends .entry)) (now (inc .entry))) (now (first .entry)) mask room) ⌝ }
+        (foundBy (listing (now (counts .entry)) (now (ends .entry)) (now (inc .entry))) (now (first .entry)) mask
+        room) ⌝ }
 {
     let w = counts.len();
     let places = places_of(counts);

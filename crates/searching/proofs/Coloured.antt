@@ -3,7 +3,7 @@
 use mathlib.Core.Path.{_≡_, refl, sym, ap, _∙_}
 use mathlib.Core.Bool.{Bool, true, false, not}
 use mathlib.Core.List.{List, [], _∷_, List·Memᴰ, List·Memᴰ·head, List·Memᴰ·tail}
-use Prim.Native.Nat.{ℕ, _-_, _≤_, _<_}
+use Prim.Native.Nat.{ℕ, _-_, _<_}
 use native.Mathlib.Decide.{decLt}
 use native.Mathlib.Omega.{arith}
 use lib.ListN.{length, getD, List·getD-append}
@@ -111,5 +111,6 @@ module _ {A : Type 0} (same : A → A → Bool) (decides : Decides same) (room :
 
   -- And each thing found has the byte of its colour.
   pub coloured-bytes : (k : ℕ) → k < length (search same room nbrs a .found)
-      → getD (search same room nbrs a .bytes) k 0 ≡ tone (c .colour a) (c .colour (getD (search same room nbrs a .found) k a))
+      → getD (search same room nbrs a .bytes) k 0
+      ≡ tone (c .colour a) (c .colour (getD (search same room nbrs a .found) k a))
   coloured-bytes = search-toned .toned

@@ -5,8 +5,8 @@
 -- Agrees    y stands among the first n, with the byte b
 -- Inside    the jth has a neighbour i
 -- nbr       neighbour i of the jth
--- Came      the kth is neighbour `at` of one before it and has the byte that this one does not have, and all that was met
---           before stands before it
+-- Came      the kth is neighbour `at` of one before it and has the byte that this one does not have, and all that was
+--           met before stands before it
 -- Clash     neighbour `at` of one of the first n stands among these with another byte than it should have; all that was
 --           met before stands among these with the byte that it should have, and these were all met before
 use mathlib.Core.Path.{_≡_}

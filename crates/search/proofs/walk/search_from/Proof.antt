@@ -81,8 +81,8 @@ run-requires c κs =
       record {
         closed = s .pre .0;
         begins =
-            c .before .before .before .before .before .before .before .before .before .before .before .before .before .before
-            .before .before .before .before .before .before .before .places-of .ensures;
+            c .before .before .before .before .before .before .before .before .before .before .before .before .before
+            .before .before .before .before .before .before .before .before .places-of .ensures;
         weighs =
             c .before .before .before .before .before .before .before .before .before .before .before .before .before
             .before .before .before .before .before .before .before .weights .ensures;

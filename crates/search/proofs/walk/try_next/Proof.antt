@@ -129,8 +129,8 @@ returns c =
     .before .before .before .before .before .before .wide .ensures .0 in (
       put-back (s .args .flag .now) _ _,
       rw (hand-changed (L s) (R .closed) (s .args .flag .now) (s .args .sum) (s .pre .1 .0) (s .args .r) (q .0) (q .1)
-          (c .before .before .before .before .before .before .before .before .before .before .before .before .change-index
-          .result) (rw z at
+          (c .before .before .before .before .before .before .before .before .before .before .before .before
+          .change-index .result) (rw z at
           (c .before .before .before .before .before .before .before .before .before .before .before .before
           .change-index .ensures)))
           at (rw z at (c .before .before .before .before .meet .ensures)),

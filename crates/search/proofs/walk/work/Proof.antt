@@ -147,7 +147,8 @@ try-next-requires c κs =
               (c .before .before .before .before .before .before .lowest .result)
               (c .before .before .before .before .before .before .lowest .ensures .0),
           (
-            c .before .before .before .before .before .before .before .before .before .before .loop .inv .1 .moved .held,
+            c .before .before .before .before .before .before .before .before .before .before .loop .inv .1 .moved
+                .held,
             c .before .before .before .before .before .before .before .if2 .left,
           ),
         ),
@@ -177,8 +178,8 @@ loop-again c =
           ∙ c .before .before .before .before .before .before .before .before .before .before .before .before .before
           .before .before .loop .inv .0,
       working-next (L s) _ _ _
-          (c .before .before .before .before .before .before .before .before .before .before .before .before .before .before
-          .before .loop .inv .1)
+          (c .before .before .before .before .before .before .before .before .before .before .before .before .before
+          .before .before .loop .inv .1)
           (some-left
           (c .before .before .before .before .before .before .before .before .before .before .before .before
           .before .before)
@@ -194,8 +195,8 @@ loop-again c =
           .before .before .before .without .ensures)
           (rw (
             byte-is
-                (c .before .before .before .before .before .before .before .before .before .before .before .before .before
-                .before .before),
+                (c .before .before .before .before .before .before .before .before .before .before .before .before
+                .before .before .before),
             row-is (c .before .before .before .before .before .before .before .before .before .before .before
                 .before .before .before .before),
           ) at (c .before .before .before .before .try-next .ensures .1)),
