@@ -27,11 +27,11 @@ use Rattle.searching.proofs.Coloured.{coloured-bytes}
 use Rattle.searching.proofs.Orientation.{bytes-flip, place-exact}
 use Rattle.searching.proofs.Alike.{came-alike, clash-alike}
 use Rattle.searching.proofs.Course.{search-came, search-clash}
-use Rattle.search.specs.Rows.{rowOf, rows}
-use Rattle.search.specs.Searched.{sameList, neighbours, flatten, foundBy}
+use Rattle.store.specs.Rows.{rowOf, rows, sameList, flatten}
+use Rattle.store.proofs.Rows.{same-decides, rows-length, rows-at}
+use Rattle.search.specs.Searched.{neighbours, foundBy}
 use Rattle.search.specs.Outcome.{foundAs}
 use Rattle.search.specs.Exact.{Taken, Leads, FirstMet, Repeat, Holds, Finds}
-use Rattle.search.proofs.Rows.{same-decides, rows-length, rows-at}
 use Rattle.search.proofs.Flat.{flat-length, flat-row, flat-past}
 use Rattle.search.proofs.Leads.{of-leads, to-reach, of-reach, reach-flag, more-leads, flips-leads}
 use Rattle.search.proofs.Leads.{colours-leads}

@@ -13,7 +13,7 @@ use Rattle.flag.proofs.Changes.{changes}
 use Rattle.searching.specs.Search.{Neighbour, More, Colouring}
 use Rattle.search.specs.Masks.{bit, ranksOf}
 use Rattle.search.specs.Searched.{neighbours}
-use Rattle.search.specs.Held.{Within}
+use Rattle.search.specs.Ready.{Within}
 use Rattle.search.specs.Exact.{Taken, Leads}
 use Rattle.search.proofs.Ranks.{ranks-exact}
 use Rattle.search.proofs.Neighbours.{mem-in, in-mem}

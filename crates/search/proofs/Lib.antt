@@ -1,9 +1,5 @@
 pub mod Low
 pub mod Ranks
-pub mod Rows
-pub mod Hash
-pub mod Chains
-pub mod Meets
 pub mod Begins
 pub mod AtHand
 pub mod Neighbours

@@ -13,11 +13,10 @@ use Rattle.flag.specs.Change.{changeAt}
 use Rattle.searching.specs.Search.{Once}
 use Rattle.searching.specs.Course.{Earlier}
 use Rattle.searching.proofs.Once.{in-at}
+use Rattle.store.specs.Rows.{rowOf, rows, flatten}
+use Rattle.store.proofs.Rows.{rows-length, rows-at, rows-flat}
 use Rattle.search.specs.declared.Searched.{Searched}
-use Rattle.search.specs.Rows.{rowOf, rows}
-use Rattle.search.specs.Searched.{flatten}
 use Rattle.search.specs.Exact.{FirstMet, Repeat, Holds, Finds}
-use Rattle.search.proofs.Rows.{rows-length, rows-at, rows-flat}
 use Rattle.search.proofs.Outcomes.{Outcome}
 
 -- ---- the contract

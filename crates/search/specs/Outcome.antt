@@ -21,9 +21,10 @@ use Rattle.listing.specs.Answers.{plain, ifZero, on, _orElse_}
 use Rattle.listing.specs.Listing.{Listing, Limits, rank}
 use Rattle.flag.specs.Flags.{startTest}
 use Rattle.searching.specs.Search.{State}
+use Rattle.store.specs.Rows.{flatten}
 use Rattle.search.specs.declared.Searched.{Searched}
 use Rattle.search.specs.Masks.{maskFits}
-use Rattle.search.specs.Searched.{flatten, foundBy}
+use Rattle.search.specs.Searched.{foundBy}
 
 abbrev pub refusedAs : Answer → Searched
 refusedAs a = record { answer = a; count = 0; place = 0; orientable = 0 }

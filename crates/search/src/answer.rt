@@ -1,8 +1,8 @@
 // What a search answers.
 use crate::Searched;
-use crate::found::Progress;
 use listing::Answer;
 use listing::inner;
+use store::found::Progress;
 ghost use mathlib.Core.Path.{_≡_};
 ghost use Rattle.listing.specs.Answers.{fine};
 ghost use Rattle.search.specs.Outcome.{refusedAs, foundAs};

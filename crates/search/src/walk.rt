@@ -1,14 +1,14 @@
 // The search on a listing that is known to be closed: flags are kept in the table in the order found, and worked in
 // that order.
-use crate::found;
-use crate::found::Progress;
-use crate::index;
 use crate::mask;
-use crate::row;
 use flag::Orientation;
 use flag::chain;
 use listing::inner;
 use listing::limit;
+use store::found;
+use store::found::Progress;
+use store::index;
+use store::row;
 ghost use mathlib.Core.Path.{_≡_};
 ghost use mathlib.Core.Bool.{false};
 ghost use mathlib.Core.List.{List};
@@ -19,9 +19,10 @@ ghost use Rattle.valid.specs.Closed.{Closed};
 ghost use Rattle.flag.specs.Flags.{IsFlag};
 ghost use Rattle.flag.specs.Change.{changeAt};
 ghost use Rattle.searching.specs.Search.{meet as meetIn, meetAll, run as runIn};
-ghost use Rattle.search.specs.Rows.{rowOf};
-ghost use Rattle.search.specs.Searched.{sameList, neighbours, foundBy};
-ghost use Rattle.search.specs.Held.{stateOf, Held, Moved, Ended, AllFlags, Places, Within, Ready, AtHand};
+ghost use Rattle.store.specs.Rows.{rowOf, sameList};
+ghost use Rattle.store.specs.Held.{stateOf, Held, Moved};
+ghost use Rattle.search.specs.Searched.{neighbours, foundBy};
+ghost use Rattle.search.specs.Ready.{Ended, AllFlags, Places, Within, Ready, AtHand};
 
 // The byte of the other orientation.
 fn flipped(byte: u8) -> u8

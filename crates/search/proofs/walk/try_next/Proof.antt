@@ -7,8 +7,8 @@ use native.Mathlib.Omega.{arith}
 use borrow.Author.Needs.{needs}
 use lib.ListN.{length-set}
 use Rattle.listing.specs.Listing.{Listing, listing}
+use Rattle.store.proofs.Hash.{weights-small}
 use Rattle.search.proofs.AtHand.{hand-neighbours, hand-changed, hand-old, hand-hash, put-back}
-use Rattle.search.proofs.Hash.{weights-small}
 use Rattle.search.proofs.walk.try_next.Statement.{statement}
 use Rattle.search.proofs.walk.try_next.Tie as tie
 
