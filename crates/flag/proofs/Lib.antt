@@ -7,3 +7,4 @@ pub mod ChangeAnswers
 pub mod EventRow
 pub mod EventsTaken
 pub mod Starred
+pub mod ChangeCases

@@ -9,9 +9,9 @@ use lib.Seq.{length-take-le, getD-take, take-set-lt, set-set, set-getD}
 use Rattle.listing.specs.Listing.{Listing, limits, rank, subs, sups}
 use Rattle.valid.specs.Closed.{Closed}
 use Rattle.flag.specs.Change.{common, other, between, changeAt, Neighbours}
-use Rattle.search.specs.Hash.{hashes, weight, hashOf}
-use Rattle.search.specs.Held.{AtHand}
-use Rattle.search.proofs.Hash.{old-inside, hash-changed}
+use Rattle.store.specs.Hash.{hashes, weight, hashOf}
+use Rattle.store.proofs.Hash.{old-inside, hash-changed}
+use Rattle.search.specs.Ready.{AtHand}
 
 module _ (L : Listing) (C : Closed limits L) (flag : List ℕ) (sum : ℕ) (H : AtHand L flag sum) (r : ℕ) (p : 0 < r)
     (q : r < rank L) where

@@ -7,8 +7,7 @@ use native.Mathlib.Nat.{suc-mul, zero-mul}
 use native.Mathlib.Omega.{arith}
 use lib.ListN.{length, getD, drop, length-append}
 use lib.Seq.{take-at, drop-at, drop-append-add}
-use Rattle.search.specs.Rows.{rowOf}
-use Rattle.search.specs.Searched.{flatten}
+use Rattle.store.specs.Rows.{rowOf, flatten}
 use Rattle.search.proofs.Neighbours.{All}
 
 module _ (w : ℕ) where

@@ -1,6 +1,7 @@
 -- The neighbours of a flag are the flags that a change leads to, so that the same is reachable, counted and coloured.
 -- Assumes nothing.
 use mathlib.Core.Path.{_≡_}
+use mathlib.Core.Bool.{Bool, not}
 use mathlib.Core.Logic.{_↔_}
 use mathlib.Core.List.{List, Memᴰ·map, Memᴰ·of-map, Memᴰ·cast}
 use Prim.Native.Nat.{ℕ, _<_}
@@ -12,7 +13,7 @@ use Rattle.flag.proofs.Changes.{changes}
 use Rattle.searching.specs.Search.{Neighbour, More, Colouring}
 use Rattle.search.specs.Masks.{bit, ranksOf}
 use Rattle.search.specs.Searched.{neighbours}
-use Rattle.search.specs.Held.{Within}
+use Rattle.search.specs.Ready.{Within}
 use Rattle.search.specs.Exact.{Taken, Leads}
 use Rattle.search.proofs.Ranks.{ranks-exact}
 use Rattle.search.proofs.Neighbours.{mem-in, in-mem}
@@ -72,14 +73,17 @@ module _ {m : Limits} {L : Listing} {first : List ℕ} {mask : ℕ} (T : Taken m
     λ q. record { things = q .things; many = q .many; once = q .once; reached = λ x i. of-reach (q .reached x i) },
   )
 
+  pub flips-leads : (colour : List ℕ → Bool)
+      → ((x y : List ℕ) → Reach (Leads L mask) first x → Leads L mask x y → colour y ≡ not (colour x))
+      → (x y : List ℕ) → Reach (Neighbour (neighbours L mask)) first x → Neighbour (neighbours L mask) x y
+      → colour y ≡ not (colour x)
+  flips-leads colour f x y h n = f x y (to-reach h) (to-leads x y (reach-flag h) n)
+
   pub colours-leads : Colouring (Neighbour (neighbours L mask)) first ↔ Colouring (Leads L mask) first
   colours-leads = (
     λ c. record {
       colour = c .colour;
       flips = λ x y h l. c .flips x y (of-reach h) (of-leads x y (leads-flag h) l);
     },
-    λ c. record {
-      colour = c .colour;
-      flips = λ x y h n. c .flips x y (to-reach h) (to-leads x y (reach-flag h) n);
-    },
+    λ c. record { colour = c .colour; flips = flips-leads (c .colour) (c .flips) },
   )

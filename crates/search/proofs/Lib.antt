@@ -1,9 +1,5 @@
 pub mod Low
 pub mod Ranks
-pub mod Rows
-pub mod Hash
-pub mod Chains
-pub mod Meets
 pub mod Begins
 pub mod AtHand
 pub mod Neighbours
@@ -14,4 +10,7 @@ pub mod Numbers
 pub mod Outcomes
 pub mod Leads
 pub mod Flat
+pub mod InOrder
+pub mod Contents
 pub mod Exact
+pub mod OneAnswer

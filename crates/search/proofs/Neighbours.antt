@@ -17,11 +17,11 @@ use Rattle.flag.proofs.Changes.{changes}
 use Rattle.searching.specs.Search.{State, meet, meetAll}
 use Rattle.searching.proofs.Once.{in-at, at-in}
 use Rattle.searching.proofs.Step.{meet-cases}
+use Rattle.store.specs.Rows.{rows}
+use Rattle.store.proofs.Rows.{rows-length, rows-at}
 use Rattle.search.specs.Masks.{ranksOf}
-use Rattle.search.specs.Rows.{rows}
 use Rattle.search.specs.Searched.{neighbours}
-use Rattle.search.specs.Held.{Within, AllFlags}
-use Rattle.search.proofs.Rows.{rows-length, rows-at}
+use Rattle.search.specs.Ready.{Within, AllFlags}
 
 -- a member, as the lists of numbers have it
 pub mem-in : (x : ℕ) (l : List ℕ) → List·Memᴰ x l → In x l

@@ -12,12 +12,13 @@ use Rattle.valid.specs.Closed.{Closed}
 use Rattle.flag.specs.Flags.{IsFlag}
 use Rattle.searching.specs.Search.{meetAll, work, run}
 use Rattle.searching.proofs.Run.{run-next, run-stop, run-end}
-use Rattle.search.specs.declared.found.Progress.{Progress}
-use Rattle.search.specs.Rows.{rowOf}
-use Rattle.search.specs.Searched.{sameList, neighbours}
-use Rattle.search.specs.Held.{stateOf, Held, Moved, AllFlags, Within}
-use Rattle.search.proofs.Rows.{rows-at}
-use Rattle.search.proofs.Meets.{count-is, moved-none}
+use Rattle.store.specs.declared.found.Progress.{Progress}
+use Rattle.store.specs.Rows.{rowOf, sameList}
+use Rattle.store.specs.Held.{stateOf, Held, Moved}
+use Rattle.store.proofs.Rows.{rows-at}
+use Rattle.store.proofs.Meets.{count-is, moved-none}
+use Rattle.search.specs.Searched.{neighbours}
+use Rattle.search.specs.Ready.{AllFlags, Within}
 use Rattle.search.proofs.Neighbours.{meets-all, neighbour-flag, rows-flags, flags-rows}
 use Rattle.search.proofs.Works.{moved-trans, moved-to}
 

@@ -12,12 +12,13 @@ use Rattle.flag.specs.Flags.{IsFlag}
 use Rattle.flag.specs.Change.{padded}
 use Rattle.searching.specs.Search.{nothing, Once, meet, run, search}
 use Rattle.searching.specs.Chain.{latest}
-use Rattle.search.specs.declared.found.Progress.{Progress}
-use Rattle.search.specs.Rows.{rows}
-use Rattle.search.specs.Hash.{hashes}
-use Rattle.search.specs.Index.{Indexed}
-use Rattle.search.specs.Searched.{sameList, neighbours, foundBy}
-use Rattle.search.specs.Held.{stateOf, Held, Moved, Ended, AllFlags}
+use Rattle.store.specs.declared.found.Progress.{Progress}
+use Rattle.store.specs.Rows.{rows, sameList}
+use Rattle.store.specs.Hash.{hashes}
+use Rattle.store.specs.Index.{Indexed}
+use Rattle.store.specs.Held.{stateOf, Held, Moved}
+use Rattle.search.specs.Searched.{neighbours, foundBy}
+use Rattle.search.specs.Ready.{Ended, AllFlags}
 use Rattle.search.proofs.Neighbours.{meet-all, rows-flags}
 use Rattle.search.proofs.Works.{rest-trans}
 

@@ -15,12 +15,14 @@ use Rattle.listing.specs.Listing.{Listing, rank}
 use Rattle.flag.specs.Change.{changeAt}
 use Rattle.searching.specs.Search.{State, meet, meetAll}
 use Rattle.searching.proofs.Step.{meets-over}
-use Rattle.search.specs.declared.found.Progress.{Progress}
+use Rattle.store.specs.declared.found.Progress.{Progress}
+use Rattle.store.specs.Rows.{sameList}
+use Rattle.store.specs.Held.{stateOf, Held, Rest, Moved}
+use Rattle.store.proofs.Meets.{moved-none}
 use Rattle.search.specs.Masks.{ranksOf}
-use Rattle.search.specs.Searched.{sameList, neighbours}
-use Rattle.search.specs.Held.{stateOf, Held, Rest, Moved, Within}
+use Rattle.search.specs.Searched.{neighbours}
+use Rattle.search.specs.Ready.{Within}
 use Rattle.search.proofs.Ranks.{ranks-next, ranks-none}
-use Rattle.search.proofs.Meets.{moved-none}
 
 -- ---- one move after another
 

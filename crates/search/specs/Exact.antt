@@ -1,33 +1,49 @@
--- What a search promises, said of flags and not of a walk over them.
+-- What a search promises, said of flags and of the slices that it writes, and not of a walk over flags.
 --
--- Taken      what a search asks: a closed listing, a flag of it to begin with, and a mask whose set bits are ranks from 1
---            to rank - 1
+-- Inside     the set bits of a mask are ranks from 1 to rank - 1
+-- Taken      what a search asks: a closed listing, a flag of it to begin with, and a mask whose bits are inside
+-- Asked      the mask asks for the change at rank r
 -- Leads      g is a flag that differs from f at one rank exactly, at which the mask asks for a change
--- Holds      n flags, each reachable and none twice, stand in the first rows of a table, with a byte 0 or 1 for each, and
---            past them the table and the bytes are as they were
--- Finds      an answer that is no refusal: the flags held are all that are reachable, and it counts them; it says whether
---            they can be given two colours so that each change exchanges these, and if so the bytes are such colours
+-- FirstMet   flag k is the change at a rank of a flag before it, with the byte that this one does not have, and all
+--            changes that were met before stand before it: flags are taken in order, ranks from the lowest upward
+-- Repeat     the change at a rank of one of the first n flags stands among these with the byte of the flag that it came
+--            of; all changes that were met before stand among these with the other byte, and these were all met before
+-- Holds      n flags, each reachable and none twice, stand in the first rows of a table in the order found, with a byte
+--            0 or 1 for each, and past them the table and the bytes are as they were
+-- Finds      an answer that is no refusal: the flags held are all that are reachable, and it counts them; it says
+--            whether they can be given two colours so that each change exchanges these, and if so the bytes are these
+--            colours, and if not how many flags were known at the first repeat with another byte
 -- Promised   what a search answers and writes, in all cases
 use mathlib.Core.Path.{_≡_}
 use mathlib.Core.Logic.{_≢_, _↔_}
-use mathlib.Core.List.{List, [], List·Memᴰ}
+use mathlib.Core.List.{List, List·Memᴰ}
 use Prim.Native.Nat.{ℕ, suc, _+_, _-_, _*_, _≤_, _<_}
 use lib.ListN.{length, getD, take, drop}
 use Rattle.order.specs.Flags.{ChangedAt, Reach}
+use Rattle.listing.specs.Answers.{plain, fine}
 use Rattle.listing.specs.Listing.{Listing, Limits, rank}
 use Rattle.valid.specs.Closed.{Closed}
+use Rattle.valid.specs.Tests.{closed}
 use Rattle.flag.specs.Flags.{IsFlag}
-use Rattle.searching.specs.Search.{State, Once, More, Colouring}
+use Rattle.flag.specs.Change.{changeAt}
+use Rattle.searching.specs.Search.{Once, More, Colouring, tone}
+use Rattle.searching.specs.Course.{Earlier, Stands, Agrees}
+use Rattle.store.specs.Rows.{rowOf, rows}
 use Rattle.search.specs.declared.Searched.{Searched}
 use Rattle.search.specs.Masks.{bit}
-use Rattle.search.specs.Rows.{rowOf}
 use Rattle.search.specs.Searched.{foundBy}
-use Rattle.search.specs.Outcome.{roomOf, searchedBy, tableAfter, bytesAfter}
+use Rattle.search.specs.Outcome.{refusedAs, roomOf, searchedBy, tableAfter, bytesAfter}
+
+abbrev pub Inside : Listing → ℕ → Type 0
+Inside L mask = (r : ℕ) → r < 16 → bit mask r ≡ 1 → (0 < r) × (r < rank L)
 
 pub record Taken (m : Limits) (L : Listing) (first : List ℕ) (mask : ℕ) : Type 0 where
   pub closed : Closed m L
   pub is-flag : IsFlag L first
-  pub within : (r : ℕ) → r < 16 → bit mask r ≡ 1 → (0 < r) × (r < rank L)
+  pub within : Inside L mask
+
+abbrev pub Asked : ℕ → ℕ → Type 0
+Asked mask r = (r < 16) × (bit mask r ≡ 1)
 
 pub record Leads (L : Listing) (mask : ℕ) (f g : List ℕ) : Type 0 where
   pub at : ℕ
@@ -36,50 +52,90 @@ pub record Leads (L : Listing) (mask : ℕ) (f g : List ℕ) : Type 0 where
   pub is-flag : IsFlag L g
   pub changed : ChangedAt at f g
 
-pub record Holds (L : Listing) (first : List ℕ) (mask : ℕ) (table bytes table′ bytes′ : List ℕ) (n : ℕ)
-    (found : List (List ℕ)) : Type 0 where
-  pub many : length found ≡ n
-  pub rows : (k : ℕ) → k < n → rowOf (rank L + 1) table′ k ≡ getD found k []
-  pub once : Once found
-  pub flags : (f : List ℕ) → List·Memᴰ f found → IsFlag L f × (length f ≡ rank L + 1)
-  pub reached : (f : List ℕ) → List·Memᴰ f found → Reach (Leads L mask) first f
-  pub binary : (k : ℕ) → k < n → getD bytes′ k 0 ≤ 1
-  pub past : drop (n * (rank L + 1)) table′ ≡ drop (n * (rank L + 1)) table
-  pub bytes-past : drop n bytes′ ≡ drop n bytes
+module _ (L : Listing) (mask : ℕ) (row : ℕ → List ℕ) (byte : ℕ → ℕ) where
+  pub record FirstMet (k : ℕ) : Type 0 where
+    pub from : ℕ
+    pub at : ℕ
+    pub earlier : from < k
+    pub asked : Asked mask at
+    pub is : row k ≡ changeAt L at (row from)
+    pub turned : byte k ≡ 1 - byte from
+    pub first : (j r : ℕ) → Earlier j r from at → Asked mask r → Stands row k (changeAt L r (row j))
 
-pub record Finds (L : Listing) (first : List ℕ) (mask : ℕ) (r : Searched) (bytes′ : List ℕ) (found : List (List ℕ))
-    : Type 0 where
-  pub all : (f : List ℕ) → Reach (Leads L mask) first f → List·Memᴰ f found
-  pub count : More (r .count) (Leads L mask) first × ((n : ℕ) → More n (Leads L mask) first → n ≤ r .count)
-  pub orientable : (r .orientable ≡ 1) ↔ Colouring (Leads L mask) first
-  pub not-orientable : (r .orientable ≡ 0) ↔ (¬ Colouring (Leads L mask) first)
-  pub place : (0 < r .place) ↔ (¬ Colouring (Leads L mask) first)
-  pub placed : r .place ≤ r .count
-  pub first-even : (getD found 0 [] ≡ first) × (getD bytes′ 0 0 ≡ 0)
-  pub exchanged : r .orientable ≡ 1 → (j k : ℕ) → j < r .count → k < r .count
-      → Leads L mask (getD found j []) (getD found k []) → getD bytes′ k 0 ≡ 1 - getD bytes′ j 0
+  pub record Repeat (n : ℕ) : Type 0 where
+    pub from : ℕ
+    pub at : ℕ
+    pub known : from < n
+    pub asked : Asked mask at
+    pub index : ℕ
+    pub below : index < n
+    pub is : row index ≡ changeAt L at (row from)
+    pub alike : byte index ≡ byte from
+    pub met : (j r : ℕ) → Earlier j r from at → Asked mask r
+        → Agrees row byte n (changeAt L r (row j)) (1 - byte j)
+    pub few : (k : ℕ) → 0 < k → k < n
+        → (j : ℕ) × (r : ℕ) × Earlier j r from at × Asked mask r × (row k ≡ changeAt L r (row j))
+
+module _ (L : Listing) (first : List ℕ) (mask : ℕ) (table′ bytes′ : List ℕ) where
+  abbrev pub row : ℕ → List ℕ
+  row = rowOf (rank L + 1) table′
+
+  abbrev pub byte : ℕ → ℕ
+  byte k = getD bytes′ k 0
+
+  pub record Holds (table bytes : List ℕ) (n : ℕ) : Type 0 where
+    pub once : Once (rows (rank L + 1) table′ n)
+    pub flags : (k : ℕ) → k < n → IsFlag L (row k)
+    pub reached : (k : ℕ) → k < n → Reach (Leads L mask) first (row k)
+    pub binary : (k : ℕ) → k < n → byte k ≤ 1
+    pub start : 0 < n → (row 0 ≡ first) × (byte 0 ≡ 0)
+    pub came : (k : ℕ) → 0 < k → k < n → FirstMet L mask row byte k
+    pub long : length table′ ≡ length table
+    pub past : drop (n * (rank L + 1)) table′ ≡ drop (n * (rank L + 1)) table
+    pub bytes-long : length bytes′ ≡ length bytes
+    pub bytes-past : drop n bytes′ ≡ drop n bytes
+
+  pub record Finds (r : Searched) : Type 0 where
+    pub all : (f : List ℕ) → Reach (Leads L mask) first f → List·Memᴰ f (rows (rank L + 1) table′ (r .count))
+    pub count : More (r .count) (Leads L mask) first × ((n : ℕ) → More n (Leads L mask) first → n ≤ r .count)
+    pub orientable : (r .orientable ≡ 1) ↔ Colouring (Leads L mask) first
+    pub not-orientable : (r .orientable ≡ 0) ↔ (¬ Colouring (Leads L mask) first)
+    pub place : (0 < r .place) ↔ (¬ Colouring (Leads L mask) first)
+    pub placed : r .place ≤ r .count
+    pub event : 0 < r .place → Repeat L mask row byte (r .place)
+    pub exchanged : r .orientable ≡ 1 → (j k : ℕ) → j < r .count → k < r .count → Leads L mask (row j) (row k)
+        → byte k ≡ 1 - byte j
+    pub colours : (c : Colouring (Leads L mask) first) (k : ℕ) → k < r .count
+        → byte k ≡ tone (c .colour first) (c .colour (row k))
 
 module _ (m : Limits) (L : Listing) (first : List ℕ) (mask : ℕ) (table bytes : List ℕ) where
   abbrev pub room : ℕ
   room = roomOf m L (length table) (length bytes)
 
-  abbrev pub number : ℕ
-  number = searchedBy m L first mask table bytes .answer .no
+  abbrev pub said : Searched
+  said = searchedBy m L first mask table bytes
 
-  abbrev pub found : List (List ℕ)
-  found = foundBy L first mask room .found
+  abbrev pub number : ℕ
+  number = said .answer .no
 
   abbrev pub After : ℕ → Type 0
   After n =
-      Holds L first mask table bytes (tableAfter m L first mask table bytes) (bytesAfter m L first mask table bytes) n found
+      Holds L first mask (tableAfter m L first mask table bytes) (bytesAfter m L first mask table bytes) table bytes n
 
   pub record Promised : Type 0 where
+    pub unclosed : ¬ Closed m L → said ≡ refusedAs (closed m L)
+    pub no-flag : Closed m L → ¬ IsFlag L first → said ≡ refusedAs (plain 20)
+    pub outside : Closed m L → IsFlag L first → ¬ Inside L mask → said ≡ refusedAs (plain 21)
     pub answered : (number ≡ 0) ↔ (Taken m L first mask × (¬ More (suc room) (Leads L mask) first))
     pub full : (number ≡ 22) ↔ (Taken m L first mask × More (suc room) (Leads L mask) first)
-    pub holds : number ≡ 0 → After (searchedBy m L first mask table bytes .count)
+    pub fine-answer : number ≡ 0 → said .answer ≡ fine
+    pub full-answer : number ≡ 22 → said ≡ refusedAs (plain 22)
+    pub holds : number ≡ 0 → After (said .count)
     pub finds : number ≡ 0
-        → Finds L first mask (searchedBy m L first mask table bytes) (bytesAfter m L first mask table bytes) found
+        → Finds L first mask (tableAfter m L first mask table bytes) (bytesAfter m L first mask table bytes) said
     pub holds-first : number ≡ 22 → After room
-    pub first-found : (more : ℕ) → room ≤ more → found ≡ take room (foundBy L first mask more .found)
+    pub first-found : number ≡ 22 → (more : ℕ) → room ≤ more
+        → rows (rank L + 1) (tableAfter m L first mask table bytes) room
+        ≡ take room (foundBy L first mask more .found)
     pub untouched : number ≢ 0 → number ≢ 22
         → (tableAfter m L first mask table bytes ≡ table) × (bytesAfter m L first mask table bytes ≡ bytes)

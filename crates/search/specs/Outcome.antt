@@ -3,7 +3,8 @@
 -- refusedAs     the answer of a refusal: all numbers are 0
 -- foundAs       the answer of a search that came to its end
 -- roomOf        how many flags there is room for: the whole flags that fit the table, the bytes, the limit
--- searchTest    the refusals in their order: those of the closed test, 20, 21, and 22 exactly if there are more than room
+-- searchTest    the refusals in their order: those of the closed test, 20, 21, and 22 exactly if there are more than
+--               room
 -- searchedOf    the answer: how many flags, how many came before the cell showed itself not orientable, whether it is
 -- after         what a lent slice holds afterwards: on success and at 22 what was found and then what stood past it
 -- searchedBy    what a search answers, with a table and bytes lent to it
@@ -20,9 +21,10 @@ use Rattle.listing.specs.Answers.{plain, ifZero, on, _orElse_}
 use Rattle.listing.specs.Listing.{Listing, Limits, rank}
 use Rattle.flag.specs.Flags.{startTest}
 use Rattle.searching.specs.Search.{State}
+use Rattle.store.specs.Rows.{flatten}
 use Rattle.search.specs.declared.Searched.{Searched}
 use Rattle.search.specs.Masks.{maskFits}
-use Rattle.search.specs.Searched.{flatten, foundBy}
+use Rattle.search.specs.Searched.{foundBy}
 
 abbrev pub refusedAs : Answer → Searched
 refusedAs a = record { answer = a; count = 0; place = 0; orientable = 0 }

@@ -1,8 +1,8 @@
 // What a search answers.
 use crate::Searched;
-use crate::found::Progress;
 use listing::Answer;
 use listing::inner;
+use store::found::Progress;
 ghost use mathlib.Core.Path.{_≡_};
 ghost use Rattle.listing.specs.Answers.{fine};
 ghost use Rattle.search.specs.Outcome.{refusedAs, foundAs};
@@ -24,17 +24,18 @@ pub fn found(p: Progress) -> Searched
     ensures { λ r. ⌜ r ≡ foundAs fine (p .count) (p .place) ⌝ }
 {
     let answer = inner::plain(0);
+    let count = p.count;
     if p.place == 0 {
         return Searched {
             answer,
-            count: p.count,
+            count,
             place: 0,
             orientable: 1,
         };
     }
     Searched {
         answer,
-        count: p.count,
+        count,
         place: p.place,
         orientable: 0,
     }

@@ -1,15 +1,13 @@
 // The search for the flags of a cell that changes lead to from a first flag, and for an orientation of them.
 mod answer;
-mod found;
-mod index;
 mod mask;
-mod row;
 mod walk;
 
 use flag::chain;
 use listing::Answer;
 use listing::inner;
 use listing::refusal;
+use store::row;
 ghost use mathlib.Core.Path.{_≡_};
 ghost use Rattle.listing.specs.Listing.{listing, limits};
 ghost use Rattle.search.specs.Outcome.{searchedBy, tableAfter, bytesAfter};
@@ -24,8 +22,8 @@ pub struct Searched {
     pub orientable: u8,
 }
 
-// The flags that the changes of a mask lead to from the first flag, written into the table in the order found, one after
-// another, and their orientations into the bytes.
+// The flags that the changes of a mask lead to from the first flag, written into the table in the order found, one
+// after another, and their orientations into the bytes.
 pub fn search(
     counts: &[u16],
     ends: &[u16],

@@ -1,14 +1,14 @@
-// The search on a listing that is known to be closed: flags are kept in the table in the order found, and worked in that
-// order.
-use crate::found;
-use crate::found::Progress;
-use crate::index;
+// The search on a listing that is known to be closed: flags are kept in the table in the order found, and worked in
+// that order.
 use crate::mask;
-use crate::row;
 use flag::Orientation;
 use flag::chain;
 use listing::inner;
 use listing::limit;
+use store::found;
+use store::found::Progress;
+use store::index;
+use store::row;
 ghost use mathlib.Core.Path.{_≡_};
 ghost use mathlib.Core.Bool.{false};
 ghost use mathlib.Core.List.{List};
@@ -19,9 +19,10 @@ ghost use Rattle.valid.specs.Closed.{Closed};
 ghost use Rattle.flag.specs.Flags.{IsFlag};
 ghost use Rattle.flag.specs.Change.{changeAt};
 ghost use Rattle.searching.specs.Search.{meet as meetIn, meetAll, run as runIn};
-ghost use Rattle.search.specs.Rows.{rowOf};
-ghost use Rattle.search.specs.Searched.{sameList, neighbours, foundBy};
-ghost use Rattle.search.specs.Held.{stateOf, Held, Moved, Ended, AllFlags, Places, Within, Ready, AtHand};
+ghost use Rattle.store.specs.Rows.{rowOf, sameList};
+ghost use Rattle.store.specs.Held.{stateOf, Held, Moved};
+ghost use Rattle.search.specs.Searched.{neighbours, foundBy};
+ghost use Rattle.search.specs.Ready.{Ended, AllFlags, Places, Within, Ready, AtHand};
 
 // The byte of the other orientation.
 fn flipped(byte: u8) -> u8
@@ -177,10 +178,10 @@ fn run(
     requires { ⌜ Within (listing (now counts) (now ends) (now inc)) mask ⌝ }
     requires { ⌜ Held (length (now counts)) room (now table) (now bytes) (now heads) (now next) (start .count) ⌝ }
     requires { ⌜ AllFlags (listing (now counts) (now ends) (now inc)) (now table) (start .count) ⌝ }
-    ensures { λ p. ⌜ ((a : List ℕ) → Moved (length (now (counts .entry))) room (now (table .entry)) (now (bytes .entry)) start
-        (now (table .exit)) (now (bytes .exit)) (now (heads .exit)) (now (next .exit)) p
-        (runIn sameList room (neighbours (listing (now (counts .entry)) (now (ends .entry)) (now (inc .entry))) mask) a 0
-        (stateOf (length (now (counts .entry))) (now (table .entry)) (now (bytes .entry)) start))) ⌝ }
+    ensures { λ p. ⌜ ((a : List ℕ) → Moved (length (now (counts .entry))) room (now (table .entry)) (now (bytes .entry))
+        start (now (table .exit)) (now (bytes .exit)) (now (heads .exit)) (now (next .exit)) p
+        (runIn sameList room (neighbours (listing (now (counts .entry)) (now (ends .entry)) (now (inc .entry))) mask) a
+        0 (stateOf (length (now (counts .entry))) (now (table .entry)) (now (bytes .entry)) start))) ⌝ }
 {
     let mut s = start;
     let mut k: u16 = 0;
@@ -222,10 +223,12 @@ pub fn search_from(
     requires { ⌜ Closed limits (listing (now counts) (now ends) (now inc)) ⌝ }
     requires { ⌜ IsFlag (listing (now counts) (now ends) (now inc)) (now first) ⌝ }
     requires { ⌜ Within (listing (now counts) (now ends) (now inc)) mask ⌝ }
-    requires { ⌜ (room * length (now counts) ≤ length (now table)) × (room ≤ length (now bytes)) × (room ≤ limits .flags) ⌝ }
+    requires { ⌜ (room * length (now counts) ≤ length (now table)) × (room ≤ length (now bytes))
+        × (room ≤ limits .flags) ⌝ }
     ensures { λ p. ⌜ Ended (length (now (counts .entry))) room (now (table .entry)) (now (bytes .entry))
         (now (table .exit)) (now (bytes .exit)) p
-        (foundBy (listing (now (counts .entry)) (now (ends .entry)) (now (inc .entry))) (now (first .entry)) mask room) ⌝ }
+        (foundBy (listing (now (counts .entry)) (now (ends .entry)) (now (inc .entry))) (now (first .entry)) mask
+        room) ⌝ }
 {
     let w = counts.len();
     let places = places_of(counts);

@@ -3,25 +3,18 @@
 use mathlib.Core.Path.{_≡_, refl, sym, ap, _∙_}
 use mathlib.Core.Bool.{Bool, true, false, not}
 use mathlib.Core.List.{List, [], _∷_, List·Memᴰ, List·Memᴰ·head, List·Memᴰ·tail}
-use Prim.Native.Nat.{ℕ, _-_, _≤_, _<_}
+use Prim.Native.Nat.{ℕ, _-_, _<_}
 use native.Mathlib.Decide.{decLt}
 use native.Mathlib.Omega.{arith}
 use lib.ListN.{length, getD, List·getD-append}
 use lib.Seq.{getD-at}
 use Rattle.searching.specs.Search.{State, nothing, add, again, indexIn, meet, meetAll, work, search}
-use Rattle.searching.specs.Search.{Neighbour, Decides, Kept, Colouring}
+use Rattle.searching.specs.Search.{Neighbour, Decides, Kept, Colouring, tone}
 use Rattle.searching.proofs.Once.{length-snoc, in-at}
 use Rattle.searching.proofs.Lookup.{index-at}
 use Rattle.searching.proofs.Step.{place-same, meet-cases}
 use Rattle.searching.proofs.Run.{run-ends}
 use Rattle.searching.proofs.Kept.{work-kept, start-kept}
-
--- the byte of a colour, seen from the colour of the start
-tone : Bool → Bool → ℕ
-tone true true = 0
-tone true false = 1
-tone false true = 1
-tone false false = 0
 
 tone-start : (c : Bool) → 0 ≡ tone c c
 unfolding tone
@@ -101,14 +94,23 @@ module _ {A : Type 0} (same : A → A → Bool) (decides : Decides same) (room :
   nothing-toned : Toned byte a nothing
   nothing-toned = record { paired = refl; still = refl; toned = λ k h. absurd (omega arith) }
 
-  -- There is a colouring: no place is given, whether or not there is room.
-  pub coloured-still : search same room nbrs a .place ≡ 0
+  search-toned : Toned byte a (search same room nbrs a)
   unfolding search
-  coloured-still =
+  search-toned =
       run-ends same room nbrs a (λ k s. Kept room (Neighbour nbrs) a s × Toned byte a s)
       (λ k s o i h. (work-kept same decides room nbrs a k s i (h .0), work-toned k s i (h .0) (h .1))) 0
       (meet same room 0 nothing a) (f .fits)
-      (f, meet-toned same decides room byte a 0 nothing a (tone-start (c .colour a)) nothing-toned) .1 .1 .still
+      (f, meet-toned same decides room byte a 0 nothing a (tone-start (c .colour a)) nothing-toned) .1 .1
     where
       f : Kept room (Neighbour nbrs) a (meet same room 0 nothing a)
       f = start-kept same decides room nbrs a
+
+  -- There is a colouring: no place is given, whether or not there is room.
+  pub coloured-still : search same room nbrs a .place ≡ 0
+  coloured-still = search-toned .still
+
+  -- And each thing found has the byte of its colour.
+  pub coloured-bytes : (k : ℕ) → k < length (search same room nbrs a .found)
+      → getD (search same room nbrs a .bytes) k 0
+      ≡ tone (c .colour a) (c .colour (getD (search same room nbrs a .found) k a))
+  coloured-bytes = search-toned .toned

@@ -65,7 +65,7 @@ module _ {A : Type 0} where
       go e (yes z) = z
       go e (no h) = sym (place-kept b s i h) ∙ e
 
-  add-grown : (b : ℕ) (s : State A) (y : A) → Grown s (add b s y)
+  pub add-grown : (b : ℕ) (s : State A) (y : A) → Grown s (add b s y)
   add-grown b s y =
       record { more = y ∷ []; found = refl; tail = b ∷ []; bytes = refl; place = λ e. e; over = λ e. e }
 

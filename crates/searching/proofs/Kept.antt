@@ -25,7 +25,7 @@ binary-snoc [] b h p (suc k) = omega arith
 binary-snoc (x ∷ l) b h p zero = h 0
 binary-snoc (x ∷ l) b h p (suc k) = binary-snoc l b (λ j. h (suc j)) p k
 
-place-le : {A : Type 0} (b : ℕ) (s : State A) (i : ℕ) → s .place ≤ length (s .found)
+pub place-le : {A : Type 0} (b : ℕ) (s : State A) (i : ℕ) → s .place ≤ length (s .found)
     → placeAfter b s i ≤ length (s .found)
 place-le b s i h = go (ℕ-discrete (s .place) 0) (ℕ-discrete (getD (s .bytes) i 0) b)
   where

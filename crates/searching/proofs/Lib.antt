@@ -10,3 +10,5 @@ pub mod Found
 pub mod Coloured
 pub mod Orientation
 pub mod Prefix
+pub mod Alike
+pub mod Course

@@ -26,7 +26,8 @@ pub record Stored {A : Type 0} (d : A) (b : ℕ) (y : A) (s : State A) : Type 0 
   pub byte : s .place ≡ 0 → getD (s .bytes) index 0 ≡ b
 
 module _ {A : Type 0} (d : A) (b : ℕ) (y : A) where
-  Stored·grown : {s t : State A} → Grown s t → length (s .bytes) ≡ length (s .found) → Stored d b y s → Stored d b y t
+  pub Stored·grown : {s t : State A} → Grown s t → length (s .bytes) ≡ length (s .found) → Stored d b y s
+      → Stored d b y t
   Stored·grown g p r = record {
     index = r .index;
     known = omega (arith, Grown·length g, r .known);
@@ -34,7 +35,8 @@ module _ {A : Type 0} (d : A) (b : ℕ) (y : A) where
     byte = λ z. Grown·byte g (r .index) (omega (arith, r .known)) ∙ r .byte (g .place z);
   }
 
-  again-stored : (s : State A) (i : ℕ) → i < length (s .found) → getD (s .found) i d ≡ y → Stored d b y (again b s i)
+  pub again-stored : (s : State A) (i : ℕ) → i < length (s .found) → getD (s .found) i d ≡ y
+      → Stored d b y (again b s i)
   again-stored s i h e =
       record { index = i; known = h; stands = e; byte = λ z. go z (ℕ-discrete (getD (s .bytes) i 0) b) }
     where
@@ -42,7 +44,7 @@ module _ {A : Type 0} (d : A) (b : ℕ) (y : A) where
       go z (yes q) = q
       go z (no q) = absurd (omega (arith, place-first b s i (again-grown b s i .place z) q))
 
-  add-stored : (s : State A) → length (s .bytes) ≡ length (s .found) → Stored d b y (add b s y)
+  pub add-stored : (s : State A) → length (s .bytes) ≡ length (s .found) → Stored d b y (add b s y)
   add-stored s p = record {
     index = length (s .found);
     known = omega (arith, length-snoc (s .found) y);

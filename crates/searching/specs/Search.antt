@@ -23,6 +23,7 @@
 -- Beyond      a list has so many things, and one more is reachable
 -- Kept        what holds of each state of a search
 -- Colouring   two colours that each step from a reachable thing exchanges
+-- tone        the byte of a colour, seen from the colour of the start: 0 for the same, 1 for the other
 use mathlib.Core.Path.{_≡_}
 use mathlib.Core.Logic.{_↔_}
 use mathlib.Core.Bool.{Bool, true, false, cond, not, _&&_}
@@ -124,3 +125,9 @@ module _ {A : Type 0} where
   pub record Colouring (R : A → A → Type 0) (a : A) : Type 0 where
     pub colour : A → Bool
     pub flips : (x y : A) → Reach R a x → R x y → colour y ≡ not (colour x)
+
+unfoldable pub tone : Bool → Bool → ℕ
+tone true true = 0
+tone true false = 1
+tone false true = 1
+tone false false = 0

@@ -12,7 +12,7 @@ use Rattle.listing.specs.Listing.{Listing, listing, limits, rank}
 use Rattle.valid.specs.Closed.{Closed}
 use Rattle.flag.proofs.ChangeAnswers.{start-exact}
 use Rattle.flag.specs.Flags.{startTest, IsFlag}
-use Rattle.search.specs.Held.{Ended}
+use Rattle.search.specs.Ready.{Ended}
 use Rattle.search.specs.Searched.{foundBy}
 use Rattle.search.specs.Outcome.{refusedAs, roomOf}
 use Rattle.search.specs.Masks.{maskFits}

@@ -6,11 +6,11 @@ use native.Mathlib.Omega.{arith}
 use borrow.Author.Needs.{needs}
 use lib.ListN.{length, take}
 use Rattle.listing.specs.Listing.{Listing, listing}
-use Rattle.searching.specs.Search.{meet}
 use Rattle.flag.proofs.Padding.{padded-length}
-use Rattle.search.specs.Held.{stateOf, Moved}
-use Rattle.search.specs.Searched.{sameList}
-use Rattle.search.specs.Hash.{hashes, hashOf}
+use Rattle.searching.specs.Search.{meet}
+use Rattle.store.specs.Held.{stateOf, Moved}
+use Rattle.store.specs.Rows.{sameList}
+use Rattle.store.specs.Hash.{hashes, hashOf}
 use Rattle.search.proofs.Starts.{none, held-none, take-padded, first-flags, all-found}
 use Rattle.search.proofs.walk.search_from.Statement.{statement}
 use Rattle.search.proofs.walk.search_from.Tie as tie
@@ -81,8 +81,8 @@ run-requires c κs =
       record {
         closed = s .pre .0;
         begins =
-            c .before .before .before .before .before .before .before .before .before .before .before .before .before .before
-            .before .before .before .before .before .before .before .places-of .ensures;
+            c .before .before .before .before .before .before .before .before .before .before .before .before .before
+            .before .before .before .before .before .before .before .before .places-of .ensures;
         weighs =
             c .before .before .before .before .before .before .before .before .before .before .before .before .before
             .before .before .before .before .before .before .before .weights .ensures;

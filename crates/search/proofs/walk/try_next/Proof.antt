@@ -7,8 +7,8 @@ use native.Mathlib.Omega.{arith}
 use borrow.Author.Needs.{needs}
 use lib.ListN.{length-set}
 use Rattle.listing.specs.Listing.{Listing, listing}
+use Rattle.store.proofs.Hash.{weights-small}
 use Rattle.search.proofs.AtHand.{hand-neighbours, hand-changed, hand-old, hand-hash, put-back}
-use Rattle.search.proofs.Hash.{weights-small}
 use Rattle.search.proofs.walk.try_next.Statement.{statement}
 use Rattle.search.proofs.walk.try_next.Tie as tie
 
@@ -129,8 +129,8 @@ returns c =
     .before .before .before .before .before .before .wide .ensures .0 in (
       put-back (s .args .flag .now) _ _,
       rw (hand-changed (L s) (R .closed) (s .args .flag .now) (s .args .sum) (s .pre .1 .0) (s .args .r) (q .0) (q .1)
-          (c .before .before .before .before .before .before .before .before .before .before .before .before .change-index
-          .result) (rw z at
+          (c .before .before .before .before .before .before .before .before .before .before .before .before
+          .change-index .result) (rw z at
           (c .before .before .before .before .before .before .before .before .before .before .before .before
           .change-index .ensures)))
           at (rw z at (c .before .before .before .before .meet .ensures)),

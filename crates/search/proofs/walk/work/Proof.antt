@@ -11,11 +11,12 @@ use lib.Pow.{pow-pos}
 use lib.ListN.{length, getD, take}
 use Rattle.listing.specs.Listing.{Listing, listing}
 use Rattle.searching.specs.Search.{meetAll}
-use Rattle.search.specs.Held.{stateOf, AtHand}
-use Rattle.search.specs.Searched.{sameList, neighbours}
-use Rattle.search.specs.Rows.{rowOf}
+use Rattle.store.specs.Held.{stateOf}
+use Rattle.store.specs.Rows.{sameList, rowOf}
+use Rattle.store.proofs.Rows.{row-end}
+use Rattle.search.specs.Ready.{AtHand}
+use Rattle.search.specs.Searched.{neighbours}
 use Rattle.search.proofs.Works.{Working, working-start, working-rank, working-next, working-stop, working-end}
-use Rattle.search.proofs.Rows.{row-end}
 use Rattle.search.proofs.Low.{low-fits}
 use Rattle.search.proofs.walk.work.Statement.{statement}
 use Rattle.search.proofs.walk.work.Tie as tie
@@ -147,7 +148,8 @@ try-next-requires c κs =
               (c .before .before .before .before .before .before .lowest .result)
               (c .before .before .before .before .before .before .lowest .ensures .0),
           (
-            c .before .before .before .before .before .before .before .before .before .before .loop .inv .1 .moved .held,
+            c .before .before .before .before .before .before .before .before .before .before .loop .inv .1 .moved
+                .held,
             c .before .before .before .before .before .before .before .if2 .left,
           ),
         ),
@@ -177,8 +179,8 @@ loop-again c =
           ∙ c .before .before .before .before .before .before .before .before .before .before .before .before .before
           .before .before .loop .inv .0,
       working-next (L s) _ _ _
-          (c .before .before .before .before .before .before .before .before .before .before .before .before .before .before
-          .before .loop .inv .1)
+          (c .before .before .before .before .before .before .before .before .before .before .before .before .before
+          .before .before .loop .inv .1)
           (some-left
           (c .before .before .before .before .before .before .before .before .before .before .before .before
           .before .before)
@@ -194,8 +196,8 @@ loop-again c =
           .before .before .before .without .ensures)
           (rw (
             byte-is
-                (c .before .before .before .before .before .before .before .before .before .before .before .before .before
-                .before .before),
+                (c .before .before .before .before .before .before .before .before .before .before .before .before
+                .before .before .before),
             row-is (c .before .before .before .before .before .before .before .before .before .before .before
                 .before .before .before .before),
           ) at (c .before .before .before .before .try-next .ensures .1)),

@@ -1,0 +1,160 @@
+-- The course of a search over flags: neighbours are the changes at the ranks of a mask, from the lowest upward.
+-- Assumes nothing.
+use mathlib.Core.Path.{_≡_, refl, ap, _∙_}
+use mathlib.Core.Logic.{_≢_, inl, inr}
+use mathlib.Core.List.{List, [], _∷_, map}
+use Prim.Native.Nat.{ℕ, zero, suc, _-_, _≤_, _<_}
+use native.Mathlib.Decide.{ℕ-discrete, decLt}
+use native.Mathlib.Omega.{arith}
+use lib.ListN.{length, getD}
+use Rattle.order.specs.Lists.{Ascending}
+use Rattle.listing.specs.Listing.{Listing}
+use Rattle.flag.specs.Change.{changeAt}
+use Rattle.searching.specs.Course.{Earlier, Stands, Agrees, Inside, nbr, Came, Clash}
+use Rattle.searching.proofs.Once.{in-at, at-in}
+use Rattle.search.specs.Masks.{ranksOf}
+use Rattle.search.specs.Searched.{neighbours}
+use Rattle.search.specs.Exact.{Asked, FirstMet, Repeat}
+use Rattle.search.proofs.Ranks.{ranks-exact, ranks-ascend}
+use Rattle.search.proofs.Neighbours.{mem-in, in-mem}
+
+-- ---- places in lists
+
+map-length : (f : ℕ → List ℕ) (l : List ℕ) → length (map f l) ≡ length l
+map-length f [] = refl
+map-length f (x ∷ l) = ap suc (map-length f l)
+
+map-at : (f : ℕ → List ℕ) (l : List ℕ) (i : ℕ) (d : List ℕ) → i < length l → getD (map f l) i d ≡ f (getD l i 0)
+map-at f [] i d h = absurd (omega arith)
+map-at f (x ∷ l) zero d h = refl
+map-at f (x ∷ l) (suc i) d h = map-at f l i d (omega arith)
+
+ascend-at : (l : List ℕ) → Ascending l → (p q : ℕ) → p < q → q < length l → getD l p 0 < getD l q 0
+unfolding Ascending
+ascend-at [] a p q h k = absurd (omega arith)
+ascend-at (x ∷ l) a p zero h k = absurd (omega arith)
+ascend-at (x ∷ l) a zero (suc q) h k = a .0 (getD l q 0) (mem-in (getD l q 0) l (in-at l 0 q (omega arith)))
+ascend-at (x ∷ l) a (suc p) (suc q) h k = ascend-at l (a .1) p q (omega arith) (omega arith)
+
+ascend-back : (l : List ℕ) → Ascending l → (p q : ℕ) → p < length l → getD l p 0 < getD l q 0 → p < q
+ascend-back l a p q k e = go (decLt p q) (ℕ-discrete p q)
+  where
+    go : Dec (p < q) → Dec (p ≡ q) → p < q
+    go (yes h) z = h
+    go (no h) (yes z) =
+        let w : getD l p 0 ≡ getD l q 0 = ap (λ i. getD l i 0) z in
+        absurd (omega (arith, e))
+    go (no h) (no z) = absurd (omega (arith, e, ascend-at l a q p (omega arith) k))
+
+-- ---- the ranks of a mask, by their places
+
+module _ (mask : ℕ) where
+  abbrev rankAt : ℕ → ℕ
+  rankAt i = getD (ranksOf mask) i 0
+
+  rank-asked : (i : ℕ) → i < length (ranksOf mask) → Asked mask (rankAt i)
+  rank-asked i h = ranks-exact mask (rankAt i) .0 (mem-in (rankAt i) (ranksOf mask) (in-at (ranksOf mask) 0 i h))
+
+  place-of : (r : ℕ) → Asked mask r → (i : ℕ) × (i < length (ranksOf mask)) × (rankAt i ≡ r)
+  place-of r h = at-in (ranksOf mask) 0 r (in-mem r (ranksOf mask) (ranks-exact mask r .1 h))
+
+  earlier-rank : {j i p q : ℕ} → q < length (ranksOf mask) → Earlier j i p q → Earlier j (rankAt i) p (rankAt q)
+  earlier-rank h (inl e) = inl e
+  earlier-rank {j} {i} {p} {q} h (inr e) = inr (e .0, ascend-at (ranksOf mask) (ranks-ascend mask) i q (e .1) h)
+
+  earlier-place : {j i p q : ℕ} → i < length (ranksOf mask) → Earlier j (rankAt i) p (rankAt q) → Earlier j i p q
+  earlier-place h (inl e) = inl e
+  earlier-place {j} {i} {p} {q} h (inr e) =
+      inr (e .0, ascend-back (ranksOf mask) (ranks-ascend mask) i q h (e .1))
+
+-- ---- how a flag came, and the first repeat with another byte
+
+module _ (L : Listing) (mask : ℕ) (d : List ℕ) (row : ℕ → List ℕ) (byte : ℕ → ℕ) where
+  abbrev N : List ℕ → List (List ℕ)
+  N = neighbours L mask
+
+  many : (j i : ℕ) → Inside N d row j i → i < length (ranksOf mask)
+  unfolding neighbours
+  many j i h = omega (arith, map-length (λ r. changeAt L r (row j)) (ranksOf mask), h)
+
+  few : (j i : ℕ) → i < length (ranksOf mask) → Inside N d row j i
+  unfolding neighbours
+  few j i h = omega (arith, map-length (λ r. changeAt L r (row j)) (ranksOf mask), h)
+
+  nbr-is : (j i : ℕ) → i < length (ranksOf mask) → nbr N d row j i ≡ changeAt L (rankAt mask i) (row j)
+  unfolding neighbours
+  nbr-is j i h = map-at (λ r. changeAt L r (row j)) (ranksOf mask) i d h
+
+  pub came-first : (p q k : ℕ) → Came N d row byte p q k → FirstMet L mask row byte k
+  came-first p q k c =
+      let h = many p q (c .inside) in
+      record {
+        from = p;
+        at = rankAt mask q;
+        earlier = c .earlier;
+        asked = rank-asked mask q h;
+        is = c .is ∙ nbr-is p q h;
+        turned = c .turned;
+        first = λ j r e a. go j r e (place-of mask r a);
+      }
+    where
+      go : (j r : ℕ) → Earlier j r p (rankAt mask q)
+          → (i : ℕ) × (i < length (ranksOf mask)) × (rankAt mask i ≡ r) → Stands row k (changeAt L r (row j))
+      go j r e t =
+          let s = c .first j (t .0) (earlier-place mask (t .1) (rw (t .2) e)) (few j (t .0) (t .1)) in
+          record {
+            index = s .index;
+            below = s .below;
+            is = s .is ∙ nbr-is j (t .0) (t .1) ∙ ap (λ x. changeAt L x (row j)) (t .2);
+          }
+
+  -- of two bytes 0 or 1, one that is not the other one is the same
+  alike : (a b : ℕ) → a ≤ 1 → b ≤ 1 → a ≢ 1 - b → a ≡ b
+  alike a b h k n = go (ℕ-discrete a b)
+    where
+      go : Dec (a ≡ b) → a ≡ b
+      go (yes e) = e
+      go (no e) =
+          let z : a ≡ 1 - b = omega arith in
+          absurd (n z)
+
+  pub clash-repeat : (n : ℕ) → ((k : ℕ) → k < n → byte k ≤ 1) → Clash N d row byte n → Repeat L mask row byte n
+  clash-repeat n b c =
+      let h = many (c .from) (c .at) (c .inside) in
+      record {
+        from = c .from;
+        at = rankAt mask (c .at);
+        known = c .known;
+        asked = rank-asked mask (c .at) h;
+        index = c .index;
+        below = c .below;
+        is = c .is ∙ nbr-is (c .from) (c .at) h;
+        alike = alike _ _ (b (c .index) (c .below)) (b (c .from) (c .known)) (c .apart);
+        met = λ j r e a. go j r e (place-of mask r a);
+        few = λ k z m. came k (c .few k z m);
+      }
+    where
+      go : (j r : ℕ) → Earlier j r (c .from) (rankAt mask (c .at))
+          → (i : ℕ) × (i < length (ranksOf mask)) × (rankAt mask i ≡ r)
+          → Agrees row byte n (changeAt L r (row j)) (1 - byte j)
+      go j r e t =
+          let s = c .met j (t .0) (earlier-place mask (t .1) (rw (t .2) e)) (few j (t .0) (t .1)) in
+          record {
+            index = s .index;
+            below = s .below;
+            is = s .is ∙ nbr-is j (t .0) (t .1) ∙ ap (λ x. changeAt L x (row j)) (t .2);
+            with = s .with;
+          }
+
+      came : (k : ℕ)
+          → (j : ℕ) × (i : ℕ) × Earlier j i (c .from) (c .at) × Inside N d row j i × (row k ≡ nbr N d row j i)
+          → (j : ℕ) × (r : ℕ) × Earlier j r (c .from) (rankAt mask (c .at)) × Asked mask r
+          × (row k ≡ changeAt L r (row j))
+      came k t =
+          let h = many (t .0) (t .1) (t .3) in (
+            t .0,
+            rankAt mask (t .1),
+            earlier-rank mask (many (c .from) (c .at) (c .inside)) (t .2),
+            rank-asked mask (t .1) h,
+            t .4 ∙ nbr-is (t .0) (t .1) h,
+          )

@@ -1,0 +1,217 @@
+-- No second answer fits: neither the contract of a search, nor what is promised of its table, bytes, count and place.
+-- Assumes nothing.
+use mathlib.Core.Path.{_≡_, sym, ap, _∙_}
+use mathlib.Core.Logic.{_≢_, _⊎_, inl, inr}
+use mathlib.Core.List.{List, [], _∷_, _++_, Memᴰ·cast}
+use Prim.Native.Nat.{ℕ, zero, suc, _+_, _-_, _*_, _≤_, _<_}
+use native.Mathlib.Decide.{ℕ-discrete, decLt}
+use native.Mathlib.Omega.{arith}
+use lib.ListN.{length, getD, take, drop, take-append-drop}
+use lib.Seq.{ext-getD, getD-drop}
+use Rattle.listing.specs.Listing.{Listing, Limits, rank}
+use Rattle.flag.specs.Change.{changeAt}
+use Rattle.searching.specs.Search.{Once}
+use Rattle.searching.specs.Course.{Earlier}
+use Rattle.searching.proofs.Once.{in-at}
+use Rattle.store.specs.Rows.{rowOf, rows, flatten}
+use Rattle.store.proofs.Rows.{rows-length, rows-at, rows-flat}
+use Rattle.search.specs.declared.Searched.{Searched}
+use Rattle.search.specs.Exact.{FirstMet, Repeat, Holds, Finds}
+use Rattle.search.proofs.Outcomes.{Outcome}
+
+-- ---- the contract
+
+pub one-outcome : (m : Limits) (L : Listing) (first : List ℕ) (mask : ℕ) (table bytes : List ℕ) {r r′ : Searched}
+    {t t′ b b′ : List ℕ} → Outcome m L first mask table bytes r t b → Outcome m L first mask table bytes r′ t′ b′
+    → (r ≡ r′) × (t ≡ t′) × (b ≡ b′)
+one-outcome m L first mask table bytes o p =
+    (o .answer ∙ sym (p .answer), o .flags ∙ sym (p .flags), o .turns ∙ sym (p .turns))
+
+-- ---- which is met before which
+
+abbrev Compared : ℕ → ℕ → ℕ → ℕ → Type 0
+Compared j i p q = Earlier j i p q ⊎ (Earlier p q j i ⊎ ((j ≡ p) × (i ≡ q)))
+
+compare : (j i p q : ℕ) → Compared j i p q
+compare j i p q = go (decLt j p) (decLt p j) (decLt i q) (decLt q i)
+  where
+    go : Dec (j < p) → Dec (p < j) → Dec (i < q) → Dec (q < i) → Compared j i p q
+    go (yes a) b c d = inl (inl a)
+    go (no a) (yes b) c d = inr (inl (inl b))
+    go (no a) (no b) (yes c) d = inl (inr (omega arith, c))
+    go (no a) (no b) (no c) (yes d) = inr (inl (inr (omega arith, d)))
+    go (no a) (no b) (no c) (no d) = inr (inr (omega arith, omega arith))
+
+earlier-at : {j i p q p′ q′ : ℕ} → p ≡ p′ → q ≡ q′ → Earlier j i p q → Earlier j i p′ q′
+earlier-at e f h = rw (e, f) at h
+
+-- ---- nothing stands twice
+
+once-apart : (l : List (List ℕ)) → Once l → (j k : ℕ) → j < k → k < length l → getD l j [] ≢ getD l k []
+unfolding Once
+once-apart [] o j k h i = absurd (omega arith)
+once-apart (x ∷ l) o j zero h i = absurd (omega arith)
+once-apart (x ∷ l) o zero (suc k) h i = λ e. o .0 (Memᴰ·cast e (in-at l [] k (omega arith)))
+once-apart (x ∷ l) o (suc j) (suc k) h i = once-apart l (o .1) j k (omega arith) (omega arith)
+
+-- no two of the first n rows are the same
+abbrev Apart : ℕ → (ℕ → List ℕ) → Type 0
+Apart n row = (j k : ℕ) → j < k → k < n → row j ≢ row k
+
+rows-apart : (w : ℕ) (table : List ℕ) (n : ℕ) → Once (rows w table n) → Apart n (rowOf w table)
+rows-apart w table n o j k h i =
+    rw (rows-at w table n j [] (omega arith), rows-at w table n k [] i)
+    at (once-apart (rows w table n) o j k h (omega (arith, rows-length w table n)))
+
+apart-same : (n : ℕ) (row : ℕ → List ℕ) → Apart n row → (j k : ℕ) → j < n → k < n → row j ≡ row k → j ≡ k
+apart-same n row o j k h i e = go (decLt j k) (decLt k j)
+  where
+    go : Dec (j < k) → Dec (k < j) → j ≡ k
+    go (yes a) b = absurd (o j k a i e)
+    go (no a) (yes b) = absurd (o k j b h (sym e))
+    go (no a) (no b) = omega arith
+
+-- ---- the rows and their bytes
+
+module _ (L : Listing) (mask : ℕ) where
+  -- the kth did not come earlier in one table than in the other, where these are the same before it
+  not-earlier : (row row′ : ℕ → List ℕ) (byte byte′ : ℕ → ℕ) (k : ℕ) → ((j : ℕ) → j < k → row j ≡ row′ j)
+      → ((j : ℕ) → j < k → row j ≢ row k) → (c : FirstMet L mask row byte k) (d : FirstMet L mask row′ byte′ k)
+      → ¬ Earlier (c .from) (c .at) (d .from) (d .at)
+  not-earlier row row′ byte byte′ k e o c d h =
+      let s = d .first (c .from) (c .at) h (c .asked) in
+      o (s .index) (s .below)
+      (e (s .index) (s .below) ∙ s .is ∙ ap (changeAt L (c .at)) (sym (e (c .from) (c .earlier))) ∙ sym (c .is))
+
+  module _ (row row′ : ℕ → List ℕ) (byte byte′ : ℕ → ℕ) (n : ℕ) (o : Apart n row) (o′ : Apart n row′)
+      (f : (k : ℕ) → 0 < k → k < n → FirstMet L mask row byte k)
+      (f′ : (k : ℕ) → 0 < k → k < n → FirstMet L mask row′ byte′ k) where
+    abbrev Same : ℕ → Type 0
+    Same k = (row k ≡ row′ k) × (byte k ≡ byte′ k)
+
+    same-next : (k : ℕ) → 0 < k → k < n → ((j : ℕ) → j < k → Same j) → Same k
+    same-next k z h e = go (compare (c .from) (c .at) (d .from) (d .at))
+      where
+        c : FirstMet L mask row byte k
+        c = f k z h
+
+        d : FirstMet L mask row′ byte′ k
+        d = f′ k z h
+
+        go : Compared (c .from) (c .at) (d .from) (d .at) → Same k
+        go (inl l) =
+            absurd (not-earlier row row′ byte byte′ k (λ j i. e j i .0) (λ j i. o j k i h) c d l)
+        go (inr (inl l)) =
+            absurd (not-earlier row′ row byte′ byte k (λ j i. sym (e j i .0)) (λ j i. o′ j k i h) d c l)
+        go (inr (inr l)) =
+            let i = e (c .from) (c .earlier) in (
+              c .is ∙ ap (changeAt L (c .at)) (i .0 ∙ ap row′ (l .0)) ∙ ap (λ r. changeAt L r (row′ (d .from))) (l .1)
+                  ∙ sym (d .is),
+              c .turned ∙ ap (λ x. 1 - x) (i .1 ∙ ap byte′ (l .0)) ∙ sym (d .turned),
+            )
+
+    pub same-course : Same 0 → (m : ℕ) → m ≤ n → (k : ℕ) → k < m → Same k
+    same-course s zero h k i = absurd (omega arith)
+    same-course s (suc m) h k i = go (decLt k m) (ℕ-discrete k 0) (same-course s m (omega arith))
+      where
+        go : Dec (k < m) → Dec (k ≡ 0) → ((j : ℕ) → j < m → Same j) → Same k
+        go (yes a) b ih = ih k a
+        go (no a) (yes b) ih = rw b s
+        go (no a) (no b) ih = same-next k (omega arith) (omega arith) (λ j l. ih j (omega arith))
+
+  -- ---- the place
+
+  module _ (row : ℕ → List ℕ) (byte : ℕ → ℕ) (n : ℕ) (o : Apart n row) where
+    sooner : (p q : ℕ) → p ≤ n → q ≤ n → (c : Repeat L mask row byte p) (d : Repeat L mask row byte q)
+        → ¬ Earlier (c .from) (c .at) (d .from) (d .at)
+    sooner p q h k c d e =
+        let s = d .met (c .from) (c .at) e (c .asked) in
+        let i : s .index ≡ c .index =
+        apart-same n row o (s .index) (c .index) (omega (arith, s .below)) (omega (arith, c .below))
+        (s .is ∙ sym (c .is)) in
+        let b : byte (c .index) ≡ 1 - byte (c .from) = sym (ap byte i) ∙ s .with in
+        omega (arith, b, c .alike)
+
+    fewer : (p q : ℕ) → p ≤ n → q ≤ n → (c : Repeat L mask row byte p) (d : Repeat L mask row byte q)
+        → c .from ≡ d .from → c .at ≡ d .at → p ≤ q
+    fewer p q h k c d e a = go (decLt q p)
+      where
+        go : Dec (q < p) → p ≤ q
+        go (no l) = omega arith
+        go (yes l) =
+            let t = c .few q (omega (arith, d .known)) l in
+            let s = d .met (t .0) (t .1) (earlier-at e a (t .2)) (t .3) in
+            let i : s .index ≡ q =
+            apart-same n row o (s .index) q (omega (arith, s .below)) (omega arith) (s .is ∙ sym (t .4)) in
+            absurd (omega (arith, i, s .below))
+
+    pub same-place : (p q : ℕ) → p ≤ n → q ≤ n → Repeat L mask row byte p → Repeat L mask row byte q → p ≡ q
+    same-place p q h k c d = go (compare (c .from) (c .at) (d .from) (d .at))
+      where
+        go : Compared (c .from) (c .at) (d .from) (d .at) → p ≡ q
+        go (inl l) = absurd (sooner p q h k c d l)
+        go (inr (inl l)) = absurd (sooner q p k h d c l)
+        go (inr (inr l)) =
+            omega (arith, fewer p q h k c d (l .0) (l .1), fewer q p k h d c (sym (l .0)) (sym (l .1)))
+
+-- ---- the slices
+
+module _ {L : Listing} {first : List ℕ} {mask : ℕ} {table bytes t b t′ b′ : List ℕ} {n : ℕ}
+    (H : Holds L first mask t b table bytes n) (H′ : Holds L first mask t′ b′ table bytes n) where
+  abbrev w : ℕ
+  w = rank L + 1
+
+  same : (k : ℕ) → k < n → (rowOf w t k ≡ rowOf w t′ k) × (getD b k 0 ≡ getD b′ k 0)
+  same k h =
+      let s = H .start (omega arith) in
+      let s′ = H′ .start (omega arith) in
+      same-course L mask (rowOf w t) (rowOf w t′) (λ i. getD b i 0) (λ i. getD b′ i 0) n
+      (rows-apart w t n (H .once)) (rows-apart w t′ n (H′ .once)) (H .came) (H′ .came)
+      (s .0 ∙ sym (s′ .0), s .1 ∙ sym (s′ .1)) n (omega arith) k h
+
+  same-rows : rows w t n ≡ rows w t′ n
+  same-rows =
+      let l = rows-length w t n in
+      ext-getD [] (rows w t n) (rows w t′ n) (l ∙ sym (rows-length w t′ n))
+      (λ k h.
+      let i : k < n = omega arith in
+      rows-at w t n k [] i ∙ same k i .0 ∙ sym (rows-at w t′ n k [] i))
+
+  same-bytes : (k : ℕ) → k < length b → getD b k 0 ≡ getD b′ k 0
+  same-bytes k h = go (decLt k n)
+    where
+      go : Dec (k < n) → getD b k 0 ≡ getD b′ k 0
+      go (yes i) = same k i .1
+      go (no i) =
+          let z : n + (k - n) ≡ k = omega arith in
+          rw z at (sym (getD-drop n b (k - n) 0) ∙ ap (λ l. getD l (k - n) 0) (H .bytes-past ∙ sym (H′ .bytes-past))
+          ∙ getD-drop n b′ (k - n) 0)
+
+  -- The table and the bytes that hold n flags are determined, number by number.
+  pub one-table : (t ≡ t′) × (b ≡ b′)
+  one-table = (
+    sym (take-append-drop (n * w) t)
+        ∙ ap (λ l. l ++ drop (n * w) t) (sym (rows-flat w t n) ∙ ap flatten same-rows ∙ rows-flat w t′ n)
+        ∙ ap (λ l. take (n * w) t′ ++ l) (H .past ∙ sym (H′ .past))
+        ∙ take-append-drop (n * w) t′,
+    ext-getD 0 b b′ (H .bytes-long ∙ sym (H′ .bytes-long)) same-bytes,
+  )
+
+-- The count and the place of an answer are determined by the slices.
+pub one-count : {L : Listing} {first : List ℕ} {mask : ℕ} {table bytes t b : List ℕ} {r r′ : Searched}
+    → Holds L first mask t b table bytes (r .count) → Finds L first mask t b r → Finds L first mask t b r′
+    → (r .count ≡ r′ .count) × (r .place ≡ r′ .place)
+one-count {L} {first} {mask} {table} {bytes} {t} {b} {r} {r′} H F F′ =
+    (many, go (ℕ-discrete (r .place) 0) (ℕ-discrete (r′ .place) 0))
+  where
+    many : r .count ≡ r′ .count
+    many = omega (arith, F .count .1 (r′ .count) (F′ .count .0), F′ .count .1 (r .count) (F .count .0))
+
+    go : Dec (r .place ≡ 0) → Dec (r′ .place ≡ 0) → r .place ≡ r′ .place
+    go (yes a) (yes c) = a ∙ sym c
+    go (yes a) (no c) = absurd (omega (arith, a, F .place .1 (F′ .place .0 (omega arith))))
+    go (no a) (yes c) = absurd (omega (arith, c, F′ .place .1 (F .place .0 (omega arith))))
+    go (no a) (no c) =
+        same-place L mask (rowOf (rank L + 1) t) (λ k. getD b k 0) (r .count)
+        (rows-apart (rank L + 1) t (r .count) (H .once)) (r .place) (r′ .place) (F .placed)
+        (omega (arith, F′ .placed, many)) (F .event (omega arith)) (F′ .event (omega arith))

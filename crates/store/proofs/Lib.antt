@@ -1,0 +1,4 @@
+pub mod Rows
+pub mod Hash
+pub mod Chains
+pub mod Meets
