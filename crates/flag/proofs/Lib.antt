@@ -6,4 +6,3 @@ pub mod Changes
 pub mod ChangeAnswers
 pub mod EventRow
 pub mod EventsTaken
-pub mod Starred

@@ -9,8 +9,8 @@ use native.Mathlib.Omega.{arith}
 use borrow.Author.Tests.{le-ltb, ltb-false, not-false}
 use lib.Dec.{ltb}
 use Rattle.listing.specs.declared.Answer.{Answer}
-use Rattle.listing.specs.Answers.{plain, on, _orElse_, ifZero}
-use Rattle.listing.proofs.Answers.{or-fine, or-stop}
+use Rattle.listing.specs.Answers.{plain, on, _orElse_}
+use Rattle.listing.proofs.Answers.{or-fine, or-stop, or-assoc}
 use Rattle.promises.specs.Rules.{Rule, rules, FirstBroken}
 
 -- ---- a test that answers 0 exactly if a rule holds, and else one of the rule's numbers
@@ -33,14 +33,6 @@ broken-last {low} {high} {P} {t} T = go (zero-or (t .no))
     go (inl z) = inr (T .exact .0 z, z)
     go (inr s) = let n = T .numbers s in inl (λ p. s (T .exact .1 p), n .0, n .1)
 
-pub or-assoc : (x y z : Answer) → (x orElse y) orElse z ≡ x orElse (y orElse z)
-unfolding _orElse_
-or-assoc x y z = go (x .no) refl
-  where
-    go : (n : ℕ) → x .no ≡ n → ifZero (ifZero n y x .no) z (ifZero n y x) ≡ ifZero n (ifZero (y .no) z y) x
-    go zero e = refl
-    go (suc n) e = rw e
-
 module _ (l : List Rule) {low high : ℕ} {P : Type 0} {t : Answer} (T : Tests low high P t) (y : Answer) where
   -- a rule before others
   pub broken-step : (P → FirstBroken l (y .no)) → FirstBroken (rules low high P ∷ l) ((t orElse y) .no)
@@ -54,7 +46,7 @@ module _ (l : List Rule) {low high : ℕ} {P : Type 0} {t : Answer} (T : Tests l
 -- the same where more follows after a part of the row
 pub broken-inner : (l : List Rule) {low high : ℕ} {P : Type 0} {t : Answer} → Tests low high P t → (y z : Answer)
     → (P → FirstBroken l ((y orElse z) .no)) → FirstBroken (rules low high P ∷ l) (((t orElse y) orElse z) .no)
-broken-inner l {t = t} T y z r = rw (or-assoc t y z) (broken-step l T (y orElse z) r)
+broken-inner l {t = t} T y z r = rw (← or-assoc t y z) (broken-step l T (y orElse z) r)
 
 -- ---- one number
 

@@ -41,7 +41,7 @@ closedIn (changed L f r c) = c .answer
 
 last : map answered table ≡ table → answered (tested leakingBox fine (refusal loneBetween 2 0 4 0))
     ≡ tested leakingBox fine (refusal loneBetween 2 0 4 0)
-last e = ap (λ rows. getD rows 17 (tested leakingBox fine fine)) e
+last e = ap (λ rows. getD rows 18 (tested leakingBox fine fine)) e
 
 -- The cell: is_valid accepts it, and closed says of edge 0 that only one face lies between it and the cell.
 pub let-through : (isValid limits leakingBox ≡ fine) × (closed limits leakingBox ≡ refusal loneBetween 2 0 4 0)

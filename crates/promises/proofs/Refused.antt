@@ -2,7 +2,7 @@
 -- Assumes nothing.
 use mathlib.Core.Path.{_≡_, refl, sym, ap, _∙_}
 use mathlib.Core.Logic.{_↔_, _⊎_, inl, inr}
-use mathlib.Core.Bool.{Bool, true, false, true≢false, not, _&&_, _||_}
+use mathlib.Core.Bool.{Bool, true, false, not, _&&_, _||_}
 use mathlib.Core.List.{List, [], _∷_, _++_}
 use Prim.Native.Nat.{ℕ, zero, suc, _-_, _*_, _≤_, _<_}
 use native.Mathlib.Omega.{arith}
@@ -13,7 +13,8 @@ use Rattle.listing.specs.declared.Answer.{Answer}
 use Rattle.listing.specs.Answers.{plain, fine, on, ifZero, _orElse_}
 use Rattle.listing.specs.Listing.{Listing, Limits, rank}
 use Rattle.listing.specs.Shape.{fills, elements, shapeTest, Shaped}
-use Rattle.listing.proofs.ShapeExact.{shape-exact, shape-0, shape-6}
+use Rattle.listing.proofs.Answers.{or-assoc}
+use Rattle.listing.proofs.ShapeExact.{fills-exact}
 use Rattle.valid.specs.Bounds.{Bounded, boundedTest}
 use Rattle.valid.specs.Incidence.{Incident, incidencesTest}
 use Rattle.valid.specs.Ascent.{Ascends, ascentTest}
@@ -24,7 +25,7 @@ use Rattle.valid.proofs.BoundsExact.{bounded-exact}
 use Rattle.valid.proofs.IncidenceExact.{incidences-exact}
 use Rattle.valid.proofs.AscentExact.{ascent-exact, ascends-distinct}
 use Rattle.valid.proofs.DyadicExact.{dyadic-counts, dyadic-exact}
-use Rattle.valid.proofs.Sequences.{and-true}
+use Rattle.valid.proofs.Sequences.{and-true, or-none}
 use Rattle.closure.specs.Result.{combCase, resultOf}
 use Rattle.product.specs.Outcome.{sizeTest, productTest}
 use Rattle.flag.specs.Flags.{flagTest, startTest, IsFlag}
@@ -33,7 +34,7 @@ use Rattle.flag.proofs.FlagExact.{flag-exact}
 use Rattle.promises.specs.Rules.{Rule, rules, rule, FirstBroken, Filled, shapeRules, boundedRule, incidentRule}
 use Rattle.promises.specs.Rules.{ascentRule, belowTopRule, upToTopRule, flagRule, changeRules, productRules}
 use Rattle.promises.specs.Rules.{boundedRules, incidentRules, dyadicRules, validRules, closedRules}
-use Rattle.promises.proofs.Broken.{Tests, or-assoc, broken-last, broken-step, broken-inner}
+use Rattle.promises.proofs.Broken.{Tests, broken-last, broken-step, broken-inner}
 use Rattle.promises.proofs.Broken.{tests-on, tests-not, tests-over}
 use Rattle.promises.proofs.Numbers.{bounded-numbers, incidence-numbers, ascent-numbers, dyadic-numbers}
 
@@ -60,38 +61,11 @@ module _ (m : Limits) (L : Listing) where
       (on (not (eqb (length (L .ends)) (2 * elements L))) (plain 4))
   ends-tested = tests-not (eqb (length (L .ends)) (2 * elements L)) 4 (omega arith) (eqb-true _ _) (eq-eqb _ _)
 
-  module _ (h1 : 0 < length (L .counts)) (h2 : length (L .counts) ≤ m .ranks) (h3 : elements L ≤ m .elements)
-      (h4 : length (L .ends) ≡ 2 * elements L) (h5 : length (L .inc) ≤ m .incidences) where
-    some : length (L .counts) ≡ 0 → ⊥
-    some e = omega arith
-
-    shaped-of : Filled L → Shaped m L
-    shaped-of f = record {
-      some-rank = h1;
-      few-ranks = h2;
-      few-elements = h3;
-      two-ends-each = h4;
-      few-incidences = h5;
-      rising = f .rising;
-      full = f .full;
-    }
-
-    filled : fills 0 (L .ends) (length (L .inc)) ≡ true → Filled L
-    filled e =
-        let s = shape-exact m L .0 (ap (λ (a : Answer). a .no) (shape-0 m L some h2 h3 h4 h5 e)) in
-        record { rising = s .rising; full = s .full }
-
-    fills-from : Filled L → (b : Bool) → fills 0 (L .ends) (length (L .inc)) ≡ b → b ≡ true
-    fills-from f true e = refl
-    fills-from f false e =
-        let z = shape-exact m L .1 (shaped-of f) in
-        let n = ap (λ (a : Answer). a .no) (shape-6 m L some h2 h3 h4 h5 e) in
-        absurd (omega arith)
-
-    fill-tested : Tests 6 6 (Filled L) (on (not (fills 0 (L .ends) (length (L .inc)))) (plain 6))
-    fill-tested =
-        tests-not (fills 0 (L .ends) (length (L .inc))) 6 (omega arith) filled
-        (λ f. fills-from f (fills 0 (L .ends) (length (L .inc))) refl)
+  fill-tested : Tests 6 6 (Filled L) (on (not (fills 0 (L .ends) (length (L .inc)))) (plain 6))
+  fill-tested =
+      tests-not (fills 0 (L .ends) (length (L .inc))) 6 (omega arith)
+      (λ e. let p = fills-exact (L .ends) (length (L .inc)) .0 e in record { rising = p .0; full = p .1 })
+      (λ f. fills-exact (L .ends) (length (L .inc)) .1 (f .rising, f .full))
 
   -- The shape tests, and others after them.
   pub shape-broken : (l : List Rule) (y : Answer) → (Shaped m L → FirstBroken l (y .no))
@@ -103,7 +77,15 @@ module _ (m : Limits) (L : Listing) where
       broken-inner _ (tests-over 3 (omega arith) (m .elements) (elements L)) _ y (λ h3.
       broken-inner _ ends-tested _ y (λ h4.
       broken-inner _ (tests-over 5 (omega arith) (m .incidences) (length (L .inc))) _ y (λ h5.
-      broken-step l (fill-tested h1 h2 h3 h4 h5) y (λ f. r (shaped-of h1 h2 h3 h4 h5 f)))))))
+      broken-step l fill-tested y (λ f. r (record {
+        some-rank = h1;
+        few-ranks = h2;
+        few-elements = h3;
+        two-ends-each = h4;
+        few-incidences = h5;
+        rising = f .rising;
+        full = f .full;
+      })))))))
 
   pub shape-alone : FirstBroken (shapeRules m L) (shapeTest m L .no)
   unfolding FirstBroken
@@ -157,7 +139,7 @@ module _ (m : Limits) (L : Listing) where
       → FirstBroken (closedRules m L ++ l) ((closed m L orElse y) .no)
   unfolding closed
   closed-then l y r =
-      rw (or-assoc (shapeTest m L) _ y)
+      rw (← or-assoc (shapeTest m L) _ y)
       (shape-broken _ _ (λ S. broken-inner _ bounded-tested _ y (λ B. broken-inner _ incident-tested _ y (λ I.
       broken-inner _ ascent-tested _ y (λ A. broken-step l (diamond-tested I A) y (λ D. r (record {
         shaped = S;
@@ -179,7 +161,7 @@ module _ (m : Limits) (L : Listing) (f : List ℕ) where
       → FirstBroken (closedRules m L ++ flagRule m L f ∷ l) ((startTest m L f orElse y) .no)
   unfolding startTest
   start-then l y r =
-      rw (or-assoc (closed m L) _ y)
+      rw (← or-assoc (closed m L) _ y)
       (closed-then m L _ _ (λ C. broken-step l
       (tests-not (flagTest L f) 20 (omega arith) (flag-exact L f .0) (flag-exact L f .1)) y (r C)))
 
@@ -191,10 +173,6 @@ module _ (m : Limits) (L : Listing) (f : List ℕ) where
       (λ h. rw (lt-ltb 0 r (h .0), lt-ltb r (rank L) (h .1)))))
 
 -- ---- products
-
-or-none : (a b : Bool) → a || b ≡ false → (a ≡ false) × (b ≡ false)
-or-none true b e = absurd (true≢false e)
-or-none false b e = (refl, e)
 
 module _ (m : Limits) (min max : Bool) (A B : Listing) (c e i : ℕ) where
   room-tested : (R : Listing) → Tests 36 36

@@ -3,6 +3,7 @@
 -- square        vertices 0 to 3 with the edges {0,1}, {2,3}, {0,2}, {1,3}
 -- otherSquare   the same with the edges {0,2}, {1,2}, {0,3}, {1,3}
 -- fourOnTop     four vertices under the top
+-- threePyramid  the duopyramid of three vertices under a top with a point: an edge with three vertices
 -- leakingBox    the insurer's cell: a box whose edge 0 is doubled as edge 12, each of the two in one face
 -- Row           a row of the table: what is tried, and what is answered
 -- tested        a listing; what is_valid answers, what closed answers
@@ -19,8 +20,8 @@ use Rattle.listing.specs.declared.Answer.{Answer}
 use Rattle.listing.specs.Refusals.{noRanks, notBounded, subNotBack, thirdBetween, loneBetween, combOfPoint}
 use Rattle.listing.specs.Answers.{refusal, plain, fine}
 use Rattle.listing.specs.Listing.{Listing, listing, limits}
+use Rattle.listing.specs.Cells.{nullitope, point, dyad, triangle, nothing, twoMinimal, threeOnTop, oneOnTop, struck}
 use Rattle.valid.specs.Tests.{isValid, closed}
-use Rattle.valid.specs.Cells.{nullitope, point, dyad, triangle, nothing, twoMinimal, threeOnTop, oneOnTop, struck}
 use Rattle.closure.specs.Result.{resultOf}
 use Rattle.product.specs.Outcome.{productTest}
 use Rattle.flag.specs.declared.Changed.{Changed}
@@ -45,6 +46,13 @@ fourOnTop =
     listing (1 ∷ 4 ∷ 1 ∷ [])
     (0 ∷ 4 ∷ 5 ∷ 6 ∷ 7 ∷ 8 ∷ 9 ∷ 10 ∷ 11 ∷ 12 ∷ 16 ∷ 16 ∷ [])
     (0 ∷ 1 ∷ 2 ∷ 3 ∷ 0 ∷ 0 ∷ 0 ∷ 0 ∷ 0 ∷ 0 ∷ 0 ∷ 0 ∷ 0 ∷ 1 ∷ 2 ∷ 3 ∷ [])
+
+abbrev pub threePyramid : Listing
+threePyramid =
+    listing (1 ∷ 4 ∷ 4 ∷ 1 ∷ [])
+    (0 ∷ 4 ∷ 5 ∷ 7 ∷ 8 ∷ 10 ∷ 11 ∷ 13 ∷ 14 ∷ 17 ∷ 20 ∷ 21 ∷ 23 ∷ 24 ∷ 26 ∷ 27 ∷ 29 ∷ 30 ∷ 34 ∷ 34 ∷ [])
+    (0 ∷ 1 ∷ 2 ∷ 3 ∷ 0 ∷ 0 ∷ 1 ∷ 0 ∷ 0 ∷ 2 ∷ 0 ∷ 0 ∷ 3 ∷ 0 ∷ 1 ∷ 2 ∷ 3 ∷
+    0 ∷ 1 ∷ 2 ∷ 0 ∷ 0 ∷ 3 ∷ 0 ∷ 1 ∷ 3 ∷ 0 ∷ 2 ∷ 3 ∷ 0 ∷ 0 ∷ 1 ∷ 2 ∷ 3 ∷ [])
 
 abbrev pub leakingBox : Listing
 leakingBox =
@@ -91,6 +99,7 @@ table =
     built true false nullitope triangle nullitope fine fine ∷
     built false true dyad dyad otherSquare fine fine ∷
     built true true dyad dyad fourOnTop fine (refusal thirdBetween 0 0 2 0) ∷
+    built false false threeOnTop point threePyramid (refusal thirdBetween 0 0 2 0) (refusal thirdBetween 0 0 2 0) ∷
     refused true true point point (plain combOfPoint) ∷
     changed triangle (0 ∷ 0 ∷ 0 ∷ 0 ∷ []) 1 (to (0 ∷ 1 ∷ 0 ∷ 0 ∷ [])) ∷
     changed triangle (0 ∷ 0 ∷ 0 ∷ 0 ∷ []) 2 (to (0 ∷ 0 ∷ 1 ∷ 0 ∷ [])) ∷
