@@ -7,4 +7,3 @@ pub mod Valid
 pub mod Sums
 pub mod Sizes
 pub mod Pairs
-pub mod Starred

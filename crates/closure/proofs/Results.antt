@@ -2,20 +2,29 @@
 -- Assumes nothing.
 use mathlib.Core.Path.{_≡_, refl, ap}
 use mathlib.Core.Logic.{_≢_, _↔_}
-use mathlib.Core.Bool.{Bool, true, false, true≢false, _&&_, _||_, or-comm}
+use mathlib.Core.Bool.{Bool, true, false, _&&_, _||_, or-comm}
 use Prim.Native.Nat.{ℕ, _+_, _-_, _≤_}
 use native.Mathlib.Omega.{arith}
 use borrow.Author.Tests.{eqb-false, ne-eqb}
 use lib.Dec.{eqb}
+use Rattle.order.specs.Sums.{sum}
 use Rattle.order.specs.Ends.{need}
-use Rattle.listing.specs.Listing.{Listing, limits, rank}
+use Rattle.listing.specs.Answers.{_orElse_, firstIn, firstFor, firstOf}
+use Rattle.listing.specs.Listing.{Listing, limits, rank, before, entries}
+use Rattle.listing.specs.Shape.{fills, shapeTest}
+use Rattle.listing.specs.Cells.{nullitope}
+use Rattle.valid.specs.Bounds.{boundedTest}
+use Rattle.valid.specs.Incidence.{alongTest, elementTest, incidencesTest}
+use Rattle.valid.specs.Ascent.{climbs, elementAscent, ascentTest}
+use Rattle.valid.specs.Dyadic.{dyadicTest}
+use Rattle.valid.specs.Tests.{closed}
 use Rattle.valid.specs.Closed.{Closed}
+use Rattle.valid.proofs.Sequences.{or-none}
 use Rattle.valid.proofs.ClosedExact.{closed-exact}
 use Rattle.pairing.specs.Trimmed.{bit}
-use Rattle.pairing.specs.Product.{productOf, nullitope}
+use Rattle.pairing.specs.Product.{productOf}
 use Rattle.pairing.proofs.Listings.{productOf-rank}
 use Rattle.closure.specs.Result.{first, second, nullCase, combCase, resultOf}
-use Rattle.closure.specs.Starred.{answered}
 
 module _ (min max : Bool) (A B : Listing) where
   pub result-product : nullCase min max A B ≡ false
@@ -27,21 +36,18 @@ module _ (min max : Bool) (A B : Listing) where
   unfolding resultOf
   result-null e = rw (e, resultOf)
 
--- the nullitope is closed, by computing (`answered` opens all that the tests are computed with)
+-- the nullitope is closed, by computing
 pub nullitope-closed : Closed limits nullitope
-unfolding answered
+unfolding sum before entries fills shapeTest _orElse_ firstIn firstFor firstOf boundedTest alongTest elementTest
+    incidencesTest climbs elementAscent ascentTest dyadicTest closed
 nullitope-closed = closed-exact limits nullitope .0 refl
 
 -- ---- ranks
 
-none : (a b : Bool) → a || b ≡ false → (a ≡ false) × (b ≡ false)
-none true b e = absurd (true≢false e)
-none false b e = (refl, e)
-
 -- neither factor has rank n
 neither : (n : ℕ) (A B : Listing) → (eqb (rank A) n || eqb (rank B) n ≡ false) ↔ ((rank A ≢ n) × (rank B ≢ n))
 neither n A B = (
-  λ e. let p = none _ _ e in (eqb-false (rank A) n (p .0), eqb-false (rank B) n (p .1)),
+  λ e. let p = or-none _ _ e in (eqb-false (rank A) n (p .0), eqb-false (rank B) n (p .1)),
   λ p. rw (ne-eqb (rank A) n (p .0), ne-eqb (rank B) n (p .1)),
 )
 

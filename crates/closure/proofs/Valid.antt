@@ -1,24 +1,21 @@
--- Products of factors that is_valid accepts pass tests 1 and 2. They need not pass test 3.
+-- Products of factors that is_valid accepts pass tests 1 and 2.
 -- Assumes nothing.
 use mathlib.Core.Path.{_≡_, refl}
 use mathlib.Core.Bool.{Bool, true, false}
 use Prim.Native.Nat.{_≤_}
 use Rattle.order.specs.Ends.{need}
-use Rattle.listing.specs.Refusals.{thirdBetween}
-use Rattle.listing.specs.Listing.{Listing, Limits, limits, rank}
+use Rattle.listing.specs.Listing.{Listing, Limits, rank}
 use Rattle.listing.specs.Layers.{layers}
 use Rattle.valid.specs.Bounds.{boundedTest, Bounded}
 use Rattle.valid.specs.Incidence.{incidencesTest, Incident}
 use Rattle.valid.specs.Tests.{isValid}
-use Rattle.valid.specs.Cells.{point, threeOnTop}
 use Rattle.valid.proofs.BoundsExact.{bounded-exact}
 use Rattle.valid.proofs.IncidenceExact.{incidences-exact}
 use Rattle.valid.proofs.ClosedExact.{valid-exact}
 use Rattle.pairing.specs.Sound.{Sound}
 use Rattle.pairing.specs.Product.{productOf}
 use Rattle.pairing.proofs.Listings.{productOf-sound, productOf-frame}
-use Rattle.closure.specs.Result.{first, second, nullCase, combCase, resultOf, duopyramidOf}
-use Rattle.closure.specs.Starred.{answered}
+use Rattle.closure.specs.Result.{first, second, nullCase, combCase, resultOf}
 use Rattle.closure.proofs.Cells.{incident-sound, framed, frame-bounded, frame-incident}
 use Rattle.closure.proofs.Alike.{productOf-derived}
 use Rattle.closure.proofs.Results.{result-product, result-null, nullitope-closed, needed, both}
@@ -72,10 +69,3 @@ pub product-tests : (min max : Bool) (m : Limits) (A B : Listing) → isValid m 
 product-tests min max m A B vA vB c =
     let t = product-framed min max m A B vA vB c in
     (bounded-exact (resultOf min max A B) .1 (t .0), incidences-exact (resultOf min max A B) .1 (t .1))
-
--- Test 3 they need not pass: is_valid accepts the listing with three vertices under the top, and the point; in their
--- duopyramid three elements lie between two others.
-pub diamond-not-kept : (isValid limits threeOnTop .no ≡ 0) × (isValid limits point .no ≡ 0)
-    × (isValid limits (duopyramidOf threeOnTop point) .no ≡ thirdBetween)
-unfolding answered
-diamond-not-kept = (refl, refl, refl)

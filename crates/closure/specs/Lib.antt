@@ -2,4 +2,3 @@ pub mod Derived
 pub mod Result
 pub mod Pairs
 pub mod Sizes
-pub mod Starred

@@ -13,7 +13,8 @@ use mathlib.Core.Bool.{Bool, true, false, not, _&&_, _||_}
 use Prim.Native.Nat.{ℕ, _+_, _≤_}
 use lib.Dec.{eqb}
 use Rattle.listing.specs.Listing.{Listing, rank}
-use Rattle.pairing.specs.Product.{productOf, nullitope}
+use Rattle.listing.specs.Cells.{nullitope}
+use Rattle.pairing.specs.Product.{productOf}
 
 abbrev pub first : Bool → Listing → Listing → Listing
 first true A B = A

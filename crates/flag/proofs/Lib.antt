@@ -6,5 +6,4 @@ pub mod Changes
 pub mod ChangeAnswers
 pub mod EventRow
 pub mod EventsTaken
-pub mod Starred
 pub mod ChangeCases

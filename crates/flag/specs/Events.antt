@@ -9,6 +9,9 @@
 -- eventsOf   the events in their order
 -- taken      the answers of n calls of next_event, one after another, the first with the cursor at a place
 -- saidOf     an event as two numbers: kind 0 nothing, 1 a flag, 2 not orientable; and the flag
+-- Stepped    one call of next_event: with the cursor at a place it says e, and leaves the cursor at another
+-- SaidStep   the same where the event is said as numbers
+use mathlib.Core.Path.{_≡_}
 use mathlib.Core.Bool.{Bool, cond, _&&_}
 use mathlib.Core.List.{List, [], _∷_, _++_}
 use Prim.Native.Nat.{ℕ, zero, suc, _+_, _-_}
@@ -52,3 +55,9 @@ unfoldable pub saidOf : Event → Said
 saidOf (Flag i) = record { kind = 1; flag = i }
 saidOf NonOrientable = record { kind = 2; flag = 0 }
 saidOf Nothing = record { kind = 0; flag = 0 }
+
+abbrev pub Stepped : ℕ → ℕ → ℕ → ℕ → Event → Type 0
+Stepped at count place at′ e = (e ≡ eventAt at count place) × (at′ ≡ nextAt at count place)
+
+abbrev pub SaidStep : ℕ → ℕ → ℕ → ℕ → Said → Type 0
+SaidStep at count place at′ s = (s ≡ saidOf (eventAt at count place)) × (at′ ≡ nextAt at count place)

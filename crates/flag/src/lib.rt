@@ -9,7 +9,7 @@ ghost use mathlib.Core.Path.{_≡_};
 ghost use Rattle.listing.specs.Listing.{listing, limits};
 ghost use Rattle.flag.specs.Change.{changeTest, changedOf};
 ghost use Rattle.flag.specs.Orientations.{byteOf, ofByte, flipOf, signOf};
-ghost use Rattle.flag.specs.Events.{within, eventAt, events, nextAt, saidOf};
+ghost use Rattle.flag.specs.Events.{within, eventAt, events, nextAt, saidOf, Stepped};
 
 // What a change answers: a refusal or 0, and the new flag, 0 above the top.
 #[repr(C)]
@@ -114,7 +114,7 @@ pub struct Said {
     pub flag: u16,
 }
 
-// How far the events of a search have been taken.
+// How far the events of a search have been taken: 0 at first.
 #[repr(C)]
 pub struct Cursor {
     pub at: u32,
@@ -178,8 +178,7 @@ pub fn next_at(at: u32, count: u16, place: u16) -> u32
 
 // The next event; the cursor goes on to the place after it, and stays past the last.
 pub fn next_event(c: &mut Cursor, count: u16, place: u16) -> Event
-    ensures { λ e. ⌜ (e ≡ eventAt (now (c .entry) .at) count place)
-        × (now (c .exit) .at ≡ nextAt (now (c .entry) .at) count place) ⌝ }
+    ensures { λ e. ⌜ Stepped (now (c .entry) .at) count place (now (c .exit) .at) e ⌝ }
 {
     let at = c.at;
     c.at = next_at(at, count, place);

@@ -1,5 +1,5 @@
-// The C boundary: each function passes its numbers and slices on to the entry of the same name. A slice crosses as a
-// pointer and a length. Nothing is decided here.
+// The C boundary: each function passes its numbers and slices on to an entry, of the same name but for the class, the
+// sign and the next event, which cross as numbers. A slice crosses as a pointer and a length. Nothing is decided here.
 use flag::Changed;
 use flag::Cursor;
 use flag::Said;
@@ -15,7 +15,7 @@ ghost use Rattle.listing.specs.Listing.{listing, limits};
 ghost use Rattle.valid.specs.Tests as tests;
 ghost use Rattle.product.specs.Outcome.{Outcome};
 ghost use Rattle.flag.specs.Change.{changedOf};
-ghost use Rattle.flag.specs.Events.{eventAt, nextAt, saidOf};
+ghost use Rattle.flag.specs.Events.{SaidStep};
 ghost use Rattle.flag.specs.Orientations.{ofByte, signOf};
 ghost use Rattle.search.specs.Outcome.{searchedBy, tableAfter, bytesAfter};
 
@@ -140,8 +140,7 @@ pub extern "C" fn fd_sign(orientation: u8) -> f64
 // The next event as two numbers; the cursor goes on, and stays past the last.
 #[no_mangle]
 pub extern "C" fn fd_next_event(c: &mut Cursor, count: u16, place: u16) -> Said
-    ensures { λ s. ⌜ (s ≡ saidOf (eventAt (now (c .entry) .at) count place))
-        × (now (c .exit) .at ≡ nextAt (now (c .entry) .at) count place) ⌝ }
+    ensures { λ s. ⌜ SaidStep (now (c .entry) .at) count place (now (c .exit) .at) s ⌝ }
 {
     flag::numbers(flag::next_event(c, count, place))
 }

@@ -15,7 +15,7 @@ use lib.Seq.{drop-cons}
 use Rattle.listing.specs.declared.Answer.{Answer}
 use Rattle.listing.specs.Answers.{plain, fine, _orElse_}
 use Rattle.listing.specs.Refusals.{noRanks, overRanks, overElements, wrongEnds, overIncidences, fallingEnds}
-use Rattle.listing.specs.Listing.{Listing, Limits, Ends}
+use Rattle.listing.specs.Listing.{Listing, Limits, start, Ends}
 use Rattle.listing.specs.Shape.{fills, elements, shapeTest, Shaped}
 use Rattle.listing.proofs.Answers.{on-no, on-or-no}
 
@@ -93,6 +93,11 @@ unfolding fills
 rising-fills from [] n up e = eq-eqb from n e
 rising-fills from (x ∷ l) n up e =
     rw (le-leb from x (up 0 (omega arith))) (rising-fills x l n (λ k h. up (suc k) (omega arith)) e)
+
+-- the ends do not fall, begin at 0 or later, and come to n
+pub fills-exact : (l : List ℕ) (n : ℕ) → fills 0 l n ≡ true
+    ↔ (((k : ℕ) → k < length l → start l k ≤ getD l k 0) × (start l (length l) ≡ n))
+fills-exact l n = (λ e. (fills-rising 0 l n e, fills-full 0 l n e), λ p. rising-fills 0 l n (p .0) (p .1))
 
 -- ---- exactness
 

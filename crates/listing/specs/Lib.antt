@@ -5,3 +5,4 @@ pub mod Shape
 pub mod Counts
 pub mod Layers
 pub mod Written
+pub mod Cells

@@ -6,11 +6,9 @@
 -- UsedPair    a pair of elements in use
 -- at          where a pair of elements in use stands in the product
 -- productOf   the product of two listings, written out with its derived sups
--- nullitope   the listing of one element
 use mathlib.Core.Bool.{Bool}
-use mathlib.Core.List.{[], _∷_}
 use Prim.Native.Nat.{_+_, _-_}
-use Rattle.listing.specs.Listing.{Listing, listing}
+use Rattle.listing.specs.Listing.{Listing}
 use Rattle.listing.specs.Layers.{Layers, layers, derived}
 use Rattle.listing.specs.Written.{written}
 use Rattle.pairing.specs.Trimmed.{bit, trimmed, Used}
@@ -37,6 +35,3 @@ unfoldable pub productOf : Bool → Bool → Listing → Listing → Listing
 productOf min max A B =
     let P = product min max (layers A) (layers B) in
     written P (derived P)
-
-abbrev pub nullitope : Listing
-nullitope = listing (1 ∷ []) (0 ∷ 0 ∷ []) []

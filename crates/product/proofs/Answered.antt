@@ -62,7 +62,7 @@ module _ (min max : Bool) (A B : Listing) (counts ends inc counts′ ends′ inc
   abbrev test : Answer
   test = productTest limits min max A B (length counts) (length ends) (length inc)
 
-  answers : r .answer ≡ test
+  pub answers : r .answer ≡ test
   answers = answer-is test R r (o .answer)
 
   -- ---- refused
@@ -98,12 +98,13 @@ module _ (min max : Bool) (A B : Listing) (counts ends inc counts′ ends′ inc
         let i = front (R .inc) inc (ap (λ (b : Built). b .inc) e) (o .inc-after ∙ w (R .inc) inc) in
         λ t. listing (c t) (n t) (i t)
 
-    shaped : Shaped limits R
-    shaped =
+    -- its shape is good
+    pub answered-shaped : Shaped limits R
+    answered-shaped =
         let p = chain-passed limits min max A B _ _ _ (no-of answers z) in
         result-shaped min max A B (p .0) (p .1) (p .3)
 
     -- Of two closed factors, high enough, an answered product has written a closed listing.
     pub answered-closed : Closed limits A → Closed limits B → HighEnough min max (rank A) (rank B)
         → Closed limits prefix
-    answered-closed cA cB h = rw answered-result (four-closed min max limits A B cA cB h shaped)
+    answered-closed cA cB h = rw answered-result (four-closed min max limits A B cA cB h answered-shaped)

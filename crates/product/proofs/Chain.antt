@@ -10,9 +10,10 @@ use Rattle.listing.specs.declared.Answer.{Answer}
 use Rattle.listing.specs.Refusals.{combOfPoint}
 use Rattle.listing.specs.Answers.{plain, _orElse_}
 use Rattle.listing.specs.Listing.{Listing, Limits, limits}
-use Rattle.listing.proofs.Answers.{or-fine, or-stop, or-no, on-or-no, no-of}
+use Rattle.listing.specs.Cells.{nullitope}
+use Rattle.listing.proofs.Answers.{or-fine, or-stop, or-assoc, or-no, on-or-no, no-of}
 use Rattle.valid.specs.Tests.{isValid}
-use Rattle.pairing.specs.Product.{productOf, nullitope}
+use Rattle.pairing.specs.Product.{productOf}
 use Rattle.closure.specs.Result.{nullCase, combCase, resultOf}
 use Rattle.closure.proofs.Results.{result-product, result-null}
 use Rattle.product.specs.declared.Built.{Built}
@@ -22,15 +23,6 @@ use Rattle.product.proofs.Tests.{Passed, factors-valid, sizes-passed}
 use Rattle.product.proofs.Made.{answer-is}
 
 -- ---- which test decides
-
-or-assoc : (x y z : Answer) → x orElse (y orElse z) ≡ (x orElse y) orElse z
-or-assoc x y z = go (x .no) refl
-  where
-    go : (n : ℕ) → x .no ≡ n → x orElse (y orElse z) ≡ (x orElse y) orElse z
-    go zero e = or-fine x _ e ∙ sym (ap (λ w. w orElse z) (or-fine x y e))
-    go (suc n) e =
-        let h : x .no ≡ 0 → ⊥ = λ w. omega arith in
-        or-stop x _ h ∙ sym (ap (λ w. w orElse z) (or-stop x y h) ∙ or-stop x z h)
 
 module _ (m : Limits) (min max : Bool) (A B : Listing) (c e i : ℕ) where
   chain : productTest m min max A B c e i ≡ factorsTest m A B orElse restTest m min max A B c e i

@@ -9,4 +9,3 @@ pub mod Planned
 pub mod Made
 pub mod Chain
 pub mod Answered
-pub mod Starred

@@ -9,7 +9,7 @@ use Rattle.listing.specs.declared.Answer.{Answer}
 use Rattle.listing.specs.Answers.{ifZero}
 use Rattle.order.specs.Sums.{sum}
 use Rattle.listing.specs.Listing.{Listing, before}
-use Rattle.pairing.specs.Product.{nullitope}
+use Rattle.listing.specs.Cells.{nullitope}
 use Rattle.building.specs.Built.{over}
 use Rattle.product.specs.declared.Built.{Built}
 use Rattle.product.specs.declared.sizes.Sizes.{Sizes}

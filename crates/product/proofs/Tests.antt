@@ -1,7 +1,7 @@
 -- The tests of a product in their order: the first that fails decides, one law for each.
 -- Assumes nothing.
 use mathlib.Core.Path.{_≡_, refl}
-use mathlib.Core.Bool.{Bool, true, false, true≢false, _||_}
+use mathlib.Core.Bool.{Bool, true, false}
 use Prim.Native.Nat.{ℕ, _≤_, _<_}
 use native.Mathlib.Omega.{arith}
 use borrow.Author.Tests.{lt-ltb, le-ltb, eq-eqb, ne-eqb, eqb-true, ltb-false, not-false}
@@ -13,6 +13,7 @@ use Rattle.listing.specs.Listing.{Listing, Limits}
 use Rattle.listing.specs.Shape.{elements}
 use Rattle.listing.proofs.Answers.{on-no, on-or-no}
 use Rattle.valid.specs.Tests.{isValid}
+use Rattle.valid.proofs.Sequences.{or-none}
 use Rattle.product.specs.Outcome.{sizeTest}
 use Rattle.product.specs.Made.{factorsTest}
 
@@ -78,10 +79,6 @@ module _ (m : Limits) (R : Listing) (c e i : ℕ) where
                 rw (le-ltb _ _ h1, le-ltb _ _ h2, le-ltb _ _ h3, le-ltb c _ h4, le-ltb e _ h5, le-ltb i _ h)
 
 -- ---- what they ask, where none fails
-
-or-none : (a b : Bool) → a || b ≡ false → (a ≡ false) × (b ≡ false)
-or-none true b e = absurd (true≢false e)
-or-none false b e = (refl, e)
 
 pub record Passed (m : Limits) (R : Listing) (c e i : ℕ) : Type 0 where
   pub few-ranks : length (R .counts) ≤ m .ranks

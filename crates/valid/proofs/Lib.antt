@@ -9,4 +9,3 @@ pub mod Counting
 pub mod Twos
 pub mod DyadicExact
 pub mod ClosedExact
-pub mod Starred

@@ -6,4 +6,3 @@ pub mod Dyadic
 pub mod Tally
 pub mod Tests
 pub mod Closed
-pub mod Cells

@@ -6,7 +6,7 @@ use borrow.Author.Needs.{needs}
 use lib.ListN.{length, length-set}
 use Rattle.listing.specs.Listing.{limits}
 use Rattle.listing.proofs.Answers.{no-of}
-use Rattle.pairing.specs.Product.{nullitope}
+use Rattle.listing.specs.Cells.{nullitope}
 use Rattle.product.proofs.Tests.{Passed, sizes-passed}
 use Rattle.product.specs.Outcome.{sizeTest}
 use Rattle.product.proofs.Made.{made-refused, made-written, nullitope-measures, one-set, two-set}

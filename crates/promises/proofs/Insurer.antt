@@ -1,0 +1,69 @@
+-- The insurer's two questions, each answered by theorems that can be read alone.
+-- Assumes nothing.
+use mathlib.Core.Path.{_≡_, refl, ap, _∙_}
+use mathlib.Core.Logic.{_↔_}
+use mathlib.Core.Bool.{Bool, true, false}
+use mathlib.Core.List.{List, map}
+use Prim.Native.Nat.{ℕ}
+use native.Mathlib.Omega.{arith}
+use lib.ListN.{getD}
+use Rattle.listing.specs.declared.Answer.{Answer}
+use Rattle.listing.specs.Refusals.{loneBetween}
+use Rattle.listing.specs.Answers.{refusal, fine}
+use Rattle.listing.specs.Listing.{Listing, listing, Limits, limits, rank}
+use Rattle.valid.specs.Ascent.{Ascends}
+use Rattle.valid.specs.Dyadic.{DiamondAt}
+use Rattle.valid.specs.Tests.{isValid, closed}
+use Rattle.valid.proofs.ClosedExact.{closed-exact, closed-is-valid-and}
+use Rattle.closure.specs.Result.{HighEnough}
+use Rattle.product.specs.declared.Built.{Built}
+use Rattle.product.specs.Outcome.{Outcome}
+use Rattle.promises.specs.Starred.{leakingBox, Row, answered, table}
+use Rattle.promises.specs.Starred.Row.{tested, built, refused, changed}
+use Rattle.promises.specs.Products.{prefix}
+use Rattle.promises.proofs.Produced.{outcome-kept}
+use Rattle.promises.proofs.Starred.{starred}
+
+-- ---- (a) What rule let the cell through?
+
+-- what stands in a row of the table for is_valid and for closed
+abbrev validIn : Row → Answer
+validIn (tested L v c) = v
+validIn (built min max A B R v c) = v
+validIn (refused min max A B a) = a
+validIn (changed L f r c) = c .answer
+
+abbrev closedIn : Row → Answer
+closedIn (tested L v c) = c
+closedIn (built min max A B R v c) = c
+closedIn (refused min max A B a) = a
+closedIn (changed L f r c) = c .answer
+
+last : map answered table ≡ table → answered (tested leakingBox fine (refusal loneBetween 2 0 4 0))
+    ≡ tested leakingBox fine (refusal loneBetween 2 0 4 0)
+last e = ap (λ rows. getD rows 18 (tested leakingBox fine fine)) e
+
+-- The cell: is_valid accepts it, and closed says of edge 0 that only one face lies between it and the cell.
+pub let-through : (isValid limits leakingBox ≡ fine) × (closed limits leakingBox ≡ refusal loneBetween 2 0 4 0)
+unfolding answered
+let-through = (ap validIn (last starred), ap closedIn (last starred))
+
+-- The rule that separates the two tests: of a listing that is_valid accepts, with ascending lists, closed asks one thing
+-- more, the diamond at the maximal element.
+pub separating-rule : (m : Limits) (L : Listing) → isValid m L .no ≡ 0 → Ascends L
+    → closed m L .no ≡ 0 ↔ DiamondAt L (rank L)
+separating-rule m L v a = (
+  λ c. closed-is-valid-and m L .0 c .2,
+  λ d. closed-is-valid-and m L .1 (v, a, d),
+)
+
+-- ---- (b) Does the rule survive when cells are built from smaller shapes?
+
+-- Yes. Of two factors that the closed test accepts, high enough, whatever one of the four products has written, where it
+-- answered, the closed test accepts too. All four contracts are Outcome at their two flags.
+pub rule-survives : (min max : Bool) {A B : Listing} {c e i c′ e′ i′ : List ℕ} {r : Built}
+    → Outcome min max A B c e i c′ e′ i′ r → r .answer .no ≡ 0 → closed limits A .no ≡ 0 → closed limits B .no ≡ 0
+    → HighEnough min max (rank A) (rank B) → closed limits (prefix (listing c′ e′ i′) r) .no ≡ 0
+rule-survives min max {A} {B} o z a b h =
+    closed-exact limits _ .1
+    (outcome-kept min max o z .closed (closed-exact limits A .0 a) (closed-exact limits B .0 b) h)

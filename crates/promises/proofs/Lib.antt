@@ -1,0 +1,10 @@
+pub mod OneAnswer
+pub mod Broken
+pub mod Numbers
+pub mod Refused
+pub mod Produced
+pub mod DemandOne
+pub mod DemandTwo
+pub mod DemandThree
+pub mod Starred
+pub mod Insurer

@@ -1,0 +1,120 @@
+-- Which numbers the parts of the tests can answer.
+-- Assumes nothing.
+use mathlib.Core.Path.{_≡_, refl}
+use mathlib.Core.Logic.{_⊎_, inl, inr}
+use mathlib.Core.Bool.{Bool, true, false, cond, not, _&&_}
+use mathlib.Core.List.{List, [], _∷_}
+use Prim.Native.Nat.{ℕ, zero, suc, _+_, _-_, _*_, _≤_}
+use lib.Dec.{leb, ltb, eqb}
+use lib.ListN.{length}
+use native.Mathlib.Omega.{arith}
+use Rattle.listing.specs.declared.Answer.{Answer}
+use Rattle.listing.specs.Answers.{refusal, fine, on, _orElse_, firstIn, firstFor, firstOf}
+use Rattle.order.specs.Lists.{has, occurs}
+use Rattle.listing.specs.Listing.{Listing, rank, count, entries, side, subs, sups}
+use Rattle.listing.proofs.Answers.{or-fine, or-stop}
+use Rattle.valid.specs.Bounds.{boundedTest}
+use Rattle.valid.specs.Incidence.{entryTest, alongTest, elementTest, incidencesTest}
+use Rattle.valid.specs.Ascent.{climbs, sideAscent, elementAscent, ascentTest}
+use Rattle.valid.specs.Dyadic.{walk, thirdTest, seenAfter, loneTest, sectionsTest, dyadicTest}
+use Rattle.promises.proofs.Broken.{zero-or}
+
+-- a refusal has one of the numbers from low to high
+pub record Among (low high : ℕ) (a : Answer) : Type 0 where
+  pub numbers : (a .no ≡ 0 → ⊥) → (low ≤ a .no) × (a .no ≤ high)
+
+module _ {low high : ℕ} where
+  among-fine : Among low high fine
+  among-fine = record { numbers = λ s. absurd (s refl) }
+
+  among-or : {x y : Answer} → Among low high x → Among low high y → Among low high (x orElse y)
+  among-or {x} {y} p q = go (zero-or (x .no))
+    where
+      go : (x .no ≡ 0) ⊎ (x .no ≡ 0 → ⊥) → Among low high (x orElse y)
+      go (inl z) = rw (or-fine x y z) q
+      go (inr s) = rw (or-stop x y s) p
+
+  among-cond : (t : Bool) (x y : Answer) → Among low high x → Among low high y → Among low high (cond t x y)
+  among-cond true x y p q = p
+  among-cond false x y p q = q
+
+  module _ (n : ℕ) (l : low ≤ n) (h : n ≤ high) where
+    among-is : (a b c d : ℕ) → Among low high (refusal n a b c d)
+    among-is a b c d = record { numbers = λ s. (l, h) }
+
+    among-on : (t : Bool) (a b c d : ℕ) → Among low high (on t (refusal n a b c d))
+    among-on t a b c d = among-cond t (refusal n a b c d) fine (among-is a b c d) among-fine
+
+  module _ (f : ℕ → Answer) (each : (k : ℕ) → Among low high (f k)) where
+    among-in : (l : List ℕ) → Among low high (firstIn f l)
+    unfolding firstIn
+    among-in [] = among-fine
+    among-in (x ∷ l) = among-or (each x) (among-in l)
+
+    among-for : (i k : ℕ) → Among low high (firstFor f i k)
+    unfolding firstFor
+    among-for i zero = among-fine
+    among-for i (suc k) = among-or (each i) (among-for (suc i) k)
+
+    among-of : (i n : ℕ) → Among low high (firstOf f i n)
+    unfolding firstOf
+    among-of i n = among-for i (n - i)
+
+    among-third : (seen l : List ℕ) → Among low high (thirdTest f seen l)
+    unfolding thirdTest
+    among-third seen [] = among-fine
+    among-third seen (x ∷ l) = among-or (among-cond (leb 2 (occurs x seen)) (f x) fine (each x) among-fine) (among-third (x ∷ seen) l)
+
+-- Test 1 refuses with 10.
+pub bounded-numbers : (L : Listing) → Among 10 10 (boundedTest L)
+unfolding boundedTest
+bounded-numbers L =
+    among-on 10 (omega arith) (omega arith) (not (eqb (count L 0) 1 && eqb (count L (rank L)) 1))
+    (count L 0) (count L (rank L)) 0 0
+
+-- Test 2 refuses with a number from 11 to 16.
+entry-numbers : (n : ℕ) (back : List ℕ) (missing notBack r i x : ℕ) → 11 ≤ missing → missing ≤ 16 → 11 ≤ notBack
+    → notBack ≤ 16 → Among 11 16 (entryTest n back missing notBack r i x)
+unfolding entryTest
+entry-numbers n back missing notBack r i x p q u v =
+    among-cond (ltb x n) (on (not (has back i)) (refusal notBack r i x 0)) (refusal missing r i x 0)
+    (among-on notBack u v (not (has back i)) r i x 0) (among-is missing p q r i x 0)
+
+along-numbers : (ends inc : List ℕ) (n b s missing notBack r i : ℕ) (l : List ℕ) → 11 ≤ missing → missing ≤ 16
+    → 11 ≤ notBack → notBack ≤ 16 → Among 11 16 (alongTest ends inc n b s missing notBack r i l)
+unfolding alongTest
+along-numbers ends inc n b s missing notBack r i l p q u v =
+    among-in _ (λ x. entry-numbers n (entries ends inc (2 * (b + x) + s)) missing notBack r i x p q u v) l
+
+element-numbers : (L : Listing) (r i : ℕ) → Among 11 16 (elementTest L r i)
+unfolding elementTest
+element-numbers L r i =
+    among-or (among-on 11 (omega arith) (omega arith) (ltb 0 r && eqb (length (subs L r i)) 0) r i 0 0)
+    (among-or (along-numbers _ _ _ _ _ 15 13 r i _ (omega arith) (omega arith) (omega arith) (omega arith))
+    (among-or (among-on 12 (omega arith) (omega arith) (ltb r (rank L) && eqb (length (sups L r i)) 0) r i 0 0)
+    (along-numbers _ _ _ _ _ 16 14 r i _ (omega arith) (omega arith) (omega arith) (omega arith))))
+
+pub incidence-numbers : (L : Listing) → Among 11 16 (incidencesTest L)
+unfolding incidencesTest
+incidence-numbers L = among-of _ (λ r. among-of _ (element-numbers L r) _ _) _ _
+
+-- The ascent test refuses with 19.
+side-numbers : (L : Listing) (r i s : ℕ) → Among 19 19 (sideAscent L r i s)
+side-numbers L r i s = among-on 19 (omega arith) (omega arith) (not (climbs 0 (side L s r i))) r i s 0
+
+pub ascent-numbers : (L : Listing) → Among 19 19 (ascentTest L)
+unfolding ascentTest elementAscent
+ascent-numbers L =
+    among-of _ (λ r. among-of _ (λ i. among-or (side-numbers L r i 0) (side-numbers L r i 1)) _ _) _ _
+
+-- Test 3 refuses with 17 or 18.
+section-numbers : (L : Listing) (r i : ℕ) → Among 17 18 (sectionsTest L r i)
+unfolding sectionsTest loneTest
+section-numbers L r i =
+    let met = seenAfter [] (walk L r i) in
+    among-or (among-third _ (λ x. among-is 17 (omega arith) (omega arith) _ _ _ _) _ _)
+    (among-of _ (λ x. among-on 18 (omega arith) (omega arith) (eqb (occurs x met) 1) (r - 2) x r i) _ _)
+
+pub dyadic-numbers : (L : Listing) (h : ℕ) → Among 17 18 (dyadicTest L h)
+unfolding dyadicTest
+dyadic-numbers L h = among-of _ (λ r. among-of _ (section-numbers L r) _ _) _ _

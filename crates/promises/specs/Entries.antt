@@ -1,0 +1,49 @@
+-- How a promise speaks of a public function: through P, the reading of its contract that the prover makes from the
+-- source. P k a b x says that the contract admits the answer b and the parameters x at exit for the arguments a; k are
+-- the lifetimes.
+--
+-- Says        whatever the contract admits has a property of arguments, answer and exit
+-- SaysOfTwo   the same of two calls
+-- OneAnswer   two answers that the contract admits for the same arguments are equal
+-- OneOutcome  and so is what is left of the parameters that are lent to be written
+-- Slice       a lent slice of numbers
+-- lent        the listing in the first three parameters
+-- right       the right factor of a product, in the next three; the left one is in the first three
+-- outputs     the three output slices of a product
+-- tables      the table and the orientations of a search
+use mathlib.Core.Path.{_≡_}
+use mathlib.Core.List.{List}
+use Prim.Native.Nat.{ℕ}
+use denote.Ref.{RefT, now}
+use Rattle.listing.specs.Listing.{Listing, listing}
+
+module _ {K A B X : Type 0} (P : K → A → B → X → Type 0) where
+  abbrev pub Says : (A → B → X → Type 0) → Type 0
+  Says Q = (k : K) (a : A) (b : B) (x : X) → P k a b x → Q a b x
+
+  abbrev pub SaysOfTwo : (A → B → X → A → B → X → Type 0) → Type 0
+  SaysOfTwo Q =
+      (k l : K) (a c : A) (b d : B) (x y : X) → P k a b x → P l c d y → Q a b x c d y
+
+  abbrev pub OneAnswer : Type 0
+  OneAnswer = (k : K) (a : A) (b c : B) (x y : X) → P k a b x → P k a c y → b ≡ c
+
+  abbrev pub OneOutcome : {Y : Type 0} → (X → Y) → Type 0
+  OneOutcome left = (k : K) (a : A) (b c : B) (x y : X) → P k a b x → P k a c y → (b ≡ c) × (left x ≡ left y)
+
+abbrev pub Slice : Type 0
+Slice = RefT (List ℕ)
+
+module _ {A : Type 0} where
+  abbrev pub lent : Slice × (Slice × (Slice × A)) → Listing
+  lent a = listing (now (a .0)) (now (a .1 .0)) (now (a .1 .1 .0))
+
+  abbrev pub right : Slice × (Slice × (Slice × (Slice × (Slice × (Slice × A))))) → Listing
+  right a = lent (a .1 .1 .1)
+
+  abbrev pub outputs : Slice × (Slice × (Slice × (Slice × (Slice × (Slice × (Slice × (Slice × (Slice × A))))))))
+      → Listing
+  outputs a = right (a .1 .1 .1)
+
+  abbrev pub tables : Slice × (Slice × (Slice × (Slice × (ℕ × (Slice × (Slice × A)))))) → List ℕ × List ℕ
+  tables a = (now (a .1 .1 .1 .1 .1 .0), now (a .1 .1 .1 .1 .1 .1 .0))
