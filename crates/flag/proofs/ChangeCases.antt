@@ -17,10 +17,8 @@ use Rattle.valid.specs.Closed.{Closed}
 use Rattle.valid.specs.Tests.{closed}
 use Rattle.valid.proofs.ClosedExact.{closed-exact}
 use Rattle.flag.specs.declared.Changed.{Changed}
-use Rattle.flag.specs.declared.Event.{Event}
 use Rattle.flag.specs.Flags.{flagTest, startTest, IsFlag}
 use Rattle.flag.specs.Change.{changeTest, changeAt, changedOf, padded}
-use Rattle.flag.specs.Events.{eventAt, nextAt}
 use Rattle.flag.proofs.FlagExact.{flag-exact}
 use Rattle.flag.proofs.Changes.{changes}
 use Rattle.flag.proofs.ChangeAnswers.{start-exact, start-none, change-fine, change-lowest, change-highest}
@@ -95,15 +93,3 @@ change-twice m L f r e =
     let z = start-exact m L g .1 (p .0, c .is-flag) in
     rw (new-flag m L f r e)
     (sym (changed-some m L g r (change-fine m L g r refl z (p .2) (p .3) refl) refl (ap padded (sym (c .back)))))
-
--- ---- no second answer fits
-
-pub one-change : (m : Limits) (L : Listing) (f : List ℕ) (r : ℕ) {a b : Changed} → a ≡ changedOf m L f r
-    → b ≡ changedOf m L f r → a ≡ b
-one-change m L f r e k = e ∙ sym k
-
--- an event, and where the cursor is afterwards
-pub one-event : (at count place : ℕ) {e e′ : Event} {n n′ : ℕ}
-    → (e ≡ eventAt at count place) × (n ≡ nextAt at count place)
-    → (e′ ≡ eventAt at count place) × (n′ ≡ nextAt at count place) → (e ≡ e′) × (n ≡ n′)
-one-event at count place p q = (p .0 ∙ sym (q .0), p .1 ∙ sym (q .1))

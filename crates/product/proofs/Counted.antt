@@ -8,7 +8,7 @@ use native.Mathlib.Omega.{arith}
 use lib.ListN.{length, getD, drop, length-take, length-drop}
 use Rattle.order.specs.Sums.{sum}
 use Rattle.order.proofs.Sums.{sum-same}
-use Rattle.listing.specs.Listing.{Listing, limits, rank, count, before, start, entries}
+use Rattle.listing.specs.Listing.{Listing, limits, before, start, entries}
 use Rattle.listing.specs.Shape.{elements}
 use Rattle.listing.specs.Layers.{Layers, layers}
 use Rattle.listing.proofs.Listing.{before-zero, before-next, before-all}

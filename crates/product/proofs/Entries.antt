@@ -10,7 +10,7 @@ use borrow.Author.Tests.{ne-eqb}
 use Rattle.order.specs.Lists.{In}
 use Rattle.order.specs.Sums.{sum, place}
 use Rattle.order.proofs.Sums.{choose-no, sum-lt, place-ok}
-use Rattle.listing.specs.Layers.{Layers, Topped, layers, gather, derived}
+use Rattle.listing.specs.Layers.{Layers, Topped, gather, derived}
 use Rattle.listing.specs.Written.{listAt, nth, written}
 use Rattle.listing.proofs.Layers.{in-range, derived-in}
 use Rattle.listing.proofs.Written.{nth-at, written-count, written-before}

@@ -13,7 +13,7 @@ use Rattle.order.specs.Ends.{need}
 use Rattle.order.specs.Sums.{choose}
 use Rattle.order.proofs.Sums.{sum-same}
 use Rattle.listing.specs.Listing.{Listing, limits, rank, count, before, entries}
-use Rattle.listing.specs.Shape.{elements, Shaped}
+use Rattle.listing.specs.Shape.{Shaped}
 use Rattle.listing.specs.Layers.{layers}
 use Rattle.listing.proofs.Listing.{before-zero, before-next}
 use Rattle.listing.proofs.Sequences.{sum-add}

@@ -4,11 +4,7 @@
 -- over just the outermost pairs; exchanging the factors only swaps the pairs.
 -- Assumes nothing.
 use mathlib.Core.Path.{_≡_}
-use mathlib.Core.Bool.{Bool, true, false}
-use Rattle.listing.specs.Listing.{Listing}
-use Rattle.closure.specs.Result.{first, second, nullCase}
-use Rattle.closure.specs.Pairs.{Swapped}
-use Rattle.product.specs.declared.Built.{Built}
+use mathlib.Core.Bool.{true, false}
 use Rattle.product.proofs.duopyramid.Reads as duopyramid
 use Rattle.product.proofs.duoprism.Reads as duoprism
 use Rattle.product.proofs.duotegum.Reads as duotegum

@@ -1,25 +1,21 @@
 -- What the four products promise, said once over the two flags, of whatever their contracts admit.
 -- Assumes nothing.
-use mathlib.Core.Path.{_≡_, refl, sym, ap, _∙_}
-use mathlib.Core.Bool.{Bool, true, false}
-use mathlib.Core.List.{List, _++_}
+use mathlib.Core.Path.{_≡_, ap, _∙_}
+use mathlib.Core.Bool.{Bool, false}
+use mathlib.Core.List.{List}
 use Prim.Native.Nat.{ℕ}
-use native.Mathlib.Omega.{arith}
-use lib.ListN.{length, take, drop}
-use Rattle.listing.specs.declared.Answer.{Answer}
-use Rattle.listing.specs.Listing.{Listing, listing, limits, rank}
-use Rattle.listing.specs.Layers.{layers}
+use lib.ListN.{length}
+use Rattle.listing.specs.Listing.{Listing, listing, limits}
 use Rattle.listing.proofs.Answers.{no-or, no-of}
 use Rattle.listing.proofs.ShapeExact.{shape-exact}
 use Rattle.valid.specs.Tests.{bounded, checkIncidences, isValid}
-use Rattle.pairing.specs.Sound.{Sound}
 use Rattle.closure.specs.Result.{first, second, nullCase, combCase, resultOf}
-use Rattle.closure.specs.Pairs.{Matched, LowEnd, HighEnd, Swapped}
+use Rattle.closure.specs.Pairs.{Swapped}
 use Rattle.closure.proofs.Results.{result-null, result-rank, nullitope-closed, needed}
 use Rattle.closure.proofs.Valid.{valid-sound, product-tests}
 use Rattle.closure.proofs.Pairs.{result-matched, result-low, result-high, result-swapped}
 use Rattle.product.specs.declared.Built.{Built}
-use Rattle.product.specs.Outcome.{productTest, after, Outcome}
+use Rattle.product.specs.Outcome.{Outcome}
 use Rattle.product.proofs.Made.{built-full, after-full}
 use Rattle.product.proofs.Chain.{chain-passed}
 use Rattle.product.proofs.Answered.{answers, refused-untouched, answered-result, answered-shaped, answered-closed}

@@ -1,8 +1,7 @@
 -- Which refusal comes when: each test answers the number of the first rule that is broken.
 -- Assumes nothing.
-use mathlib.Core.Path.{_≡_, refl, sym, ap, _∙_}
-use mathlib.Core.Logic.{_↔_, _⊎_, inl, inr}
-use mathlib.Core.Bool.{Bool, true, false, not, _&&_, _||_}
+use mathlib.Core.Path.{_≡_, refl, sym}
+use mathlib.Core.Bool.{Bool, not, _&&_, _||_}
 use mathlib.Core.List.{List, [], _∷_, _++_}
 use Prim.Native.Nat.{ℕ, zero, suc, _-_, _*_, _≤_, _<_}
 use native.Mathlib.Omega.{arith}
@@ -31,8 +30,8 @@ use Rattle.product.specs.Outcome.{sizeTest, productTest}
 use Rattle.flag.specs.Flags.{flagTest, startTest, IsFlag}
 use Rattle.flag.specs.Change.{changeTest}
 use Rattle.flag.proofs.FlagExact.{flag-exact}
-use Rattle.promises.specs.Rules.{Rule, rules, rule, FirstBroken, Filled, shapeRules, boundedRule, incidentRule}
-use Rattle.promises.specs.Rules.{ascentRule, belowTopRule, upToTopRule, flagRule, changeRules, productRules}
+use Rattle.promises.specs.Rules.{Rule, FirstBroken, Filled, shapeRules}
+use Rattle.promises.specs.Rules.{flagRule, changeRules, productRules}
 use Rattle.promises.specs.Rules.{boundedRules, incidentRules, dyadicRules, validRules, closedRules}
 use Rattle.promises.proofs.Broken.{Tests, broken-last, broken-step, broken-inner}
 use Rattle.promises.proofs.Broken.{tests-on, tests-not, tests-over}

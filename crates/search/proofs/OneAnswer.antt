@@ -1,4 +1,5 @@
--- No second answer fits: neither the contract of a search, nor what is promised of its table, bytes, count and place.
+-- No second answer fits what is promised of a search: it determines each number of the table and the bytes, the count
+-- and the place.
 -- Assumes nothing.
 use mathlib.Core.Path.{_≡_, sym, ap, _∙_}
 use mathlib.Core.Logic.{_≢_, _⊎_, inl, inr}
@@ -8,7 +9,7 @@ use native.Mathlib.Decide.{ℕ-discrete, decLt}
 use native.Mathlib.Omega.{arith}
 use lib.ListN.{length, getD, take, drop, take-append-drop}
 use lib.Seq.{ext-getD, getD-drop}
-use Rattle.listing.specs.Listing.{Listing, Limits, rank}
+use Rattle.listing.specs.Listing.{Listing, rank}
 use Rattle.flag.specs.Change.{changeAt}
 use Rattle.searching.specs.Search.{Once}
 use Rattle.searching.specs.Course.{Earlier}
@@ -17,15 +18,6 @@ use Rattle.store.specs.Rows.{rowOf, rows, flatten}
 use Rattle.store.proofs.Rows.{rows-length, rows-at, rows-flat}
 use Rattle.search.specs.declared.Searched.{Searched}
 use Rattle.search.specs.Exact.{FirstMet, Repeat, Holds, Finds}
-use Rattle.search.proofs.Outcomes.{Outcome}
-
--- ---- the contract
-
-pub one-outcome : (m : Limits) (L : Listing) (first : List ℕ) (mask : ℕ) (table bytes : List ℕ) {r r′ : Searched}
-    {t t′ b b′ : List ℕ} → Outcome m L first mask table bytes r t b → Outcome m L first mask table bytes r′ t′ b′
-    → (r ≡ r′) × (t ≡ t′) × (b ≡ b′)
-one-outcome m L first mask table bytes o p =
-    (o .answer ∙ sym (p .answer), o .flags ∙ sym (p .flags), o .turns ∙ sym (p .turns))
 
 -- ---- which is met before which
 
