@@ -6,8 +6,9 @@
 -- Assumes nothing.
 use mathlib.Core.Path.{_≡_}
 use mathlib.Core.Logic.{_↔_}
-use Prim.Native.Nat.{_-_}
-use denote.Ref.{now}
+use mathlib.Core.List.{_++_}
+use Prim.Native.Nat.{ℕ, _+_, _-_}
+use lib.ListN.{replicate}
 use Rattle.listing.specs.Listing.{Listing, limits, rank}
 use Rattle.listing.specs.Shape.{Shaped}
 use Rattle.listing.proofs.Answers.{or-no, no-or}
@@ -27,9 +28,15 @@ use Rattle.valid.proofs.is_dyadic.Reads as is-dyadic
 use Rattle.valid.proofs.is_valid.Reads as is-valid
 use Rattle.valid.proofs.closed.Reads as closed
 use Rattle.flag.specs.Change.{Changes, changeAt, padded}
+use Rattle.flag.specs.declared.Event.the-variants.{Nothing}
+use Rattle.flag.specs.Events.{events, eventsOf, taken}
+use Rattle.flag.proofs.EventsTaken.{all-taken}
 use Rattle.flag.proofs.ChangeAnswers.{change-changes}
 use Rattle.flag.proofs.change.Reads as change
-use Rattle.promises.specs.Entries.{Says, lent}
+use Rattle.search.proofs.search.Reads as search
+use Rattle.promises.specs.Entries.{Says, lent, flag, mask, tables}
+use Rattle.promises.specs.Searches.{Found}
+use Rattle.promises.proofs.Searched.{found}
 
 bounded-is : (L : Listing) → tests.bounded limits L .no ≡ 0 ↔ (Shaped limits L × Bounded L)
 unfolding tests.bounded
@@ -87,6 +94,20 @@ closed-by-the-book k a r x p = rw p (closed-exact limits (lent a))
 
 -- A change puts in the other of exactly two elements, and gives the only flag that differs there; the same change leads
 -- back.
-pub change-by-the-book : Says change.Post (λ a r x. r .answer .no ≡ 0 → Changes (lent a) (now (a .1 .1 .1 .0))
-    (a .1 .1 .1 .1 .0) × (r .flag ≡ padded (changeAt (lent a) (a .1 .1 .1 .1 .0) (now (a .1 .1 .1 .0)))))
-change-by-the-book k a r x p = rw p (change-changes limits (lent a) (now (a .1 .1 .1 .0)) (a .1 .1 .1 .1 .0))
+pub change-by-the-book : Says change.Post (λ a r x. r .answer .no ≡ 0
+    → Changes (lent a) (flag a) (mask a) × (r .flag ≡ padded (changeAt (lent a) (mask a) (flag a))))
+change-by-the-book k a r x p = rw p (change-changes limits (lent a) (flag a) (mask a))
+
+-- A search that is answered holds exactly the flags that the changes of the mask lead to, each once and in the order
+-- found; it counts them; it says whether they can be coloured with two colours that each change exchanges, and if so the
+-- bytes are these colours.
+pub search-by-the-book : Says search.Post (λ a r x. r .answer .no ≡ 0
+    → Found (lent a) (flag a) (mask a) (tables a .0) (tables a .1) r (tables x .0) (tables x .1))
+search-by-the-book k a r x p =
+    rw (p .0, p .1 .0, p .1 .1) (found (lent a) (flag a) (mask a) (tables a .0) (tables a .1))
+
+-- The events that calls of next_event say, from a new cursor: the flags in order, with NonOrientable after the first
+-- `place` flags where there is one; and Nothing after them, however often it is asked.
+pub events-in-order : (count place n : ℕ)
+    → taken 0 count place (events count place + n) ≡ eventsOf count place ++ replicate n Nothing
+events-in-order count place n = all-taken count place n

@@ -3,6 +3,7 @@ pub mod Broken
 pub mod Numbers
 pub mod Refused
 pub mod Produced
+pub mod Searched
 pub mod DemandOne
 pub mod DemandTwo
 pub mod DemandThree

@@ -11,6 +11,9 @@ use Rattle.listing.specs.Listing.{Listing, listing}
 use Rattle.product.specs.declared.Built.{Built}
 use Rattle.closure.specs.Result.{resultOf}
 use Rattle.product.specs.Outcome.{after, Outcome}
+use Rattle.flag.specs.declared.Event.{Event}
+use Rattle.flag.specs.declared.Said.{Said}
+use Rattle.flag.specs.Events.{Stepped, SaidStep}
 use Rattle.promises.specs.Entries.{OneAnswer, OneOutcome, outputs, tables}
 use Rattle.listing.proofs.class.Reads as class
 use Rattle.listing.proofs.band_number.Reads as band-number
@@ -222,3 +225,13 @@ one-fd-duotegum k a b c x y = same-outcome false true
 
 pub one-fd-duocomb : OneOutcome fd-duocomb.Post outputs
 one-fd-duocomb k a b c x y = same-outcome true true
+
+-- The event cursor, by what its contract cites.
+
+pub one-next-event : {at count place c d : ℕ} {e f : Event} → Stepped at count place c e → Stepped at count place d f
+    → (e ≡ f) × (c ≡ d)
+one-next-event p q = (alike (p .0) (q .0), alike (p .1) (q .1))
+
+pub one-fd-next-event : {at count place c d : ℕ} {e f : Said} → SaidStep at count place c e
+    → SaidStep at count place d f → (e ≡ f) × (c ≡ d)
+one-fd-next-event p q = (alike (p .0) (q .0), alike (p .1) (q .1))

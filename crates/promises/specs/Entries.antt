@@ -10,6 +10,8 @@
 -- lent        the listing in the first three parameters
 -- right       the right factor of a product, in the next three; the left one is in the first three
 -- outputs     the three output slices of a product
+-- flag        the flag of a change or a search, in the fourth parameter
+-- mask        the number after it: the rank of a change, the mask of a search
 -- tables      the table and the orientations of a search
 use mathlib.Core.Path.{_≡_}
 use mathlib.Core.List.{List}
@@ -44,6 +46,12 @@ module _ {A : Type 0} where
   abbrev pub outputs : Slice × (Slice × (Slice × (Slice × (Slice × (Slice × (Slice × (Slice × (Slice × A))))))))
       → Listing
   outputs a = right (a .1 .1 .1)
+
+  abbrev pub flag : Slice × (Slice × (Slice × (Slice × A))) → List ℕ
+  flag a = now (a .1 .1 .1 .0)
+
+  abbrev pub mask : Slice × (Slice × (Slice × (Slice × (ℕ × A)))) → ℕ
+  mask a = a .1 .1 .1 .1 .0
 
   abbrev pub tables : Slice × (Slice × (Slice × (Slice × (ℕ × (Slice × (Slice × A)))))) → List ℕ × List ℕ
   tables a = (now (a .1 .1 .1 .1 .1 .0), now (a .1 .1 .1 .1 .1 .1 .0))

@@ -33,8 +33,7 @@ use Rattle.valid.specs.Tests.{isValid}
 use Rattle.closure.specs.Result.{combCase, resultOf}
 use Rattle.flag.specs.Flags.{IsFlag}
 use Rattle.searching.specs.Search.{More}
-use Rattle.search.specs.Masks.{bit}
-use Rattle.search.specs.Exact.{Leads}
+use Rattle.search.specs.Exact.{Inside, Leads}
 
 pub record Rule : Type 1 where
   pub low : ℕ
@@ -106,7 +105,7 @@ module _ (m : Limits) (L : Listing) where
     searchRules mask room =
         closedRules ++
         flagRule ∷
-        rule outsideRanks ((r : ℕ) → r < 16 → bit mask r ≡ 1 → (0 < r) × (r < rank L)) ∷
+        rule outsideRanks (Inside L mask) ∷
         rule moreFlags (¬ More (suc room) (Leads L mask) f) ∷ []
 
 module _ (m : Limits) (min max : Bool) (A B : Listing) (c e i : ℕ) where

@@ -1,0 +1,38 @@
+-- What is promised of a search of L from a first flag by the changes of a mask, that was lent a table and bytes and left
+-- table′ and bytes′ in them, and answered r.
+--
+-- roomIn     how many flags there is room for
+-- Searches   which refusal comes when, and what then stands in the table and the bytes: refused with another number than
+--            22 they are as they were, and at 22 they hold the first flags found, as many as there is room for
+-- Found      what an answered search found: all flags that the changes lead to, each once, counted, and coloured
+use mathlib.Core.Path.{_≡_}
+use mathlib.Core.Logic.{_≢_}
+use mathlib.Core.List.{List}
+use Prim.Native.Nat.{ℕ, _+_, _≤_}
+use lib.ListN.{length, take}
+use Rattle.listing.specs.Refusals.{moreFlags}
+use Rattle.listing.specs.Listing.{Listing, limits, rank}
+use Rattle.store.specs.Rows.{rows}
+use Rattle.search.specs.declared.Searched.{Searched}
+use Rattle.search.specs.Searched.{foundBy}
+use Rattle.search.specs.Outcome.{refusedAs, roomOf}
+use Rattle.search.specs.Exact.{Holds, Finds}
+use Rattle.promises.specs.Rules.{FirstBroken, searchRules}
+
+abbrev pub roomIn : Listing → List ℕ → List ℕ → ℕ
+roomIn L table bytes = roomOf limits L (length table) (length bytes)
+
+module _ (L : Listing) (first : List ℕ) (mask : ℕ) (table bytes : List ℕ) (r : Searched) (table′ bytes′ : List ℕ)
+    where
+  pub record Searches : Type 0 where
+    pub refusals : FirstBroken (searchRules limits L first mask (roomIn L table bytes)) (r .answer .no)
+    pub numbers : r .answer .no ≢ 0 → r ≡ refusedAs (r .answer)
+    pub untouched : r .answer .no ≢ 0 → r .answer .no ≢ moreFlags → (table′ ≡ table) × (bytes′ ≡ bytes)
+    pub full : r .answer .no ≡ moreFlags → Holds L first mask table′ bytes′ table bytes (roomIn L table bytes)
+    pub first-found : r .answer .no ≡ moreFlags → (more : ℕ) → roomIn L table bytes ≤ more
+        → rows (rank L + 1) table′ (roomIn L table bytes)
+        ≡ take (roomIn L table bytes) (foundBy L first mask more .found)
+
+  pub record Found : Type 0 where
+    pub holds : Holds L first mask table′ bytes′ table bytes (r .count)
+    pub finds : Finds L first mask table′ bytes′ r
