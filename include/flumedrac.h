@@ -1,8 +1,8 @@
 /*
  * Flumedrac: tests of cells, the four products, flag changes and the oriented flag search.
  *
- * Every function below is proved, for every input, to end, to stay inside the slices it is lent, and to answer and write
- * exactly what is said here.
+ * Every function below is proved, for every input, to end, to stay inside the slices it is lent, and to answer and
+ * write exactly what is said here.
  *
  * A LISTING is three lent slices of 16-bit numbers.
  *   counts  The number of elements of each rank, rank 0 first. The rank of the listing is one less than the length:
@@ -19,10 +19,11 @@
  * WRITING: on success the prefix of each slice that the returned lengths name is written and nothing else. A refusal
  * writes nothing at all, with one exception, FD_MORE_FLAGS: see fd_search.
  *
- * What follows is no part of what is proved; it holds of the language and of the code as it is. The language has no heap
- * and no global state, so no function allocates, keeps a pointer or touches anything but its slices, and all may run in
- * several threads at once on slices of their own. On the stack fd_search takes about 64 KB, for two arrays that are its
- * index of flags; a product about 24 KB, for three; a test or a change about 4 KB, for the tally of the diamond.
+ * What follows is no part of what is proved; it is so by the language and by the code as it stands. The language has
+ * no heap and no global state: no function allocates, keeps a pointer or touches anything but its slices, and all may
+ * run in several threads at once, each on slices of its own. On the stack fd_search takes about 70 KB, of which 64 KB
+ * are two arrays, its index of the flags; a product about 25 KB, of which 24 KB are three arrays; fd_is_dyadic,
+ * fd_is_valid, fd_closed and fd_change about 4 KB, the tally of the diamond; the others next to nothing.
  */
 #ifndef FLUMEDRAC_H
 #define FLUMEDRAC_H
@@ -225,8 +226,8 @@ fd_event fd_next_event(fd_cursor *cursor, uint16_t count, uint16_t place);
  *
  * In one rank pairs go by the first member's rank, then its index, then the second's index. Subs: the first member's
  * subs in their order with the second fixed, then the second's with the first fixed, only pairs in use; an element with
- * none in use has the added minimal one. The added maximal one has all facets. Sups are gathered from the subs, in order
- * of the elements above, once for each time that one of these lists the element; the factors' sups are not read.
+ * none in use has the added minimal one. The added maximal one has all facets. Sups are gathered from the product's own
+ * subs, in order of the elements above, once for each time that one of these lists the element.
  */
 fd_built fd_duopyramid(const uint16_t *p_counts, size_t p_counts_len, const uint16_t *p_ends, size_t p_ends_len,
                        const uint16_t *p_inc, size_t p_inc_len, const uint16_t *q_counts, size_t q_counts_len,
