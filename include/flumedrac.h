@@ -21,9 +21,10 @@
  *
  * What follows is no part of what is proved; it is so by the language and by the code as it stands. The language has
  * no heap and no global state: no function allocates, keeps a pointer or touches anything but its slices, and all may
- * run in several threads at once, each on slices of its own. On the stack fd_search takes about 70 KB, of which 64 KB
- * are two arrays, its index of the flags; a product about 25 KB, of which 24 KB are three arrays; fd_is_dyadic,
- * fd_is_valid, fd_closed and fd_change about 4 KB, the tally of the diamond; the others next to nothing.
+ * run in several threads at once, as long as no slice that one writes is lent to another. On the stack fd_search takes
+ * about 70 KB, of which 64 KB are two arrays, its index of the flags; a product about 25 KB, of which 24 KB are three
+ * arrays; fd_is_dyadic, fd_is_valid, fd_closed and fd_change about 4 KB, the tally of the diamond; the others next to
+ * nothing.
  */
 #ifndef FLUMEDRAC_H
 #define FLUMEDRAC_H
