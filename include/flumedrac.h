@@ -1,8 +1,8 @@
 /*
  * Flumedrac: tests of cells, the four products, flag changes and the oriented flag search.
  *
- * Every function below is proved, for every input, to end, to stay inside the slices it is lent and to answer exactly
- * what is said here.
+ * Every function below is proved, for every input, to end, to stay inside the slices it is lent, and to answer and
+ * write exactly what is said here.
  *
  * A LISTING is three lent slices of 16-bit numbers.
  *   counts  The number of elements of each rank, rank 0 first. The rank of the listing is one less than the length:
@@ -14,10 +14,17 @@
  *
  * A SLICE is a pointer and the count of numbers it points to. It may be empty but its pointer may not be null. Slices
  * that are lent to be written (without const) overlap no other slice of the call; slices that are only read may be the
- * same. No function keeps a pointer, allocates or touches anything else; all may run in several threads at once.
+ * same. The caller sees to this: it cannot be tested here.
  *
  * WRITING: on success the prefix of each slice that the returned lengths name is written and nothing else. A refusal
  * writes nothing at all, with one exception, FD_MORE_FLAGS: see fd_search.
+ *
+ * What follows is no part of what is proved; it is so by the language and by the code as it stands. The language has
+ * no heap and no global state: no function allocates, keeps a pointer or touches anything but its slices, and all may
+ * run in several threads at once, as long as no slice that one writes is lent to another. On the stack fd_search takes
+ * about 70 KB, of which 64 KB are two arrays, its index of the flags; a product about 25 KB, of which 24 KB are three
+ * arrays; fd_is_dyadic, fd_is_valid, fd_closed and fd_change about 4 KB, the tally of the diamond; the others next to
+ * nothing.
  */
 #ifndef FLUMEDRAC_H
 #define FLUMEDRAC_H
@@ -49,7 +56,8 @@ enum {
     FD_OVER_ELEMENTS = 3,   /* more than FD_MAX_ELEMENTS elements */
     FD_WRONG_ENDS = 4,      /* ends is not twice as long as there are elements */
     FD_OVER_INCIDENCES = 5, /* inc is longer than FD_MAX_INCIDENCES */
-    FD_FALLING_ENDS = 6,    /* a number in ends is less than the one before it, or the last is not inc's length */
+    FD_FALLING_ENDS = 6,    /* a number in ends is less than the one before it, or the last is not inc's length; where
+                               there are no elements: inc is not empty */
 
     /* Structure. */
     FD_NOT_BOUNDED = 10,   /* not one minimal and one maximal element; a: how many minimal, b: how many maximal */
@@ -59,13 +67,13 @@ enum {
     FD_SUP_NOT_BACK = 14,  /* a sup does not list the element back; a: rank, b: index, c: entry */
     FD_SUB_MISSING = 15,   /* a sub does not exist; a: rank, b: index, c: entry */
     FD_SUP_MISSING = 16,   /* a sup does not exist; a: rank, b: index, c: entry */
-    FD_THIRD_BETWEEN = 17, /* a third between two elements two ranks apart; a, b: the low one's rank and index; c, d:
-                              the high one's */
-    FD_LONE_BETWEEN = 18,  /* only one between them; fields as for FD_THIRD_BETWEEN */
+    FD_THIRD_BETWEEN = 17, /* among the subs of an element's subs one is met a third time; a, b: the rank and index of
+                              the one that is met; c, d: those of the element, two ranks higher */
+    FD_LONE_BETWEEN = 18,  /* .. one is met only once; fields as for FD_THIRD_BETWEEN */
     FD_NOT_ASCENDING = 19, /* a list does not strictly ascend; a: rank, b: index, c: FD_SUBS or FD_SUPS */
 
     /* Flags. */
-    FD_NOT_A_FLAG = 20,    /* the flag given is not a flag of the listing */
+    FD_NOT_A_FLAG = 20,    /* the numbers given are no flag of the listing: see fd_change */
     FD_OUTSIDE_RANKS = 21, /* a change or a bit of the mask outside 1 to rank - 1 */
     FD_MORE_FLAGS = 22,    /* more flags can be reached than there is room for */
 
@@ -154,8 +162,8 @@ uint16_t fd_class(uint16_t no);
  * fd_check_incidences  by rank, then index: 11, the subs in their order (13 or 15), 12, the sups likewise (14 or 16).
  * fd_is_dyadic         as fd_check_incidences, then the diamond (17, 18), the higher element at ranks 2 to rank - 1:
  *                      exactly two elements between any two that are two ranks apart with some element between. Where
- *                      an index is listed twice, occurrences are counted. Of several 18 for one element the smallest
- *                      low index is named.
+ *                      an index is listed twice, occurrences are counted. By rank, then index; of one element 17 comes
+ *                      before 18, and of several 18 the smallest low index is named.
  * fd_is_valid          fd_bounded, fd_check_incidences, fd_is_dyadic, in this order.
  * fd_closed            fd_bounded, fd_check_incidences, every list strictly ascends (19; by rank, index, subs before
  *                      sups), then the diamond up to the top: ranks 2 to rank. This is what is_valid does not ask.
@@ -173,8 +181,8 @@ fd_answer fd_closed(const uint16_t *counts, size_t counts_len, const uint16_t *e
 
 /*
  * The flag with another element at rank r: of the two elements between flag[r - 1] and flag[r + 1] the other one.
- * A flag is one index for each rank, no fewer and no more numbers, each a sub of the next. Refusals: fd_closed's,
- * then FD_NOT_A_FLAG, then FD_OUTSIDE_RANKS.
+ * A flag is one existing index for each rank, no fewer and no more numbers, each a sub of the next. Refusals:
+ * fd_closed's, then FD_NOT_A_FLAG, then FD_OUTSIDE_RANKS.
  */
 fd_changed fd_change(const uint16_t *counts, size_t counts_len, const uint16_t *ends, size_t ends_len,
                      const uint16_t *inc, size_t inc_len, const uint16_t *flag, size_t flag_len, uint16_t r);
@@ -184,10 +192,10 @@ fd_changed fd_change(const uint16_t *counts, size_t counts_len, const uint16_t *
  *
  * table holds the flags in the order found, the first one first, rank + 1 numbers each; orientations one byte for each,
  * FD_EVEN for the first flag and the opposite of the flag it was found from for every other. Flags are worked in the
- * order found, changes from the lowest rank upward. A flag found again with another orientation than stored is the one
- * event that says "not orientable".
+ * order found, changes from the lowest rank upward. The first flag found again with another orientation than stored for
+ * it is the one event that says "not orientable"; the stored orientation stays, and the search goes on.
  *
- * Room is the whole flags that fit into table, or orientations_len, or FD_MAX_FLAGS, whichever is least. Refusals:
+ * Room is the whole flags that fit into table, or orientations_len, or FD_MAX_FLAGS, whichever is the least. Refusals:
  * those of fd_closed, then FD_NOT_A_FLAG, FD_OUTSIDE_RANKS, and FD_MORE_FLAGS exactly if more flags can be reached than
  * there is room for. It alone writes: both slices then hold the first flags found, as many as there is room for.
  */
@@ -219,7 +227,8 @@ fd_event fd_next_event(fd_cursor *cursor, uint16_t count, uint16_t place);
  *
  * In one rank pairs go by the first member's rank, then its index, then the second's index. Subs: the first member's
  * subs in their order with the second fixed, then the second's with the first fixed, only pairs in use; an element with
- * none in use has the added minimal one. The added maximal one has all facets. Sups go in order of the elements above.
+ * none in use has the added minimal one. The added maximal one has all facets. Sups are gathered from the product's own
+ * subs, in order of the elements above, once for each time that one of these lists the element.
  */
 fd_built fd_duopyramid(const uint16_t *p_counts, size_t p_counts_len, const uint16_t *p_ends, size_t p_ends_len,
                        const uint16_t *p_inc, size_t p_inc_len, const uint16_t *q_counts, size_t q_counts_len,
