@@ -228,10 +228,10 @@ one-fd-duocomb k a b c x y = same-outcome true true
 
 -- The event cursor, by what its contract cites.
 
-pub one-next-event : {at count place c d : ℕ} {e f : Event} → Stepped at count place c e → Stepped at count place d f
-    → (e ≡ f) × (c ≡ d)
-one-next-event p q = (alike (p .0) (q .0), alike (p .1) (q .1))
+pub one-next-event : (at count place : ℕ) {c d : ℕ} {e f : Event} → Stepped at count place c e
+    → Stepped at count place d f → (e ≡ f) × (c ≡ d)
+one-next-event at count place p q = (alike (p .0) (q .0), alike (p .1) (q .1))
 
-pub one-fd-next-event : {at count place c d : ℕ} {e f : Said} → SaidStep at count place c e
+pub one-fd-next-event : (at count place : ℕ) {c d : ℕ} {e f : Said} → SaidStep at count place c e
     → SaidStep at count place d f → (e ≡ f) × (c ≡ d)
-one-fd-next-event p q = (alike (p .0) (q .0), alike (p .1) (q .1))
+one-fd-next-event at count place p q = (alike (p .0) (q .0), alike (p .1) (q .1))
