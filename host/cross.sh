@@ -11,7 +11,7 @@
 # It needs a C and a C++ compiler for x86-64, a rustc that has the standard library of x86_64-unknown-linux-gnu, and
 # qemu-x86_64. On Debian: gcc-x86-64-linux-gnu, g++-x86-64-linux-gnu, qemu-user; with rustup:
 # rustup target add x86_64-unknown-linux-gnu. These variables name others: CC, CXX, RUSTC, RUSTDOC, QEMU (the
-# emulator's command), SYSROOT (the folder that has lib64/ld-linux-x86-64.so.2; the compiler is asked if it is not given).
+# emulator's command), SYSROOT (the folder that has lib64/ld-linux-x86-64.so.2; else the compiler is asked).
 set -eu
 
 here=$(cd "$(dirname "$0")" && pwd)
