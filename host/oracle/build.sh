@@ -6,13 +6,17 @@
 # FOLDER holds the files: as miratope-core/src/.. in a copy of their repository, or flat, as
 # src--miratope-core--src--..txt. Without it $FLUMEDRAC_RUST is taken, then ../shared/docs/src beside the project.
 #
-# Makes host/target/oracle/liboracle_checked.rlib (overflow checks and debug assertions, for answers) and
+# RUSTC names another compiler, and CARGO_BUILD_TARGET another target, as they do for cargo.
+#
+# Makes host/target/oracle/liboracle_checked.rlib (host/target/TARGET/oracle for another target) (overflow checks and debug assertions, for answers) and
 # liboracle_optimised.rlib (for times). The files are only linked to, never copied. Status 2: they were not found.
 set -eu
 
 here=$(cd "$(dirname "$0")" && pwd)
 from=${1:-${FLUMEDRAC_RUST:-$here/../../../shared/docs/src}}
-out=$here/../target/oracle
+rustc=${RUSTC:-rustc}
+target=${CARGO_BUILD_TARGET:-}
+out=$here/../target/${target:+$target/}oracle
 tree=$out/tree
 
 # The place of one of the files.
@@ -47,7 +51,7 @@ done
 compile() {
     name=$1 crate=$2 file=$3
     shift 3
-    rustc --edition 2021 --crate-type rlib --crate-name "$crate" --out-dir "$out" -C metadata="$name" \
+    "$rustc" ${target:+--target "$target"} --edition 2021 --crate-type rlib --crate-name "$crate" --out-dir "$out" -C metadata="$name" \
         -L dependency="$out" --cap-lints allow "$@" "$file"
 }
 
@@ -65,7 +69,7 @@ build() {
         --extern vec_like="$out/libvec_like-$name.rlib" --extern miratope_core="$out/libmiratope_core-$name.rlib"
 }
 
-rustc --edition 2021 --crate-type proc-macro --crate-name strum_macros --out-dir "$out" "$here/standins/strum_macros.rs"
+"$rustc" --edition 2021 --crate-type proc-macro --crate-name strum_macros --out-dir "$out" "$here/standins/strum_macros.rs"
 build checked -C opt-level=2 -C overflow-checks=on -C debug-assertions=on
 build optimised -C opt-level=3
-echo "made liboracle_checked.rlib and liboracle_optimised.rlib in host/target/oracle from $from"
+echo "made liboracle_checked.rlib and liboracle_optimised.rlib in host/target/${target:+$target/}oracle from $from"

@@ -1,4 +1,7 @@
 //! The header compiles as C and as C++, and says the same as `ffi` and `Refusal`.
+//!
+//! The environment variables CC and CXX name other compilers; FLUMEDRAC_RUN has words to start a program by, such as an
+//! emulator (see `cross.sh`).
 
 use std::mem::{align_of, offset_of, size_of};
 use std::path::{Path, PathBuf};
@@ -17,12 +20,31 @@ fn run(command: &mut Command) -> String {
     String::from_utf8(output.stdout).expect("plain text")
 }
 
+/// A compiler for C or C++.
+fn compiler(variable: &str, usual: &str) -> Command {
+    Command::new(std::env::var(variable).unwrap_or(usual.to_string()))
+}
+
+/// A program that a compiler has made.
+fn made(program: &Path) -> Command {
+    let start = std::env::var("FLUMEDRAC_RUN").unwrap_or_default();
+    let mut words = start.split_whitespace();
+    match words.next() {
+        None => Command::new(program),
+        Some(first) => {
+            let mut command = Command::new(first);
+            command.args(words).arg(program);
+            command
+        }
+    }
+}
+
 #[test]
 fn header_is_clean_in_c_and_cpp() {
     let header = include().join("flumedrac.h");
     let strict = ["-Wall", "-Wextra", "-Werror", "-pedantic", "-fsyntax-only"];
-    run(Command::new("cc").args(["-std=c99", "-x", "c"]).args(strict).arg(&header));
-    run(Command::new("c++").args(["-std=c++11", "-x", "c++"]).args(strict).arg(&header));
+    run(compiler("CC", "cc").args(["-std=c99", "-x", "c"]).args(strict).arg(&header));
+    run(compiler("CXX", "c++").args(["-std=c++11", "-x", "c++"]).args(strict).arg(&header));
 }
 
 /// Each line is a C expression and what Rust says to it.
@@ -73,8 +95,8 @@ fn layouts_and_numbers_are_the_same() {
     let folder = Path::new(env!("CARGO_TARGET_TMPDIR"));
     let (file, program) = (folder.join("layout.c"), folder.join("layout"));
     std::fs::write(&file, source).expect("a file can be written");
-    run(Command::new("cc").args(["-std=c99", "-I"]).arg(include()).arg(&file).arg("-o").arg(&program));
-    let printed = run(&mut Command::new(&program));
+    run(compiler("CC", "cc").args(["-std=c99", "-I"]).arg(include()).arg(&file).arg("-o").arg(&program));
+    let printed = run(&mut made(&program));
     let printed: Vec<usize> = printed.lines().map(|line| line.parse().expect("a number")).collect();
     assert_eq!(printed.len(), expected.len());
     for ((expression, value), printed) in expected.iter().zip(printed) {
@@ -88,12 +110,12 @@ fn layouts_and_numbers_are_the_same() {
 fn example_in_c() {
     let here = Path::new(env!("CARGO_MANIFEST_DIR"));
     let program = Path::new(env!("CARGO_TARGET_TMPDIR")).join("cell");
-    let mut cc = Command::new("cc");
+    let mut cc = compiler("CC", "cc");
     cc.args(["-std=c99", "-Wall", "-Wextra", "-Werror", "-pedantic", "-I"]).arg(include());
     cc.arg(here.join("examples/cell.c")).arg(env!("FLUMEDRAC_ARCHIVE")).arg("-o").arg(&program);
     run(&mut cc);
     assert_eq!(
-        run(&mut Command::new(&program)),
+        run(&mut made(&program)),
         "a cell with 3 faces\n\
          is_valid: accepted\n\
          closed: only one element lies between element 3 of rank 2 and element 0 of rank 4\n"

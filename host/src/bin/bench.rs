@@ -2,12 +2,12 @@
 //!
 //!   bench [--model] [--runs N]
 //!
-//! Both sides are measured in turn, run after run, so that what else the machine does touches both. --model measures
+//! Both sides are measured in turn, run after run, so that what else the machine does touches both. The time is the
+//! processor's time for this thread: waiting for a processor that is busy elsewhere does not count. --model measures
 //! the unproved model instead of the archive, only to try this program.
 
 use std::any::Any;
 use std::hint::black_box;
-use std::time::Instant;
 
 use flumedrac::trial::{cells, limit_memory, Kind, Library, Model, Test};
 use flumedrac::{Listing, MAX_ELEMENTS, MAX_FLAGS, MAX_INCIDENCES, MAX_RANKS};
@@ -22,6 +22,25 @@ const LEAST_SECONDS: f64 = 0.001;
 type Work<'a> = Box<dyn FnMut(&mut Bin) + 'a>;
 type Bin = Vec<Box<dyn Any>>;
 
+/// The processor's time for this thread, in seconds.
+fn now() -> f64 {
+    /// Seconds and nanoseconds, as C has them on Linux with 64 bits.
+    #[repr(C)]
+    struct Time {
+        seconds: i64,
+        nanoseconds: i64,
+    }
+    extern "C" {
+        fn clock_gettime(clock: i32, time: *mut Time) -> i32;
+    }
+    const THREAD: i32 = 3;
+    let mut time = Time { seconds: 0, nanoseconds: 0 };
+    // Safety: the time is lent for this call alone.
+    let status = unsafe { clock_gettime(THREAD, &mut time) };
+    assert_eq!(status, 0, "there is no clock for a thread's time");
+    time.seconds as f64 + time.nanoseconds as f64 / 1e9
+}
+
 /// The times of one kind of work, in seconds.
 struct Times<'a> {
     work: Work<'a>,
@@ -33,19 +52,19 @@ impl<'a> Times<'a> {
     fn new(mut work: Work<'a>) -> Self {
         // The first time warms up; the second says how often to repeat.
         work(&mut vec![]);
-        let start = Instant::now();
+        let start = now();
         work(&mut vec![]);
-        let once = start.elapsed().as_secs_f64().max(1e-9);
+        let once = (now() - start).max(1e-9);
         Self { work, repeats: (LEAST_SECONDS / once).ceil() as usize, times: vec![] }
     }
 
     fn measure(&mut self) {
         let mut bin = Bin::with_capacity(self.repeats);
-        let start = Instant::now();
+        let start = now();
         for _ in 0..self.repeats {
             (self.work)(&mut bin);
         }
-        self.times.push(start.elapsed().as_secs_f64() / self.repeats as f64);
+        self.times.push((now() - start) / self.repeats as f64);
     }
 
     fn median(&self) -> f64 {

@@ -1,6 +1,8 @@
 //! The means of trying the library: what it is asked, an unproved model of it, and cells to ask about.
 
 pub mod cells;
+#[cfg(linked)]
+pub mod guarded;
 pub mod library;
 pub mod limit;
 pub mod model;

@@ -1,10 +1,12 @@
 //! Compares the library with the Rust files, question by question.
 //!
-//!   compare [--model | --break NAME | --breaks] [--seed N] [--rounds N] [--small] [--write-replay FILE]
+//!   compare [--guarded | --model | --break NAME | --breaks] [--seed N] [--rounds N] [--small] [--write-replay FILE]
 //!
-//! Without more, the archive is asked. --model asks the unproved model instead, to try this program; --break gives the
-//! model one fault; --breaks tries every fault in turn and fails if one is not caught. --rounds sets how many damaged
-//! and random listings are tried, --small asks less of everything. --write-replay writes the replay list.
+//! Without more, the archive is asked. --guarded asks it with every slice beside memory that must not be touched: an
+//! access outside a slice then ends the program by a signal. --model asks the unproved model instead, to try this
+//! program; --break gives the model one fault; --breaks tries every fault in turn and fails if one is not caught.
+//! --rounds sets how many damaged and random listings are tried, --small asks less of everything. --write-replay
+//! writes the replay list.
 //!
 //! Status 0: no differences. 1: some. 2: no archive to ask, or no Rust files to compare with.
 
@@ -27,6 +29,7 @@ use replay::Replay;
 use run::Run;
 
 struct Options {
+    guarded: bool,
     model: bool,
     fault: Option<Break>,
     breaks: bool,
@@ -36,11 +39,13 @@ struct Options {
 }
 
 fn options() -> Result<Options, String> {
-    let mut options = Options { model: false, fault: None, breaks: false, seed: 1, scale: Scale::FULL, replay: None };
+    let mut options =
+        Options { guarded: false, model: false, fault: None, breaks: false, seed: 1, scale: Scale::FULL, replay: None };
     let mut words = std::env::args().skip(1);
     while let Some(word) = words.next() {
         let mut value = || words.next().ok_or(format!("{word} wants a value"));
         match word.as_str() {
+            "--guarded" => options.guarded = true,
             "--model" => options.model = true,
             "--breaks" => options.breaks = true,
             "--small" => options.scale = Scale::SMALL,
@@ -83,7 +88,11 @@ fn main() -> ExitCode {
 
 #[cfg(linked)]
 fn archive(options: &Options) -> ExitCode {
-    compare(&flumedrac::trial::library::Archive, "the archive", options)
+    use flumedrac::trial::{guarded::Guarded, library::Archive};
+    match options.guarded {
+        true => compare(&Guarded::default(), "the archive, its slices guarded", options),
+        false => compare(&Archive, "the archive", options),
+    }
 }
 
 #[cfg(not(linked))]
