@@ -57,13 +57,16 @@ pub change-refuses : Says change.Post
     × (r .answer .no ≢ 0 → r .flag ≡ replicate 16 0))
 unfolding changedOf
 change-refuses k a r x p =
-    rw p (change-broken limits (lent a) (flag a) (mask a), λ h. if-refused (changeTest limits (lent a) (flag a) (mask a) .no) h)
+    rw p
+    (change-broken limits (lent a) (flag a) (mask a), λ h. none (changeTest limits (lent a) (flag a) (mask a) .no) h)
   where
-    if-refused : (n : ℕ) → n ≢ 0 → ifZero n (padded (changeAt (lent a) (mask a) (flag a))) (replicate 16 0) ≡ replicate 16 0
-    if-refused zero h = absurd (h refl)
-    if-refused (suc n) h = refl
+    none : (n : ℕ) → n ≢ 0
+        → ifZero n (padded (changeAt (lent a) (mask a) (flag a))) (replicate 16 0) ≡ replicate 16 0
+    none zero h = absurd (h refl)
+    none (suc n) h = refl
 
--- A search that is refused leaves the table and the bytes as they were, but at 22, when they hold the first flags found.
+-- A search that is refused leaves the table and the bytes as they were, but at 22, when they hold the first flags
+-- found.
 pub search-searches : Says search.Post (λ a r x. Searches (lent a) (flag a) (mask a) (tables a .0) (tables a .1) r
     (tables x .0) (tables x .1))
 search-searches k a r x p =

@@ -84,8 +84,8 @@ pub dyadic-by-the-book : Says is-dyadic.Post (λ a r x. Distinct (lent a)
 dyadic-by-the-book k a r x p D = rw p (dyadic-is (lent a) D)
 
 -- is_valid is the three of them.
-pub valid-by-the-book : Says is-valid.Post (λ a r x. Distinct (lent a)
-    → r .no ≡ 0 ↔ (Shaped limits (lent a) × Bounded (lent a) × Incident (lent a) × Diamond (lent a) (rank (lent a) - 1)))
+pub valid-by-the-book : Says is-valid.Post (λ a r x. Distinct (lent a) → r .no ≡ 0
+    ↔ (Shaped limits (lent a) × Bounded (lent a) × Incident (lent a) × Diamond (lent a) (rank (lent a) - 1)))
 valid-by-the-book k a r x p D = rw p (valid-is (lent a) D)
 
 -- Closed: bounded, incident, all lists ascending, and the diamond up to the maximal element.
@@ -99,8 +99,8 @@ pub change-by-the-book : Says change.Post (λ a r x. r .answer .no ≡ 0
 change-by-the-book k a r x p = rw p (change-changes limits (lent a) (flag a) (mask a))
 
 -- A search that is answered holds exactly the flags that the changes of the mask lead to, each once and in the order
--- found; it counts them; it says whether they can be coloured with two colours that each change exchanges, and if so the
--- bytes are these colours.
+-- found; it counts them; it says whether they can be coloured with two colours that each change exchanges, and if so
+-- the bytes are these colours.
 pub search-by-the-book : Says search.Post (λ a r x. r .answer .no ≡ 0
     → Found (lent a) (flag a) (mask a) (tables a .0) (tables a .1) r (tables x .0) (tables x .1))
 search-by-the-book k a r x p =

@@ -47,8 +47,8 @@ pub let-through : (isValid limits leakingBox ≡ fine) × (closed limits leaking
 unfolding answered
 let-through = (ap validIn (last starred), ap closedIn (last starred))
 
--- The rule that separates the two tests: of a listing that is_valid accepts, with ascending lists, closed asks one thing
--- more, the diamond at the maximal element.
+-- The rule that separates the two tests: of a listing that is_valid accepts, with ascending lists, closed asks one
+-- thing more, the diamond at the maximal element.
 pub separating-rule : (m : Limits) (L : Listing) → isValid m L .no ≡ 0 → Ascends L
     → closed m L .no ≡ 0 ↔ DiamondAt L (rank L)
 separating-rule m L v a = (
@@ -58,8 +58,8 @@ separating-rule m L v a = (
 
 -- ---- (b) Does the rule survive when cells are built from smaller shapes?
 
--- Yes. Of two factors that the closed test accepts, high enough, whatever one of the four products has written, where it
--- answered, the closed test accepts too. All four contracts are Outcome at their two flags.
+-- Yes. Of two factors that the closed test accepts, high enough, whatever one of the four products has written, where
+-- it answered, the closed test accepts too. All four contracts are Outcome at their two flags.
 pub rule-survives : (min max : Bool) {A B : Listing} {c e i c′ e′ i′ : List ℕ} {r : Built}
     → Outcome min max A B c e i c′ e′ i′ r → r .answer .no ≡ 0 → closed limits A .no ≡ 0 → closed limits B .no ≡ 0
     → HighEnough min max (rank A) (rank B) → closed limits (prefix (listing c′ e′ i′) r) .no ≡ 0

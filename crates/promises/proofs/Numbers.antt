@@ -63,7 +63,8 @@ module _ {low high : ℕ} where
     among-third : (seen l : List ℕ) → Among low high (thirdTest f seen l)
     unfolding thirdTest
     among-third seen [] = among-fine
-    among-third seen (x ∷ l) = among-or (among-cond (leb 2 (occurs x seen)) (f x) fine (each x) among-fine) (among-third (x ∷ seen) l)
+    among-third seen (x ∷ l) =
+        among-or (among-cond (leb 2 (occurs x seen)) (f x) fine (each x) among-fine) (among-third (x ∷ seen) l)
 
 -- Test 1 refuses with 10.
 pub bounded-numbers : (L : Listing) → Among 10 10 (boundedTest L)

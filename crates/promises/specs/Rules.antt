@@ -1,13 +1,15 @@
 -- The refusals of each entry, in their order, each with the rule whose breach it says.
 --
 -- Rule           what must hold, and the numbers, from low to high, that say that it does not
+-- rules, rule    a rule with numbers from low to high, with one number
 -- FirstBroken    n says which rule is the first that is broken: it is one of that rule's numbers, and 0 if none is
 -- Filled         the ends do not fall and come to inc's length
 -- shapeRules     1 to 6
 -- boundedRule    10
 -- incidentRule   11 to 16, by the place of the first breach
 -- ascentRule     19
--- below, upTo    17 and 18: each index that a walk below the top meets is met twice; the diamond at the ranks to the top
+-- belowTopRule   17 and 18 below the top: each index that a walk meets is met twice
+-- upToTopRule    17 and 18 up to the top: the diamond
 -- boundedRules, incidentRules, dyadicRules, validRules, closedRules    the five tests
 -- flagRule       20
 -- changeRules    a change

@@ -1,9 +1,9 @@
--- What is promised of a search of L from a first flag by the changes of a mask, that was lent a table and bytes and left
--- table′ and bytes′ in them, and answered r.
+-- What is promised of a search of L from a first flag by the changes of a mask, that was lent a table and bytes and
+-- left table′ and bytes′ in them, and answered r.
 --
 -- roomIn     how many flags there is room for
--- Searches   which refusal comes when, and what then stands in the table and the bytes: refused with another number than
---            22 they are as they were, and at 22 they hold the first flags found, as many as there is room for
+-- Searches   which refusal comes when, and what then stands in the table and the bytes: refused with another number
+--            than 22 they are as they were, and at 22 they hold the first flags found, as many as there is room for
 -- Found      what an answered search found: all flags that the changes lead to, each once, counted, and coloured
 use mathlib.Core.Path.{_≡_}
 use mathlib.Core.Logic.{_≢_}
