@@ -1,0 +1,17 @@
+-- counted : a number up to a list's length counts a start of the list
+-- placed : a product of a number of 16 bits and a number up to 16 is small
+use native.Mathlib.Omega.{arith}
+use native.Mathlib.Nat.{mul-le-mul}
+use Prim.Native.Nat.{ℕ, _≤_, _<_, _*_}
+use mathlib.Core.List.{List}
+use mathlib.Core.Path.{_≡_}
+use lib.ListN.{length, take, length-take}
+use Rattle.io.specs.Counts.{Counts}
+
+pub counted : (n : ℕ) (xs : List ℕ) → n ≤ length xs → Counts n xs
+counted n xs h = (h , simp length-take (omega arith))
+
+pub placed : (i w : ℕ) → i < 65536 → w ≤ 16 → i * w ≤ 1048576
+placed i w h k =
+    let e : i ≤ 65536 = omega arith in
+    mul-le-mul e k
