@@ -115,16 +115,24 @@ fn event(e: Event, table: &[u16], odd: &[u8], w: usize) {
     }
 }
 
-// The events of a search, with all room.
+// The events of a search with this count and place, in order.
+fn told(count: u16, place: u16, table: &[u16], odd: &[u8], w: usize) {
+    let mut at = 0;
+    let end = flag::events_in(count, place);
+    while at < end {
+        event(flag::event_at(at, count, place), table, odd, w);
+        at += 1;
+    }
+}
+
+// A search with all room, and its events.
 fn events(line: &[u8], counts: &[u16], ends: &[u16], inc: &[u16], first: &[u16]) {
     let mask = text::narrow(text::plain(line, 0));
     let mut table = [65535u16; 262144];
     let mut odd = [255u8; 16384];
     let s = search::search(counts, ends, inc, first, mask, &mut table, &mut odd);
     say::answer(s.answer);
-    for at in 0..flag::events_in(s.count, s.place) {
-        event(flag::event_at(at, s.count, s.place), &table, &odd, counts.len());
-    }
+    told(s.count, s.place, &table, &odd, counts.len());
 }
 
 // A question on a flag.
