@@ -9,7 +9,7 @@ use lib.ListN.{length, take, length-take}
 use Rattle.io.specs.Counts.{Counts}
 
 pub counted : (n : ℕ) (xs : List ℕ) → n ≤ length xs → Counts n xs
-counted n xs h = (h , simp length-take (omega arith))
+counted n xs h = (h, simp length-take (omega arith))
 
 pub placed : (i w : ℕ) → i < 65536 → w ≤ 16 → i * w ≤ 1048576
 placed i w h k =

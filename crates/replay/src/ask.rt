@@ -75,15 +75,7 @@ fn search(
     table: &mut [u16],
     odd: &mut [u8],
 ) {
-    searched(search::search(
-        counts,
-        ends,
-        inc,
-        first,
-        mask,
-        &mut *table,
-        &mut *odd,
-    ));
+    searched(search::search(counts, ends, inc, first, mask, &mut *table, &mut *odd));
     say::list(table);
     say::bytes(odd);
 }

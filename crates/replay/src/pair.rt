@@ -26,15 +26,55 @@ fn make(
     inc: &mut [u16],
 ) -> Built {
     if text::starts(line, b"duopyramid ") {
-        return product::duopyramid(pcounts, pends, pinc, qcounts, qends, qinc, counts, ends, inc);
+        return product::duopyramid(
+            pcounts,
+            pends,
+            pinc,
+            qcounts,
+            qends,
+            qinc,
+            counts,
+            ends,
+            inc,
+        );
     }
     if text::starts(line, b"duoprism ") {
-        return product::duoprism(pcounts, pends, pinc, qcounts, qends, qinc, counts, ends, inc);
+        return product::duoprism(
+            pcounts,
+            pends,
+            pinc,
+            qcounts,
+            qends,
+            qinc,
+            counts,
+            ends,
+            inc,
+        );
     }
     if text::starts(line, b"duotegum ") {
-        return product::duotegum(pcounts, pends, pinc, qcounts, qends, qinc, counts, ends, inc);
+        return product::duotegum(
+            pcounts,
+            pends,
+            pinc,
+            qcounts,
+            qends,
+            qinc,
+            counts,
+            ends,
+            inc,
+        );
     }
-    product::duocomb(pcounts, pends, pinc, qcounts, qends, qinc, counts, ends, inc)
+    product::duocomb(
+        pcounts,
+        pends,
+        pinc,
+        qcounts,
+        qends,
+        qinc,
+        counts,
+        ends,
+        inc,
+    )
 }
 
 // The product, and what it left in the slices lent.
@@ -106,7 +146,15 @@ fn second(line: &[u8], pcounts: &[u16], pends: &[u16], pinc: &[u16]) {
     let c = text::list(line, 3, &mut counts);
     let e = text::list(line, 4, &mut ends);
     let i = text::list(line, 5, &mut inc);
-    in_room(line, pcounts, pends, pinc, &counts[..c], &ends[..e], &inc[..i]);
+    in_room(
+        line,
+        pcounts,
+        pends,
+        pinc,
+        &counts[..c],
+        &ends[..e],
+        &inc[..i],
+    );
 }
 
 // A question on two factors.

@@ -129,7 +129,11 @@ fn at(list: &[u16], i: usize) -> u64 {
 
 // The byte at a place of a list, 0 past its end.
 fn byte_at(list: &[u8], i: usize) -> u64 {
-    if i < list.len() { wide(wide_byte(list[i])) } else { 0 }
+    if i < list.len() {
+        wide(wide_byte(list[i]))
+    } else {
+        0
+    }
 }
 
 // The place in a table of a flag's number at rank k, where each flag has w numbers, at most 16.
