@@ -5,48 +5,40 @@ use crate::say;
 use crate::text;
 use flag::Event;
 use flag::Orientation;
+use listing::Answer;
+use listing::Number;
 use search::Searched;
 
-// The four counts.
-fn counts(line: &[u8], counts: &[u16]) {
-    if text::starts(line, b"rank ") {
-        say::count(listing::rank(counts));
-        return;
+// The four counts: rank, vertex_count, facet_count, el_count.
+fn count(line: &[u8], counts: &[u16]) -> Number {
+    let name = text::letter(line, 0);
+    if name == b'r' {
+        return listing::rank(counts);
     }
-    if text::starts(line, b"vertex_count ") {
-        say::count(listing::vertex_count(counts));
-        return;
+    if name == b'v' {
+        return listing::vertex_count(counts);
     }
-    if text::starts(line, b"facet_count ") {
-        say::count(listing::facet_count(counts));
-        return;
+    if name == b'f' {
+        return listing::facet_count(counts);
     }
-    if text::starts(line, b"el_count ") {
-        say::count(listing::el_count(counts, text::plain(line, 0) as usize));
-    }
+    listing::el_count(counts, text::plain(line, 0) as usize)
 }
 
-// The tests.
-fn test(line: &[u8], counts: &[u16], ends: &[u16], inc: &[u16]) {
-    if text::starts(line, b"bounded ") {
-        say::answer(valid::bounded(counts, ends, inc));
-        return;
+// The tests: bounded, closed, check_incidences, is_dyadic, is_valid.
+fn test(line: &[u8], counts: &[u16], ends: &[u16], inc: &[u16]) -> Answer {
+    if text::letter(line, 0) == b'b' {
+        return valid::bounded(counts, ends, inc);
     }
-    if text::starts(line, b"check_incidences ") {
-        say::answer(valid::check_incidences(counts, ends, inc));
-        return;
+    if text::letter(line, 1) == b'l' {
+        return valid::closed(counts, ends, inc);
     }
-    if text::starts(line, b"is_dyadic ") {
-        say::answer(valid::is_dyadic(counts, ends, inc));
-        return;
+    if text::letter(line, 1) == b'h' {
+        return valid::check_incidences(counts, ends, inc);
     }
-    if text::starts(line, b"is_valid ") {
-        say::answer(valid::is_valid(counts, ends, inc));
-        return;
+    if text::letter(line, 3) == b'd' {
+        return valid::is_dyadic(counts, ends, inc);
     }
-    if text::starts(line, b"closed ") {
-        say::answer(valid::closed(counts, ends, inc));
-    }
+    valid::is_valid(counts, ends, inc)
 }
 
 // A change.
@@ -83,8 +75,8 @@ fn search(
 // A search with room of the lengths that the line asks for.
 fn search_in_room(line: &[u8], counts: &[u16], ends: &[u16], inc: &[u16], first: &[u16]) {
     let mask = text::narrow(text::plain(line, 0));
-    let mut table = [65535u16; 262160];
-    let mut odd = [255u8; 16400];
+    let mut table = room::table();
+    let mut odd = room::orientations();
     let t = room::words(text::plain(line, 1), &table);
     let o = room::bytes(text::plain(line, 2), &odd);
     search(
@@ -120,59 +112,44 @@ fn told(count: u16, place: u16, table: &[u16], odd: &[u8], w: usize) {
 // A search with all room, and its events.
 fn events(line: &[u8], counts: &[u16], ends: &[u16], inc: &[u16], first: &[u16]) {
     let mask = text::narrow(text::plain(line, 0));
-    let mut table = [65535u16; 262144];
-    let mut odd = [255u8; 16384];
+    let mut table = room::table();
+    let mut odd = room::orientations();
     let s = search::search(counts, ends, inc, first, mask, &mut table, &mut odd);
     say::answer(s.answer);
     told(s.count, s.place, &table, &odd, counts.len());
 }
 
-// A question on a flag.
+// A question on a flag: change, search, events.
 fn flags(line: &[u8], counts: &[u16], ends: &[u16], inc: &[u16], flag: &[u16]) {
-    if text::starts(line, b"change ") {
+    let name = text::letter(line, 0);
+    if name == b'c' {
         change(counts, ends, inc, flag, text::narrow(text::plain(line, 0)));
         return;
     }
-    if text::starts(line, b"search ") {
+    if name == b's' {
         search_in_room(line, counts, ends, inc, flag);
         return;
     }
-    if text::starts(line, b"events ") {
-        events(line, counts, ends, inc, flag);
-    }
-}
-
-// Whether a line asks for a test.
-fn is_test(line: &[u8]) -> bool {
-    if text::starts(line, b"bounded ") {
-        return true;
-    }
-    if text::starts(line, b"check_incidences ") {
-        return true;
-    }
-    if text::starts(line, b"is_") {
-        return true;
-    }
-    text::starts(line, b"closed ")
+    events(line, counts, ends, inc, flag);
 }
 
 // A question on one cell.
 fn cell(line: &[u8]) {
-    let mut counts = [0u16; 32];
-    let mut ends = [0u16; 512];
-    let mut inc = [0u16; 32800];
+    let mut counts = room::few();
+    let mut ends = room::some();
+    let mut inc = room::many();
     let c = text::list(line, 0, &mut counts);
     let e = text::list(line, 1, &mut ends);
     let i = text::list(line, 2, &mut inc);
-    test(line, &counts[..c], &ends[..e], &inc[..i]);
+    say::answer(test(line, &counts[..c], &ends[..e], &inc[..i]));
 }
 
 // A question on one cell and a flag.
 fn cell_and_flag(line: &[u8]) {
-    let mut counts = [0u16; 32];
-    let mut ends = [0u16; 512];
-    let mut inc = [0u16; 32800];
-    let mut flag = [0u16; 32];
+    let mut counts = room::few();
+    let mut ends = room::some();
+    let mut inc = room::many();
+    let mut flag = room::few();
     let c = text::list(line, 0, &mut counts);
     let e = text::list(line, 1, &mut ends);
     let i = text::list(line, 2, &mut inc);
@@ -181,10 +158,10 @@ fn cell_and_flag(line: &[u8]) {
 }
 
 // A question on counts.
-fn plain_counts(line: &[u8]) {
-    let mut list = [0u16; 32];
+fn counts(line: &[u8]) {
+    let mut list = room::few();
     let n = text::list(line, 0, &mut list);
-    counts(line, &list[..n]);
+    say::count(count(line, &list[..n]));
 }
 
 // The class of a refusal's number.
@@ -210,47 +187,47 @@ fn next_event(line: &[u8]) {
     say::number(flag::next_at(at, count, place) as u64);
 }
 
-// A question on numbers alone, or on counts.
-fn numbers(line: &[u8]) {
-    if text::starts(line, b"class ") {
-        class(line);
-        return;
-    }
-    if text::starts(line, b"sign ") {
-        sign(line);
-        return;
-    }
-    if text::starts(line, b"next_event ") {
-        next_event(line);
-        return;
-    }
-    plain_counts(line);
-}
-
-// Whether a line asks about a flag.
-fn is_flag(line: &[u8]) -> bool {
-    if text::starts(line, b"change ") {
-        return true;
-    }
-    if text::starts(line, b"search ") {
-        return true;
-    }
-    text::starts(line, b"events ")
-}
-
-// Any question.
+// Any question. The functions are told apart by letters of their names.
 pub fn ask(line: &[u8]) {
-    if text::starts(line, b"duo") {
-        pair::pair(line);
-        return;
+    match text::letter(line, 0) {
+        b'd' => pair::pair(line),
+        b'b' | b'i' => cell(line),
+        b'c' => ask_c(line),
+        b'e' => ask_e(line),
+        b's' => ask_s(line),
+        b'n' => next_event(line),
+        _ => counts(line),
     }
-    if is_test(line) {
-        cell(line);
-        return;
+}
+
+// change, check_incidences, class, closed.
+fn ask_c(line: &[u8]) {
+    match text::letter(line, 2) {
+        b'a' => ask_ca(line),
+        _ => cell(line),
     }
-    if is_flag(line) {
-        cell_and_flag(line);
-        return;
+}
+
+// change, class.
+fn ask_ca(line: &[u8]) {
+    match text::letter(line, 1) {
+        b'h' => cell_and_flag(line),
+        _ => class(line),
     }
-    numbers(line);
+}
+
+// el_count, events.
+fn ask_e(line: &[u8]) {
+    match text::letter(line, 1) {
+        b'l' => counts(line),
+        _ => cell_and_flag(line),
+    }
+}
+
+// search, sign.
+fn ask_s(line: &[u8]) {
+    match text::letter(line, 1) {
+        b'e' => cell_and_flag(line),
+        _ => sign(line),
+    }
 }

@@ -30,7 +30,7 @@ fn lines(text: &[u8]) {
 }
 
 fn main() {
-    let mut text = [0u8; 524288];
+    let mut text = room::text();
     let n = io::read_full(libc::STDIN_FILENO, &mut text);
     lines(&text[..n]);
 }

@@ -12,7 +12,7 @@ fn built(b: Built) {
     say::number(b.inc as u64);
 }
 
-// The product that the line names.
+// The product that the line names: duopyramid, duoprism, duotegum, duocomb.
 fn make(
     line: &[u8],
     pcounts: &[u16],
@@ -25,7 +25,7 @@ fn make(
     ends: &mut [u16],
     inc: &mut [u16],
 ) -> Built {
-    if text::starts(line, b"duopyramid ") {
+    if text::letter(line, 4) == b'y' {
         return product::duopyramid(
             pcounts,
             pends,
@@ -38,7 +38,7 @@ fn make(
             inc,
         );
     }
-    if text::starts(line, b"duoprism ") {
+    if text::letter(line, 4) == b'r' {
         return product::duoprism(
             pcounts,
             pends,
@@ -51,7 +51,7 @@ fn make(
             inc,
         );
     }
-    if text::starts(line, b"duotegum ") {
+    if text::letter(line, 4) == b'e' {
         return product::duotegum(
             pcounts,
             pends,
@@ -118,9 +118,9 @@ fn in_room(
     qends: &[u16],
     qinc: &[u16],
 ) {
-    let mut counts = [65535u16; 32];
-    let mut ends = [65535u16; 8200];
-    let mut inc = [65535u16; 32800];
+    let mut counts = room::few();
+    let mut ends = room::some();
+    let mut inc = room::many();
     let c = room::words(text::plain(line, 0), &counts);
     let e = room::words(text::plain(line, 1), &ends);
     let i = room::words(text::plain(line, 2), &inc);
@@ -140,9 +140,9 @@ fn in_room(
 
 // The second factor.
 fn second(line: &[u8], pcounts: &[u16], pends: &[u16], pinc: &[u16]) {
-    let mut counts = [0u16; 32];
-    let mut ends = [0u16; 512];
-    let mut inc = [0u16; 8192];
+    let mut counts = room::few();
+    let mut ends = room::some();
+    let mut inc = room::many();
     let c = text::list(line, 3, &mut counts);
     let e = text::list(line, 4, &mut ends);
     let i = text::list(line, 5, &mut inc);
@@ -159,9 +159,9 @@ fn second(line: &[u8], pcounts: &[u16], pends: &[u16], pinc: &[u16]) {
 
 // A question on two factors.
 pub fn pair(line: &[u8]) {
-    let mut counts = [0u16; 32];
-    let mut ends = [0u16; 512];
-    let mut inc = [0u16; 8192];
+    let mut counts = room::few();
+    let mut ends = room::some();
+    let mut inc = room::many();
     let c = text::list(line, 0, &mut counts);
     let e = text::list(line, 1, &mut ends);
     let i = text::list(line, 2, &mut inc);

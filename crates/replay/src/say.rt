@@ -1,4 +1,5 @@
 // Answers as text. A list of more than 300 numbers is given by its length, its sum and its check number.
+use crate::room;
 use libc::STDOUT_FILENO;
 use listing::Answer;
 use listing::Number;
@@ -117,7 +118,7 @@ fn widen(list: &[u8], out: &mut [u16]) -> usize
 
 // A list of bytes.
 pub fn bytes(bytes: &[u8]) {
-    let mut wide = [0u16; 16400];
+    let mut wide = room::wide_orientations();
     let n = widen(bytes, &mut wide);
     list(&wide[..n]);
 }

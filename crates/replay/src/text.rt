@@ -40,17 +40,9 @@ pub fn is_question(line: &[u8]) -> bool {
     line[0] != b'#'
 }
 
-// Whether a line begins with a word.
-pub fn starts(line: &[u8], word: &[u8]) -> bool {
-    if line.len() < word.len() {
-        return false;
-    }
-    for i in 0..word.len() {
-        if line[i] != word[i] {
-            return false;
-        }
-    }
-    true
+// The letter at a place of a line, 0 past its end.
+pub fn letter(line: &[u8], at: usize) -> u8 {
+    if at < line.len() { line[at] } else { 0 }
 }
 
 // A digit's value, and 10 for any other byte.
