@@ -33,10 +33,10 @@ pub fn many() -> [u16; 32800]
 }
 
 // Room for flags: a few more than the limit.
-pub fn table() -> [u16; 262160]
-    ensures { λ r. ⌜ 262160 ≡ length r ⌝ }
+pub fn table() -> [u16; 262400]
+    ensures { λ r. ⌜ 262400 ≡ length r ⌝ }
 {
-    [65535; 262160]
+    [65535; 262400]
 }
 
 // Room for orientations: a few more than the limit.

@@ -1,19 +1,12 @@
+-- `bytes`. A number up to the length counts a start of the slice. Assumes nothing.
 use Rattle.replay.proofs.Counting.{counted}
 use borrow.Author.Needs.{needs}
-use native.Mathlib.Omega.{arith}
-use mathlib.Core.Path.{_≡_, refl, sym, ap, _∙_}
-use Prim.Native.Nat.{ℕ, zero, suc, _+_, _-_, _*_, _≤_, _<_}
-use lib.ListN.{length, getD, take, drop}
 use Rattle.replay.proofs.room.bytes.Statement.{statement}
 use Rattle.replay.proofs.room.bytes.Tie as tie
-use Rattle.replay.proofs.room.bytes.Reads as reads
-use Rattle.replay.proofs.room.bytes.Lts as lts
 
--- src/room.rt:13:1
 returns : tie.Need-returns
 returns c = counted _ _ (search needs)
 
--- src/room.rt:13:1
 returns-2 : tie.Need-returns-2
 returns-2 c = counted _ _ (search needs)
 

@@ -1,16 +1,11 @@
+-- `fill`. Invariant: n has not passed the slice, whose length is as it was. Measure: what is left of the line.
+-- Assumes nothing.
 use borrow.Author.Needs.{needs}
-use native.Mathlib.Omega.{arith}
-use mathlib.Core.Path.{_≡_, refl, sym, ap, _∙_}
-use Prim.Native.Nat.{ℕ, zero, suc, _+_, _-_, _*_, _≤_, _<_}
-use lib.ListN.{length, getD, take, drop}
+use mathlib.Core.Path.{_≡_}
+use Prim.Native.Nat.{_-_, _≤_}
+use lib.ListN.{length}
 use Rattle.replay.proofs.text.fill.Statement.{statement}
 use Rattle.replay.proofs.text.fill.Tie as tie
-use Rattle.replay.proofs.text.fill.Reads as reads
-use Rattle.replay.proofs.text.fill.Lts as lts
-use Rattle.replay.proofs.text.digit.Reads as digit-reads
-use Rattle.replay.proofs.text.item_at.Reads as item-at-reads
-use Rattle.replay.proofs.text.later.Reads as later-reads
-use Rattle.replay.proofs.text.put.Reads as put-reads
 
 abbrev Inv-loop : tie.InvT-loop
 Inv-loop line from out₀ i₀ n₀ out i n = (n ≤ length out) × (length out ≡ length out₀)
@@ -18,67 +13,51 @@ Inv-loop line from out₀ i₀ n₀ out i n = (n ≤ length out) × (length out 
 abbrev μ-loop : tie.MeasureT-loop
 μ-loop line from out₀ i₀ n₀ out i n = length line - i
 
--- src/text.rt:181:5
 loop-holds : tie.Need-loop-holds Inv-loop μ-loop
 loop-holds c = search needs
 
--- src/text.rt:182:17
 shared-slice-read-b : tie.Need-shared-slice-read-b Inv-loop μ-loop
 shared-slice-read-b c = search needs
 
--- src/text.rt:186:12
 digit-requires : tie.Need-digit-requires Inv-loop μ-loop
 digit-requires c κs = search needs
 
--- src/text.rt:187:17
 item-at-requires : tie.Need-item-at-requires Inv-loop μ-loop
 item-at-requires c κs = search needs
 
--- src/text.rt:188:13
 put-requires : tie.Need-put-requires Inv-loop μ-loop
 put-requires c κs = search needs
 
--- src/text.rt:189:31
 add-later : tie.Need-add-later Inv-loop μ-loop
 add-later c = search needs
 
--- src/text.rt:189:13
 later-requires : tie.Need-later-requires Inv-loop μ-loop
 later-requires c κs = search needs
 
--- src/text.rt:181:5
 loop-less : tie.Need-loop-less Inv-loop μ-loop
 loop-less c = search needs
 
--- src/text.rt:181:5
 loop-again : tie.Need-loop-again Inv-loop μ-loop
 loop-again c = search needs
 
--- src/text.rt:191:13
 add-i : tie.Need-add-i Inv-loop μ-loop
 add-i c = search needs
 
--- src/text.rt:181:5
 loop-less-2 : tie.Need-loop-less-2 Inv-loop μ-loop
 loop-less-2 c = search needs
 
--- src/text.rt:181:5
 loop-again-2 : tie.Need-loop-again-2 Inv-loop μ-loop
 loop-again-2 c = search needs
 
--- src/text.rt:176:1
 same-length : tie.Need-same-length Inv-loop μ-loop
 same-length c = search needs
 
--- src/text.rt:176:1
 returns : tie.Need-returns Inv-loop μ-loop
 returns c = search needs
 
--- src/text.rt:176:1
 same-length-2 : tie.Need-same-length-2 Inv-loop μ-loop
 same-length-2 c = search needs
 
--- src/text.rt:176:1
 returns-2 : tie.Need-returns-2 Inv-loop μ-loop
 returns-2 c = search needs
 

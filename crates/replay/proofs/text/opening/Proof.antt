@@ -1,12 +1,11 @@
+-- `opening`. Invariant: i has not passed the line. Measure: what is left of the line.
+-- Assumes nothing.
 use borrow.Author.Needs.{needs}
-use native.Mathlib.Omega.{arith}
-use mathlib.Core.Path.{_≡_, refl, sym, ap, _∙_}
-use Prim.Native.Nat.{ℕ, zero, suc, _+_, _-_, _*_, _≤_, _<_}
-use lib.ListN.{length, getD, take, drop}
+use mathlib.Core.Path.{_≡_}
+use Prim.Native.Nat.{_-_, _≤_}
+use lib.ListN.{length}
 use Rattle.replay.proofs.text.opening.Statement.{statement}
 use Rattle.replay.proofs.text.opening.Tie as tie
-use Rattle.replay.proofs.text.opening.Reads as reads
-use Rattle.replay.proofs.text.opening.Lts as lts
 
 abbrev Inv-loop : tie.InvT-loop
 Inv-loop line k left₀ i₀ i-end left i = (i ≤ i-end) × (i-end ≡ length line)
@@ -14,39 +13,30 @@ Inv-loop line k left₀ i₀ i-end left i = (i ≤ i-end) × (i-end ≡ length l
 abbrev μ-loop : tie.MeasureT-loop
 μ-loop line k left₀ i₀ i-end left i = i-end - i
 
--- src/text.rt:162:5
 loop-holds : tie.Need-loop-holds Inv-loop μ-loop
 loop-holds c = search needs
 
--- src/text.rt:163:12
 shared-slice-read-if1 : tie.Need-shared-slice-read-if1 Inv-loop μ-loop
 shared-slice-read-if1 c = search needs
 
--- src/text.rt:165:24
 add-result : tie.Need-add-result Inv-loop μ-loop
 add-result c = search needs
 
--- src/text.rt:165:17
 returns : tie.Need-returns Inv-loop μ-loop
 returns c = search needs
 
--- src/text.rt:167:13
 sub-left : tie.Need-sub-left Inv-loop μ-loop
 sub-left c = search needs
 
--- src/text.rt:162:9
 add-i : tie.Need-add-i Inv-loop μ-loop
 add-i c = search needs
 
--- src/text.rt:162:5
 loop-less : tie.Need-loop-less Inv-loop μ-loop
 loop-less c = search needs
 
--- src/text.rt:162:5
 loop-again : tie.Need-loop-again Inv-loop μ-loop
 loop-again c = search needs
 
--- src/text.rt:160:1
 returns-2 : tie.Need-returns-2 Inv-loop μ-loop
 returns-2 c = search needs
 
