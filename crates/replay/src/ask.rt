@@ -1,10 +1,10 @@
 // Each question put to the function that it names.
 use crate::pair;
-use crate::room;
-use crate::say;
-use crate::text;
 use flag::Event;
 use flag::Orientation;
+use lines::room;
+use lines::say;
+use lines::text;
 use listing::Answer;
 use listing::Number;
 use search::Searched;

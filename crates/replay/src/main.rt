@@ -3,11 +3,12 @@
 // by the rules where the Rust has none.
 mod ask;
 mod pair;
-mod room;
-mod say;
-mod text;
 
 use libc::STDOUT_FILENO;
+use lines::room;
+use lines::text;
+ghost use Prim.Native.Nat.{_≤_, _<_};
+ghost use lib.ListN.{length};
 
 // One line, answered.
 fn line(text: &[u8]) {
@@ -19,11 +20,26 @@ fn line(text: &[u8]) {
     io::write_all(STDOUT_FILENO, b"\n");
 }
 
+// Where the line ends that has the place `at`: at its line feed, or at the end of the text.
+fn line_end(text: &[u8], at: usize) -> usize
+    requires { ⌜ at < length (now text) ⌝ }
+    ensures { λ r. ⌜ (at ≤ r) × (r ≤ length (now (text .entry))) ⌝ }
+{
+    let mut i = at;
+    while i < text.len() {
+        if text[i] == b'\n' {
+            break;
+        }
+        i += 1;
+    }
+    i
+}
+
 // All lines.
-fn lines(text: &[u8]) {
+fn all(text: &[u8]) {
     let mut at = 0;
     while at < text.len() {
-        let end = text::line_end(text, at);
+        let end = line_end(text, at);
         line(&text[at..end]);
         at = end + 1;
     }
@@ -32,5 +48,5 @@ fn lines(text: &[u8]) {
 fn main() {
     let mut text = room::text();
     let n = io::read_full(libc::STDIN_FILENO, &mut text);
-    lines(&text[..n]);
+    all(&text[..n]);
 }

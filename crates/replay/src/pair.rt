@@ -1,7 +1,7 @@
 // Questions on products.
-use crate::room;
-use crate::say;
-use crate::text;
+use lines::room;
+use lines::say;
+use lines::text;
 use product::Built;
 
 // What a product answered.
