@@ -12,9 +12,9 @@ fn built(b: Built) {
     say::number(b.inc as u64);
 }
 
-// The product that the line names: duopyramid, duoprism, duotegum, duocomb.
+// The product that a letter of its name stands for: duopyramid, duoprism, duotegum, duocomb.
 fn make(
-    line: &[u8],
+    letter: u8,
     pcounts: &[u16],
     pends: &[u16],
     pinc: &[u16],
@@ -25,8 +25,8 @@ fn make(
     ends: &mut [u16],
     inc: &mut [u16],
 ) -> Built {
-    if text::letter(line, 4) == b'y' {
-        return product::duopyramid(
+    match letter {
+        b'y' => product::duopyramid(
             pcounts,
             pends,
             pinc,
@@ -36,10 +36,8 @@ fn make(
             counts,
             ends,
             inc,
-        );
-    }
-    if text::letter(line, 4) == b'r' {
-        return product::duoprism(
+        ),
+        b'r' => product::duoprism(
             pcounts,
             pends,
             pinc,
@@ -49,10 +47,8 @@ fn make(
             counts,
             ends,
             inc,
-        );
-    }
-    if text::letter(line, 4) == b'e' {
-        return product::duotegum(
+        ),
+        b'e' => product::duotegum(
             pcounts,
             pends,
             pinc,
@@ -62,24 +58,24 @@ fn make(
             counts,
             ends,
             inc,
-        );
+        ),
+        _ => product::duocomb(
+            pcounts,
+            pends,
+            pinc,
+            qcounts,
+            qends,
+            qinc,
+            counts,
+            ends,
+            inc,
+        ),
     }
-    product::duocomb(
-        pcounts,
-        pends,
-        pinc,
-        qcounts,
-        qends,
-        qinc,
-        counts,
-        ends,
-        inc,
-    )
 }
 
 // The product, and what it left in the slices lent.
 fn shown(
-    line: &[u8],
+    letter: u8,
     pcounts: &[u16],
     pends: &[u16],
     pinc: &[u16],
@@ -91,7 +87,7 @@ fn shown(
     inc: &mut [u16],
 ) {
     let b = make(
-        line,
+        letter,
         pcounts,
         pends,
         pinc,
@@ -125,7 +121,7 @@ fn in_room(
     let e = room::words(text::plain(line, 1), &ends);
     let i = room::words(text::plain(line, 2), &inc);
     shown(
-        line,
+        text::letter(line, 4),
         pcounts,
         pends,
         pinc,
