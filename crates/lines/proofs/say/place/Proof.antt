@@ -12,10 +12,24 @@ returns-2 : tie.Need-returns-2
 returns-2 c = search needs
 
 mul-result : tie.Need-mul-result
-mul-result c = record { fits = omega (arith, placed (c .before .before .args .i) (c .before .before .args .w) (search needs) (search needs)) }
+mul-result c =
+    record {
+      fits =
+          omega (
+            arith,
+            placed (c .before .before .args .i) (c .before .before .args .w) (search needs) (search needs),
+          );
+    }
 
 add-result : tie.Need-add-result
-add-result c = record { fits = omega (arith, placed (c .before .before .args .i) (c .before .before .args .w) (search needs) (search needs)) }
+add-result c =
+    record {
+      fits =
+          omega (
+            arith,
+            placed (c .before .before .args .i) (c .before .before .args .w) (search needs) (search needs),
+          );
+    }
 
 returns-3 : tie.Need-returns-3
 returns-3 c = search needs
