@@ -1,18 +1,23 @@
-//! The replay list, asked of the model and, where it is linked, of the archive. No Rust files are needed for it.
+//! The replay lists, asked of the model and, where it is linked, of the archive. No Rust files are needed for it.
 
-use flumedrac::trial::{Library, Model, Question, Reply};
+use flumedrac::trial::{Library, Model, Question};
+
+const RUST: &str = include_str!("../replay.txt");
+const RULES: &str = include_str!("../rules.txt");
+
+fn lines(list: &str) -> impl Iterator<Item = &str> {
+    list.lines().filter(|line| !line.is_empty() && !line.starts_with('#'))
+}
 
 fn replay(library: &dyn Library) {
-    let list = include_str!("../replay.txt");
-    let mut asked = 0;
-    for line in list.lines().filter(|line| !line.is_empty() && !line.starts_with('#')) {
-        let (question, reply) = line.split_once(" = ").expect("a question and its reply");
-        let question = Question::read(question).unwrap_or_else(|| panic!("no question: {line}"));
-        let reply = Reply::read(reply).unwrap_or_else(|| panic!("no reply: {line}"));
-        assert_eq!(question.ask(library), reply, "{line}");
-        asked += 1;
+    for (list, least) in [(RUST, 300), (RULES, 300)] {
+        for line in lines(list) {
+            let (question, reply) = line.split_once(" = ").expect("a question and its reply");
+            let question = Question::read(question).unwrap_or_else(|| panic!("no question: {line}"));
+            assert_eq!(question.ask(library).to_string(), reply, "{line}");
+        }
+        assert!(lines(list).count() >= least, "the list has too few cases");
     }
-    assert!(asked >= 300, "the list has only {asked} cases");
 }
 
 #[test]
@@ -24,4 +29,36 @@ fn model() {
 #[test]
 fn archive() {
     replay(&flumedrac::trial::library::Archive);
+}
+
+/// Under a heading '# NUMBER: ..' of the list by the rules, every answer is that refusal.
+#[test]
+fn headings() {
+    let mut heading = None;
+    let mut met = vec![];
+    for line in RULES.lines() {
+        if let Some(words) = line.strip_prefix("# ") {
+            heading = words.split_once(':').and_then(|(number, _)| number.parse::<u16>().ok());
+            met.extend(heading);
+        } else if let (Some(number), Some((_, reply))) = (heading, line.split_once(" = ")) {
+            assert_eq!(reply.split(' ').next(), Some(number.to_string().as_str()), "{line}");
+        }
+    }
+    let all: Vec<u16> = (1..=6).chain(19..=22).chain(30..=36).collect();
+    assert_eq!(met, all);
+}
+
+/// The program `replay` is given these lists.
+#[test]
+fn program() {
+    let folder = concat!(env!("CARGO_MANIFEST_DIR"), "/../crates/replay/");
+    let read = |name: &str| std::fs::read_to_string(folder.to_owned() + name).expect("the program's files are there");
+    let asked: Vec<&str> = [RUST, RULES].iter().flat_map(|list| list.lines()).collect();
+    assert_eq!(read("stdout").lines().collect::<Vec<_>>(), asked, "host/replay.sh makes it");
+    let question = |line: &&str| match line.starts_with('#') {
+        true => line.to_string(),
+        false => line.split(" = ").next().unwrap_or_default().to_owned(),
+    };
+    let questions: Vec<String> = asked.iter().map(question).collect();
+    assert_eq!(read("stdin").lines().collect::<Vec<_>>(), questions, "host/replay.sh makes it");
 }

@@ -210,6 +210,27 @@ fn events(library: &dyn Library, cell: &Raw, first: &[u16], mask: u16) -> Reply 
 /// Numbers in brackets.
 struct List<'a>(&'a [u16]);
 
+/// Slices of a reply that are longer are written as a digest.
+const LONGEST: usize = 300;
+
+/// A slice of a reply: its numbers in brackets or, if it is long, its length, its sum and its check number in braces.
+struct Digest<'a>(&'a [u16]);
+
+/// The check number of a list: c := (257 c + x + 1) mod 4294967291, from 0, over its numbers x in order.
+fn check_number(list: &[u16]) -> u64 {
+    list.iter().fold(0, |c, &x| (257 * c + u64::from(x) + 1) % 4_294_967_291)
+}
+
+impl Display for Digest<'_> {
+    fn fmt(&self, f: &mut fmt::Formatter<'_>) -> fmt::Result {
+        if self.0.len() <= LONGEST {
+            return write!(f, "{}", List(self.0));
+        }
+        let sum: u64 = self.0.iter().map(|&x| u64::from(x)).sum();
+        write!(f, "{{{} {sum} {}}}", self.0.len(), check_number(self.0))
+    }
+}
+
 impl Display for List<'_> {
     fn fmt(&self, f: &mut fmt::Formatter<'_>) -> fmt::Result {
         f.write_char('[')?;
@@ -255,7 +276,7 @@ impl Display for Reply {
         let numbers: Vec<String> = self.numbers.iter().map(i64::to_string).collect();
         write!(f, "{}", numbers.join(" "))?;
         for slice in &self.slices {
-            write!(f, " {}", List(slice))?;
+            write!(f, " {}", Digest(slice))?;
         }
         if self.spilled {
             write!(f, " and wrote outside the slices")?;
@@ -282,9 +303,15 @@ impl<'a> Words<'a> {
         self.word()?.parse().ok()
     }
 
+    /// Numbers in brackets, where `5*3` stands for `5 5 5`.
     fn list(&mut self) -> Option<Vec<u16>> {
         let inside = self.word()?.strip_prefix('[')?.strip_suffix(']')?;
-        inside.split_whitespace().map(|x| x.parse().ok()).collect()
+        let mut list = vec![];
+        for item in inside.split_whitespace() {
+            let (number, times) = item.split_once('*').unwrap_or((item, "1"));
+            list.extend(std::iter::repeat(number.parse::<u16>().ok()?).take(times.parse().ok()?));
+        }
+        Some(list)
     }
 
     fn raw(&mut self) -> Option<Raw> {

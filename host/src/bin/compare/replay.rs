@@ -6,8 +6,12 @@ use flumedrac::trial::{Question, Random, Reply};
 
 use crate::judge::{By, Subject};
 
-/// Lines longer than this are not kept.
+/// Lines longer than this are not kept, and those of the largest answers if longer than the other.
 const LONGEST: usize = 1200;
+const LONGEST_LARGE: usize = 3000;
+
+/// How many of the largest answers of each product and of the search are kept.
+const LARGEST: usize = 3;
 
 /// Some of the answers that the Rust files gave.
 pub struct Replay {
@@ -19,12 +23,13 @@ pub struct Replay {
     drawn: BTreeMap<(&'static str, i64), Drawn>,
 }
 
-/// Of one kind and one answer: the shortest lines, and some that were drawn by lot.
+/// Of one kind and one answer: the shortest lines, some that were drawn by lot, and the largest answers.
 #[derive(Default)]
 struct Drawn {
     seen: usize,
     shortest: Vec<String>,
     lot: Vec<String>,
+    largest: Vec<(i64, String)>,
 }
 
 impl Replay {
@@ -35,18 +40,25 @@ impl Replay {
     /// A reply that was compared and is right.
     pub fn offer(&mut self, question: &Question<&Subject>, reply: &Reply, by: By) {
         let line = format!("{question} = {reply}");
-        if by != By::Rust || line.len() > LONGEST || self.chosen.contains(&line) {
+        if by != By::Rust || line.len() > LONGEST_LARGE || self.chosen.contains(&line) {
             return;
         }
         if self.choosing {
             return self.chosen.push(line);
+        }
+        let drawn = self.drawn.entry((question.name(), reply.numbers[0])).or_default();
+        if matches!(question, Question::Product { .. } | Question::Search { .. }) {
+            // What was built or found: the lengths of a product, the count of a search.
+            drawn.offer_large(reply.numbers[5..].iter().sum(), &line);
+        }
+        if line.len() > LONGEST {
+            return;
         }
         let (shortest, lot) = match (question, reply.numbers[0]) {
             (Question::Product { .. }, _) => (10, 20),
             (Question::Events { .. } | Question::Search { .. } | Question::Change { .. }, 0) => (6, 14),
             _ => (2, 4),
         };
-        let drawn = self.drawn.entry((question.name(), reply.numbers[0])).or_default();
         drawn.seen += 1;
         if !drawn.shortest.contains(&line) {
             let at = drawn.shortest.partition_point(|kept| kept.len() <= line.len());
@@ -67,7 +79,8 @@ impl Replay {
     pub fn text(self, seed: u64) -> String {
         let mut lines = self.chosen;
         for (_, drawn) in self.drawn {
-            for line in drawn.shortest.into_iter().chain(drawn.lot) {
+            let largest = drawn.largest.into_iter().map(|(_, line)| line);
+            for line in drawn.shortest.into_iter().chain(drawn.lot).chain(largest) {
                 if !lines.contains(&line) {
                     lines.push(line);
                 }
@@ -77,16 +90,31 @@ impl Replay {
     }
 }
 
+impl Drawn {
+    /// Keeps the line if few answers are larger.
+    fn offer_large(&mut self, size: i64, line: &str) {
+        if self.largest.iter().any(|(_, kept)| kept == line) {
+            return;
+        }
+        let at = self.largest.partition_point(|(kept, _)| *kept >= size);
+        self.largest.insert(at, (size, line.to_owned()));
+        self.largest.truncate(LARGEST);
+    }
+}
+
 const HEAD: &str = "\
 # Answers of the Rust program, to be replayed: one question and its reply on each line.
 #
 # Made in host/ by 'cargo run --release --bin compare -- --model --small --seed SEED --write-replay replay.txt', from
 # the answers of the checked build of the Rust files (host/oracle). The first lines are the listings to try of the
-# request; the others are, for each function and each answer, the shortest questions and some drawn by lot.
+# request; the others are, for each function and each answer, the shortest questions, some drawn by lot and, of products
+# and searches, the largest.
 #
 #   FUNCTION ARGUMENTS = NUMBERS SLICES
 #
-# A slice is its numbers in brackets. A listing is three slices: counts, ends, inc.
+# A slice is its numbers in brackets. A listing is three slices: counts, ends, inc. In a reply, a slice of more than 300
+# numbers is {length sum check}: its length, its sum, and c after c := (257 c + x + 1) mod 4294967291, from 0, over its
+# numbers x in order.
 #   rank, vertex_count, facet_count  counts = no value
 #   el_count                         counts rank = no value
 #   sign                             byte = 1 or -1

@@ -1,0 +1,2 @@
+-- The laws of this program's proofs.
+pub mod Counting
