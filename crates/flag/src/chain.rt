@@ -83,8 +83,9 @@ pub fn place_of(counts: &[u16], r: usize) -> usize
     p
 }
 
-// Whether x is one of the numbers of an ascending list, by halving: if it is, it stands from lo up to hi.
-fn found(list: &[u16], x: u16) -> bool
+// Whether x is one of the numbers of an ascending list, by halving: if it is, it stands
+// from lo up to, not including, hi.
+fn is_found(list: &[u16], x: u16) -> bool
     requires { ⌜ Ascending (now list) ⌝ }
     ensures { λ t. ⌜ t ≡ has (now (list .entry)) x ⌝ }
 {
@@ -111,10 +112,10 @@ fn holds(list: &[u16], x: u16) -> bool
 {
     let p = inner::wide(x);
     if list.len() <= p {
-        return found(list, x);
+        return is_found(list, x);
     }
     if list[p] != x {
-        return found(list, x);
+        return is_found(list, x);
     }
     true
 }

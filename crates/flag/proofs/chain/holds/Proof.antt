@@ -10,8 +10,8 @@ use Rattle.flag.proofs.chain.holds.Tie as tie
 wide-requires : tie.Need-wide-requires
 wide-requires c κs = search needs
 
-found-requires : tie.Need-found-requires
-found-requires c κs = search needs
+is-found-requires : tie.Need-is-found-requires
+is-found-requires c κs = search needs
 
 returns : tie.Need-returns
 returns c = search needs
@@ -22,8 +22,8 @@ mul-if2 c = search needs
 shared-slice-read-if2 : tie.Need-shared-slice-read-if2
 shared-slice-read-if2 c = search needs
 
-found-requires-2 : tie.Need-found-requires-2
-found-requires-2 c κs = search needs
+is-found-requires-2 : tie.Need-is-found-requires-2
+is-found-requires-2 c κs = search needs
 
 returns-2 : tie.Need-returns-2
 returns-2 c = search needs
@@ -36,10 +36,10 @@ holds-spec =
     tie.close
     (tie.spec
     wide-requires
-    found-requires
+    is-found-requires
     returns
     mul-if2
     shared-slice-read-if2
-    found-requires-2
+    is-found-requires-2
     returns-2
     returns-3)
