@@ -17,7 +17,7 @@ use Rattle.valid.specs.Closed.{Closed}
 use Rattle.valid.specs.Dyadic.{Between, Two, DiamondAt, Diamond}
 use Rattle.flag.specs.Flags.{IsFlag}
 use Rattle.flag.specs.Change.{other, between, changeAt, Changes}
-use Rattle.flag.proofs.Merge.{common-in, other-same, other-found}
+use Rattle.flag.proofs.Common.{common-in, other-same, other-found}
 use Rattle.flag.proofs.Replaced.{changed-set, changed-is, changed-apart, between-set, set-flag}
 
 -- ---- the other of two

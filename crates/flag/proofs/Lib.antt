@@ -1,5 +1,6 @@
 pub mod FlagExact
-pub mod Merge
+pub mod Common
+pub mod Halving
 pub mod Padding
 pub mod Replaced
 pub mod Changes

@@ -7,7 +7,7 @@ use valid::incidence;
 ghost use mathlib.Core.Path.{_≡_};
 ghost use Prim.Native.Nat.{_+_, _-_, _≤_, _<_};
 ghost use lib.ListN.{length, getD};
-ghost use Rattle.order.specs.Lists.{Ascending};
+ghost use Rattle.order.specs.Lists.{has, Ascending};
 ghost use Rattle.listing.specs.Listing.{listing, limits, before};
 ghost use Rattle.listing.specs.Shape.{Shaped};
 ghost use Rattle.valid.specs.Ascent.{Ascends};
@@ -83,32 +83,73 @@ pub fn place_of(counts: &[u16], r: usize) -> usize
     p
 }
 
-// The first number that two ascending lists share and that is not e; 0 where there is none. As in a merge, the list
-// whose number is the smaller goes on.
+// Whether x is one of the numbers of an ascending list, by halving: if it is, it stands
+// from lo up to, not including, hi.
+fn is_found(list: &[u16], x: u16) -> bool
+    requires { ⌜ Ascending (now list) ⌝ }
+    ensures { λ t. ⌜ t ≡ has (now (list .entry)) x ⌝ }
+{
+    let mut lo: usize = 0;
+    let mut hi = list.len();
+    while lo < hi {
+        let mid = lo + (hi - lo) / 2;
+        let y = list[mid];
+        if y < x {
+            lo = mid + 1;
+        } else if x < y {
+            hi = mid;
+        } else {
+            return true;
+        }
+    }
+    false
+}
+
+// The same. An end's list is mostly that of all indices: there x stands at the place x.
+fn holds(list: &[u16], x: u16) -> bool
+    requires { ⌜ Ascending (now list) ⌝ }
+    ensures { λ t. ⌜ t ≡ has (now (list .entry)) x ⌝ }
+{
+    let p = inner::wide(x);
+    if list.len() <= p {
+        return is_found(list, x);
+    }
+    if list[p] != x {
+        return is_found(list, x);
+    }
+    true
+}
+
+// The first number of one list that another, ascending one holds too and that is not e; 0 where there is none.
+fn other_among(short: &[u16], long: &[u16], e: u16) -> u16
+    requires { ⌜ Ascending (now long) ⌝ }
+    ensures { λ x. ⌜ x ≡ other e (common (now (short .entry)) (now (long .entry))) ⌝ }
+{
+    let mut i: usize = 0;
+    while i < short.len() {
+        let x = short[i];
+        if x == e {
+            i += 1;
+        } else if holds(long, x) {
+            return x;
+        } else {
+            i += 1;
+        }
+    }
+    0
+}
+
+// The first number that two ascending lists share and that is not e; 0 where there is none. The shorter list is walked:
+// the other may be an end's, with thousands of numbers.
 pub fn other_between(below: &[u16], above: &[u16], e: u16) -> u16
     requires { ⌜ Ascending (now below) ⌝ }
     requires { ⌜ Ascending (now above) ⌝ }
     ensures { λ x. ⌜ x ≡ other e (common (now (below .entry)) (now (above .entry))) ⌝ }
 {
-    let mut i: usize = 0;
-    let mut j: usize = 0;
-    while i < below.len() {
-        if above.len() <= j {
-            return 0;
-        }
-        let x = below[i];
-        let y = above[j];
-        if y < x {
-            j += 1;
-        } else if x < y {
-            i += 1;
-        } else if x == e {
-            i += 1;
-        } else {
-            return x;
-        }
+    if below.len() <= above.len() {
+        return other_among(below, above, e);
     }
-    0
+    other_among(above, below, e)
 }
 
 // The index that the change at rank r puts in: the other of the two elements between those at the ranks r - 1, which

@@ -4,12 +4,12 @@ use mathlib.Core.Path.{_≡_, refl, ap, _∙_}
 use mathlib.Core.Logic.{_≢_, inl, inr}
 use mathlib.Core.List.{List, [], _∷_, map}
 use Prim.Native.Nat.{ℕ, zero, suc, _-_, _≤_, _<_}
-use native.Mathlib.Decide.{ℕ-discrete, decLt}
+use native.Mathlib.Decide.{ℕ-discrete}
 use native.Mathlib.Omega.{arith}
 use lib.ListN.{length, getD}
-use Rattle.order.specs.Lists.{Ascending}
 use Rattle.listing.specs.Listing.{Listing}
 use Rattle.flag.specs.Change.{changeAt}
+use Rattle.flag.proofs.Halving.{ascending-at, ascending-back}
 use Rattle.searching.specs.Course.{Earlier, Stands, Agrees, Inside, nbr, Came, Clash}
 use Rattle.searching.proofs.Once.{in-at, at-in}
 use Rattle.search.specs.Masks.{ranksOf}
@@ -29,23 +29,6 @@ map-at f [] i d h = absurd (omega arith)
 map-at f (x ∷ l) zero d h = refl
 map-at f (x ∷ l) (suc i) d h = map-at f l i d (omega arith)
 
-ascend-at : (l : List ℕ) → Ascending l → (p q : ℕ) → p < q → q < length l → getD l p 0 < getD l q 0
-unfolding Ascending
-ascend-at [] a p q h k = absurd (omega arith)
-ascend-at (x ∷ l) a p zero h k = absurd (omega arith)
-ascend-at (x ∷ l) a zero (suc q) h k = a .0 (getD l q 0) (mem-in (getD l q 0) l (in-at l 0 q (omega arith)))
-ascend-at (x ∷ l) a (suc p) (suc q) h k = ascend-at l (a .1) p q (omega arith) (omega arith)
-
-ascend-back : (l : List ℕ) → Ascending l → (p q : ℕ) → p < length l → getD l p 0 < getD l q 0 → p < q
-ascend-back l a p q k e = go (decLt p q) (ℕ-discrete p q)
-  where
-    go : Dec (p < q) → Dec (p ≡ q) → p < q
-    go (yes h) z = h
-    go (no h) (yes z) =
-        let w : getD l p 0 ≡ getD l q 0 = ap (λ i. getD l i 0) z in
-        absurd (omega (arith, e))
-    go (no h) (no z) = absurd (omega (arith, e, ascend-at l a q p (omega arith) k))
-
 -- ---- the ranks of a mask, by their places
 
 module _ (mask : ℕ) where
@@ -60,12 +43,12 @@ module _ (mask : ℕ) where
 
   earlier-rank : {j i p q : ℕ} → q < length (ranksOf mask) → Earlier j i p q → Earlier j (rankAt i) p (rankAt q)
   earlier-rank h (inl e) = inl e
-  earlier-rank {j} {i} {p} {q} h (inr e) = inr (e .0, ascend-at (ranksOf mask) (ranks-ascend mask) i q (e .1) h)
+  earlier-rank {j} {i} {p} {q} h (inr e) = inr (e .0, ascending-at (ranksOf mask) (ranks-ascend mask) i q (e .1) h)
 
   earlier-place : {j i p q : ℕ} → i < length (ranksOf mask) → Earlier j (rankAt i) p (rankAt q) → Earlier j i p q
   earlier-place h (inl e) = inl e
   earlier-place {j} {i} {p} {q} h (inr e) =
-      inr (e .0, ascend-back (ranksOf mask) (ranks-ascend mask) i q h (e .1))
+      inr (e .0, ascending-back (ranksOf mask) (ranks-ascend mask) i q h (e .1))
 
 -- ---- how a flag came, and the first repeat with another byte
 
