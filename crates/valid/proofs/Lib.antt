@@ -5,6 +5,7 @@ pub mod Entries
 pub mod IncidenceExact
 pub mod AscentExact
 pub mod Walks
+pub mod Ones
 pub mod Counting
 pub mod Twos
 pub mod DyadicExact

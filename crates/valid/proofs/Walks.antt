@@ -17,8 +17,9 @@ use Rattle.listing.specs.Listing.{Listing, count, entries}
 use Rattle.listing.specs.declared.Answer.{Answer}
 use Rattle.listing.proofs.Answers.{or-fine, or-stop, or-no, no-or, on-off, stops, then-stop, then-go}
 use Rattle.listing.proofs.Answers.{of-stop, of-next, of-end}
-use Rattle.valid.specs.Dyadic.{subsOfAll, thirdTest, seenAfter, loneTest, walk, sectionsTest, dyadicTest}
-use Rattle.valid.specs.Tally.{third, lone, Tally, Tallied, loneIn}
+use Rattle.valid.specs.Dyadic.{subsOfAll, walk, thirdTest, seenAfter, loneTest, third, lone}
+use Rattle.valid.specs.Dyadic.{sectionsTest, dyadicTest}
+use Rattle.valid.specs.Tally.{Tally, Tallied, loneIn}
 use Rattle.valid.proofs.Sequences.{or-assoc, of-same}
 
 -- ---- one walk after another
