@@ -23,16 +23,16 @@ abbrev pub roomIn : Listing → List ℕ → List ℕ → ℕ
 roomIn L table bytes = roomOf limits L (length table) (length bytes)
 
 module _ (L : Listing) (first : List ℕ) (mask : ℕ) (table bytes : List ℕ) (r : Searched) (table′ bytes′ : List ℕ)
-  where
-    pub record Searches : Type 0 where
-      pub refusals : FirstBroken (searchRules limits L first mask (roomIn L table bytes)) (r .answer .no)
-      pub numbers : r .answer .no ≢ 0 → r ≡ refusedAs (r .answer)
-      pub untouched : r .answer .no ≢ 0 → r .answer .no ≢ moreFlags → (table′ ≡ table) × (bytes′ ≡ bytes)
-      pub full : r .answer .no ≡ moreFlags → Holds L first mask table′ bytes′ table bytes (roomIn L table bytes)
-      pub first-found : r .answer .no ≡ moreFlags → (more : ℕ) → roomIn L table bytes ≤ more
-          → rows (rank L + 1) table′ (roomIn L table bytes)
-          ≡ take (roomIn L table bytes) (foundBy L first mask more .found)
+    where
+  pub record Searches : Type 0 where
+    pub refusals : FirstBroken (searchRules limits L first mask (roomIn L table bytes)) (r .answer .no)
+    pub numbers : r .answer .no ≢ 0 → r ≡ refusedAs (r .answer)
+    pub untouched : r .answer .no ≢ 0 → r .answer .no ≢ moreFlags → (table′ ≡ table) × (bytes′ ≡ bytes)
+    pub full : r .answer .no ≡ moreFlags → Holds L first mask table′ bytes′ table bytes (roomIn L table bytes)
+    pub first-found : r .answer .no ≡ moreFlags → (more : ℕ) → roomIn L table bytes ≤ more
+        → rows (rank L + 1) table′ (roomIn L table bytes)
+        ≡ take (roomIn L table bytes) (foundBy L first mask more .found)
 
-    pub record Found : Type 0 where
-      pub holds : Holds L first mask table′ bytes′ table bytes (r .count)
-      pub finds : Finds L first mask table′ bytes′ r
+  pub record Found : Type 0 where
+    pub holds : Holds L first mask table′ bytes′ table bytes (r .count)
+    pub finds : Finds L first mask table′ bytes′ r

@@ -12,6 +12,7 @@ use lib.Dec.{eqb}
 use lib.ListN.{length, getD, drop, drop-of-length-le}
 use lib.Seq.{drop-cons}
 use Rattle.order.specs.Lists.{In, has}
+use Rattle.order.proofs.Lists.{has-yes}
 use Rattle.listing.specs.declared.Answer.{Answer}
 use Rattle.listing.specs.Answers.{_orElse_, firstFor, firstOf}
 use Rattle.listing.specs.Listing.{Listing, count}
@@ -55,6 +56,9 @@ unfolding In
 in-at [] k h = absurd (not-suc-le-zero h)
 in-at (x ∷ l) zero h = inl refl
 in-at (x ∷ l) (suc k) h = inr (in-at l k (le-of-suc-le-suc h))
+
+pub has-at : (l : List ℕ) (k : ℕ) → k < length l → {x : ℕ} → getD l k 0 ≡ x → has l x ≡ true
+has-at l k h e = has-yes _ l .1 (rw e at (in-at l k h))
 
 -- a list that is not empty holds something, and back
 pub some-in : (l : List ℕ) → (length l ≡ 0 → ⊥) → (x : ℕ) × In x l

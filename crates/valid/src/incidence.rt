@@ -3,6 +3,7 @@ use listing::Answer;
 use listing::inner;
 use listing::refusal;
 ghost use mathlib.Core.Path.{_≡_};
+ghost use mathlib.Core.Bool.{true};
 ghost use mathlib.Core.List.{_∷_};
 ghost use Prim.Native.Nat.{_+_, _*_, _<_};
 ghost use lib.ListN.{length, getD};
@@ -14,7 +15,7 @@ ghost use Rattle.valid.specs.Incidence.{entryTest, alongTest, elementTes
 ghost use Rattle.valid.specs.Ways.{down, up, Fits, listTest};
 
 // Where the entries of a list lead: they may name n elements, which begin at place b and whose lists at side s lead
-// back. Whether the list must hold anything. And the refusals: of a list that holds nothing and must not, of an entry
+// back. Whether the list must hold anything. And the refusals: of a list that holds nothing where it must, of an entry
 // that does not exist, and of one that does not lead back.
 struct Way {
     n: u16,
@@ -26,8 +27,44 @@ struct Way {
     oneway: u16,
 }
 
-// Whether x is one of the numbers of a list.
-pub fn contains(list: &[u16], x: u16) -> bool
+// The longest list that is looked through from its start at once.
+const SHORT: usize = 8;
+
+// Whether x stands at its own place in a list, as each number does in a list that counts up from 0.
+fn stands_at_own_place(list: &[u16], x: u16) -> bool
+    ensures { λ r. ⌜ (r ≡ true → has (now (list .entry)) x ≡ true) ⌝ }
+{
+    let at = inner::wide(x);
+    if at < list.len() {
+        list[at] == x
+    } else {
+        false
+    }
+}
+
+// Whether halving finds x in a list: it does if x is there and the list ascends. In another list it may miss x.
+fn found_by_halving(list: &[u16], x: u16) -> bool
+    ensures { λ r. ⌜ (r ≡ true → has (now (list .entry)) x ≡ true) ⌝ }
+{
+    let mut low: usize = 0;
+    let mut high = list.len();
+    while low < high {
+        let middle = low + (high - low) / 2;
+        let y = list[middle];
+        if y == x {
+            return true;
+        }
+        if y < x {
+            low = middle + 1;
+        } else {
+            high = middle;
+        }
+    }
+    false
+}
+
+// Whether x is one of the numbers of a list, looking from its start.
+fn found_by_scanning(list: &[u16], x: u16) -> bool
     ensures { λ r. ⌜ r ≡ has (now (list .entry)) x ⌝ }
 {
     let mut j: usize = 0;
@@ -38,6 +75,22 @@ pub fn contains(list: &[u16], x: u16) -> bool
         j += 1;
     }
     false
+}
+
+// Whether x is one of the numbers of a list. Most lists ascend, and there a long one is not looked through.
+pub fn contains(list: &[u16], x: u16) -> bool
+    ensures { λ r. ⌜ r ≡ has (now (list .entry)) x ⌝ }
+{
+    if stands_at_own_place(list, x) {
+        return true;
+    }
+    if list.len() <= SHORT {
+        return found_by_scanning(list, x);
+    }
+    if found_by_halving(list, x) {
+        return true;
+    }
+    found_by_scanning(list, x)
 }
 
 // One entry x of a list of element i of rank r.

@@ -1,60 +1,43 @@
--- Invariant: whether the list has x is whether what is left from j on has it. Measure: what is left of the list.
+-- What a shorter way finds is there, and where it finds nothing the list is looked through.
 -- Assumes nothing.
-use mathlib.Core.Path.{_≡_, sym, _∙_}
-use Prim.Native.Nat.{_-_}
+use mathlib.Core.Path.{sym}
 use borrow.Author.Needs.{needs}
-use borrow.Author.Tests.{eq-eqb, ne-eqb}
-use lib.ListN.{length, drop}
-use Rattle.order.specs.Lists.{has}
-use Rattle.valid.proofs.Sequences.{has-step, has-end}
 use Rattle.valid.proofs.incidence.contains.Statement.{statement}
 use Rattle.valid.proofs.incidence.contains.Tie as tie
 
-abbrev Inv-loop : tie.InvT-loop
-Inv-loop list x j₀ j = has list x ≡ has (drop j list) x
+stands-at-own-place-requires : tie.Need-stands-at-own-place-requires
+stands-at-own-place-requires c κs = search needs
 
-abbrev μ-loop : tie.MeasureT-loop
-μ-loop list x j₀ j = length list - j
+returns : tie.Need-returns
+returns c = sym (c .before .stands-at-own-place .ensures (c .if1 .taken))
 
-loop-holds : tie.Need-loop-holds Inv-loop μ-loop
-loop-holds c = search needs
+found-by-scanning-requires : tie.Need-found-by-scanning-requires
+found-by-scanning-requires c κs = search needs
 
-mul-if1 : tie.Need-mul-if1 Inv-loop μ-loop
-mul-if1 c = search needs
+returns-2 : tie.Need-returns-2
+returns-2 c = search needs
 
-shared-slice-read-if1 : tie.Need-shared-slice-read-if1 Inv-loop μ-loop
-shared-slice-read-if1 c = search needs
+found-by-halving-requires : tie.Need-found-by-halving-requires
+found-by-halving-requires c κs = search needs
 
-returns : tie.Need-returns Inv-loop μ-loop
-returns c =
-    let d = c .before .before in
-    sym (d .before .loop .inv ∙ has-step _ _ _ (d .loop-test .taken) ∙ rw (eq-eqb _ _ (c .if1 .taken)))
+returns-3 : tie.Need-returns-3
+returns-3 c = sym (c .before .found-by-halving .ensures (c .if3 .taken))
 
-add-j : tie.Need-add-j Inv-loop μ-loop
-add-j c = search needs
+found-by-scanning-requires-2 : tie.Need-found-by-scanning-requires-2
+found-by-scanning-requires-2 c κs = search needs
 
-loop-less : tie.Need-loop-less Inv-loop μ-loop
-loop-less c = search needs
-
-loop-again : tie.Need-loop-again Inv-loop μ-loop
-loop-again c =
-    let d = c .before .before in
-    d .before .loop .inv ∙ has-step _ _ _ (d .loop-test .taken) ∙ rw (ne-eqb _ _ (c .if1 .left))
-
-returns-2 : tie.Need-returns-2 Inv-loop μ-loop
-returns-2 c = sym (c .before .loop .inv ∙ has-end _ _ _ (c .loop-test .left))
+returns-4 : tie.Need-returns-4
+returns-4 c = search needs
 
 pub contains-spec : {M : Type 1} → statement M
 contains-spec =
     tie.close
     (tie.spec
-    Inv-loop
-    μ-loop
-    loop-holds
-    mul-if1
-    shared-slice-read-if1
+    stands-at-own-place-requires
     returns
-    add-j
-    loop-less
-    loop-again
-    returns-2)
+    found-by-scanning-requires
+    returns-2
+    found-by-halving-requires
+    returns-3
+    found-by-scanning-requires-2
+    returns-4)
