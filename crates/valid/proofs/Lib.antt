@@ -1,8 +1,4 @@
-pub mod Sequences
-pub mod Places
 pub mod BoundsExact
-pub mod Entries
-pub mod IncidenceExact
 pub mod AscentExact
 pub mod Walks
 pub mod Ones

@@ -11,7 +11,7 @@ ghost use Rattle.order.specs.Lists.{In};
 ghost use Rattle.listing.specs.Answers.{firstOf};
 ghost use Rattle.listing.specs.Listing.{listing, limits, before, Ends};
 ghost use Rattle.listing.specs.Shape.{Shaped};
-ghost use Rattle.valid.specs.Incidence.{Incident};
+ghost use Rattle.matching.specs.Incidence.{Incident};
 ghost use Rattle.valid.specs.Dyadic.{subsOfAll, third, lone, sectionsTest, dyadicTest};
 ghost use Rattle.valid.specs.Tally.{Counted, Tally, Tallied, loneIn, Walkable};
 

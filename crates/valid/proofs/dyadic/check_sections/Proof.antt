@@ -12,9 +12,9 @@ use Rattle.listing.proofs.Listing.{rank-there}
 use Rattle.listing.proofs.ShapeExact.{shaped-ends}
 use Rattle.valid.specs.Dyadic.{walk, third, lone}
 use Rattle.valid.specs.Tally.{loneIn, Tallied}
-use Rattle.valid.proofs.Walks.{walk-same, tally-zero, lone-same, sections-stop, sections-go}
+use Rattle.valid.proofs.Walks.{walk-same, tally-zero, walkable, lone-same, sections-stop, sections-go}
 use Rattle.valid.proofs.Ones.{counted-fresh}
-use Rattle.valid.proofs.Places.{side-fits, side-at, before-step, few-before, few-in-rank, walkable}
+use Rattle.matching.proofs.Places.{side-fits, side-at, before-step, few-before, few-in-rank}
 use Rattle.valid.proofs.dyadic.check_sections.Statement.{statement}
 use Rattle.valid.proofs.dyadic.check_sections.Tie as tie
 

@@ -9,7 +9,7 @@ use Rattle.listing.specs.Listing.{limits}
 use Rattle.valid.specs.Dyadic.{subsOfAll, seenAfter, third}
 use Rattle.valid.specs.Tally.{Counted, Tally, Tallied}
 use Rattle.valid.proofs.Walks.{subsOf, Walked, walked-none, walk-more, walk-stop, walk-all, tallied-walked}
-use Rattle.valid.proofs.Sequences.{in-at}
+use Rattle.matching.proofs.Sequences.{in-at}
 use Rattle.valid.proofs.dyadic.tally_all.Statement.{statement}
 use Rattle.valid.proofs.dyadic.tally_all.Tie as tie
 

@@ -9,7 +9,7 @@ use lib.ListN.{length, getD, take}
 use Rattle.listing.specs.Listing.{limits}
 use Rattle.valid.specs.Dyadic.{third}
 use Rattle.valid.specs.Tally.{Counted, Tally}
-use Rattle.valid.proofs.Sequences.{in-at}
+use Rattle.matching.proofs.Sequences.{in-at}
 use Rattle.valid.proofs.Ones.{counted-le, counted-at, counted-more}
 use Rattle.valid.proofs.Walks.{Walked, walked-none, list-more, list-stop, list-all}
 use Rattle.valid.proofs.dyadic.tally_list.Statement.{statement}
