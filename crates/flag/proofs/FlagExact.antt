@@ -13,7 +13,7 @@ use lib.ListN.{length, getD}
 use Rattle.order.specs.Lists.{has}
 use Rattle.order.proofs.Lists.{has-yes}
 use Rattle.listing.specs.Listing.{Listing, count, subs}
-use Rattle.valid.proofs.Sequences.{and-true}
+use Rattle.matching.proofs.Sequences.{and-true}
 use Rattle.flag.specs.Flags.{every, flagAt, flagTest, IsFlag}
 
 -- ---- a test of all numbers below n

@@ -3,7 +3,7 @@
 use listing::Answer;
 use listing::inner;
 use listing::refusal;
-use valid::incidence;
+use matching::incidence;
 ghost use mathlib.Core.Path.{_≡_};
 ghost use Prim.Native.Nat.{_+_, _-_, _≤_, _<_};
 ghost use lib.ListN.{length, getD};

@@ -18,7 +18,7 @@ use Rattle.listing.specs.Layers.{layers}
 use Rattle.listing.proofs.Listing.{before-zero, before-next}
 use Rattle.listing.proofs.Sequences.{sum-add}
 use Rattle.valid.specs.Bounds.{Bounded}
-use Rattle.valid.specs.Incidence.{Incident}
+use Rattle.matching.specs.Incidence.{Incident}
 use Rattle.valid.proofs.ClosedExact.{valid-exact}
 use Rattle.pairing.specs.Trimmed.{bit, trimSize, trimUnder, trimmed}
 use Rattle.pairing.proofs.Trimmed.{raised-used}

@@ -16,7 +16,7 @@ use Rattle.listing.specs.Shape.{elements}
 use Rattle.listing.specs.Layers.{Layers, Topped}
 use Rattle.listing.proofs.Listing.{before-next, before-le}
 use Rattle.valid.specs.Bounds.{Bounded}
-use Rattle.valid.specs.Incidence.{Incident}
+use Rattle.matching.specs.Incidence.{Incident}
 use Rattle.pairing.specs.Trimmed.{bit}
 use Rattle.pairing.specs.Paired.{block, pairOf, pairAt, leftSubs, rightSubs, paired}
 use Rattle.pairing.specs.Grown.{minSize, minUnder, grown}

@@ -11,7 +11,7 @@ use borrow.Author.Tests.{eq-eqb, ne-eqb, eqb-true, ltb-true, lt-ltb}
 use lib.Dec.{eqb, ltb}
 use lib.Count.{trailingZeros, under}
 use Rattle.order.specs.Lists.{In, Ascending}
-use Rattle.valid.proofs.Sequences.{and-true}
+use Rattle.matching.proofs.Sequences.{and-true}
 use Rattle.flag.specs.Flags.{every}
 use Rattle.flag.proofs.FlagExact.{every-stop}
 use Rattle.search.specs.Masks.{bit, bitsIn, ranksOf, maskFits}

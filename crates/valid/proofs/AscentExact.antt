@@ -21,7 +21,7 @@ use Rattle.listing.proofs.Answers.{or-no, no-or, on-no, on-off}
 use Rattle.listing.proofs.Listing.{rank-there}
 use Rattle.valid.specs.Ascent.{climbs, sideAscent, elementAscent, ascentTest, Ascends}
 use Rattle.valid.specs.Dyadic.{Distinct}
-use Rattle.valid.proofs.Sequences.{and-true, at-sides, elements-exact}
+use Rattle.matching.proofs.Sequences.{and-true, at-sides, elements-exact}
 
 -- ---- a list, one place at a time
 

@@ -10,7 +10,7 @@ use Rattle.listing.specs.Refusals.{notBounded}
 use Rattle.listing.specs.declared.Answer.{Answer}
 use Rattle.listing.proofs.Answers.{on-no}
 use Rattle.valid.specs.Bounds.{boundedTest, Bounded}
-use Rattle.valid.proofs.Sequences.{and-true}
+use Rattle.matching.proofs.Sequences.{and-true}
 
 module _ (L : Listing) where
   abbrev unbounded : Answer

@@ -1,10 +1,7 @@
-pub mod Sequences
-pub mod Places
 pub mod BoundsExact
-pub mod Entries
-pub mod IncidenceExact
 pub mod AscentExact
 pub mod Walks
+pub mod Ones
 pub mod Counting
 pub mod Twos
 pub mod DyadicExact

@@ -1,5 +1,5 @@
 -- Laws of a walk that counts what it meets: what has been walked without refusal, one step or one list more, the end.
--- Then the sections under an element as a whole.
+-- Then where the walk goes, the indices met once, and the sections under an element as a whole.
 -- Assumes nothing.
 use mathlib.Core.Path.{_≡_, refl, sym, ap, _∙_, subst}
 use mathlib.Core.Bool.{Bool, true, false, cond}
@@ -13,13 +13,17 @@ use lib.ListN.{length, getD, take, drop, set, length-set, replicate, length-repl
 use lib.Seq.{take-suc, take-all, split-at, getD-set-same, getD-set-other}
 use Rattle.order.specs.Lists.{occurs}
 use Rattle.listing.specs.Answers.{fine, on, _orElse_, firstOf}
-use Rattle.listing.specs.Listing.{Listing, count, entries}
+use Rattle.listing.specs.Listing.{Listing, Limits, count, before, entries, subs}
+use Rattle.listing.specs.Shape.{Shaped}
 use Rattle.listing.specs.declared.Answer.{Answer}
 use Rattle.listing.proofs.Answers.{or-fine, or-stop, or-no, no-or, on-off, stops, then-stop, then-go}
 use Rattle.listing.proofs.Answers.{of-stop, of-next, of-end}
-use Rattle.valid.specs.Dyadic.{subsOfAll, thirdTest, seenAfter, loneTest, walk, sectionsTest, dyadicTest}
-use Rattle.valid.specs.Tally.{third, lone, Tally, Tallied, loneIn}
-use Rattle.valid.proofs.Sequences.{or-assoc, of-same}
+use Rattle.matching.specs.Incidence.{Incident}
+use Rattle.matching.proofs.Places.{side-fits, few-in-rank}
+use Rattle.matching.proofs.Sequences.{or-assoc, of-same}
+use Rattle.valid.specs.Dyadic.{subsOfAll, walk, thirdTest, seenAfter, loneTest, third, lone}
+use Rattle.valid.specs.Dyadic.{sectionsTest, dyadicTest}
+use Rattle.valid.specs.Tally.{Tally, Tallied, loneIn, Walkable}
 
 -- ---- one walk after another
 
@@ -186,6 +190,16 @@ module _ (ends inc : List ℕ) (b : ℕ) where
 
     pub walk-all : {a : Answer} → length l ≤ j → a ≡ fine → Tallied n t f seen (walkOf l) a
     walk-all h e = rw (take-all j l h) at (walked-all f seen w e)
+
+-- where test 2 passes, the subs of an element's subs can be walked
+pub walkable : {m : Limits} (L : Listing) → Shaped m L → Incident L → (r i : ℕ) → i < count L r
+    → Walkable (L .ends) (L .inc) (before (L .counts) (r - 1)) (m .elements) (subs L r i)
+walkable L S I r i h = record {
+  there = λ s k. side-fits L S (r - 1) s 0 (I .sub-back r i s h k .1) (omega arith);
+  inside = λ s x k g.
+      let b = I .sub-back (r - 1) s x (I .sub-back r i s h k .1) g .1 in
+      omega (arith, few-in-rank L S (r - 1 - 1));
+}
 
 -- ---- the indices met once
 

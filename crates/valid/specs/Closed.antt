@@ -4,7 +4,7 @@
 use Rattle.listing.specs.Listing.{Listing, Limits, rank}
 use Rattle.listing.specs.Shape.{Shaped}
 use Rattle.valid.specs.Bounds.{Bounded}
-use Rattle.valid.specs.Incidence.{Incident}
+use Rattle.matching.specs.Incidence.{Incident}
 use Rattle.valid.specs.Ascent.{Ascends}
 use Rattle.valid.specs.Dyadic.{Diamond}
 

@@ -5,6 +5,8 @@
 -- thirdTest      the refusal f x at the first number x that is met a third time, after those of `seen`
 -- seenAfter      what has been seen after a walk
 -- loneTest       the refusal f x at the smallest number x below n that was met once
+-- third          the refusal of a section under element i of rank r: its index x is met a third time
+-- lone           the refusal of a section under element i of rank r: its index x is met once
 -- sectionsTest   one element: 17 at the first third occurrence on the walk, then 18 at the smallest index met once
 -- dyadicTest     all elements of the ranks 2 to h, by rank and then index
 -- Between        s lies between x, two ranks lower, and element i of rank r
@@ -42,10 +44,16 @@ seenAfter seen (x ∷ l) = seenAfter (x ∷ seen) l
 unfoldable pub loneTest : (ℕ → Answer) → List ℕ → ℕ → Answer
 loneTest f seen n = firstOf (λ x. on (eqb (occurs x seen) 1) (f x)) 0 n
 
+abbrev pub third : ℕ → ℕ → ℕ → Answer
+third r i x = refusal thirdBetween (r - 2) x r i
+
+abbrev pub lone : ℕ → ℕ → ℕ → Answer
+lone r i x = refusal loneBetween (r - 2) x r i
+
 unfoldable pub sectionsTest : Listing → ℕ → ℕ → Answer
 sectionsTest L r i =
-    thirdTest (λ x. refusal thirdBetween (r - 2) x r i) [] (walk L r i) orElse
-    loneTest (λ x. refusal loneBetween (r - 2) x r i) (seenAfter [] (walk L r i)) (count L (r - 2))
+    thirdTest (third r i) [] (walk L r i) orElse
+    loneTest (lone r i) (seenAfter [] (walk L r i)) (count L (r - 2))
 
 unfoldable pub dyadicTest : Listing → ℕ → Answer
 dyadicTest L h = firstOf (λ r. firstOf (sectionsTest L r) 0 (count L r)) 2 (h + 1)

@@ -1,6 +1,4 @@
 pub mod Bounds
-pub mod Incidence
-pub mod Ways
 pub mod Ascent
 pub mod Dyadic
 pub mod Tally

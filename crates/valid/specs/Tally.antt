@@ -1,27 +1,30 @@
 -- What the code of test 3 keeps: how often each index has been met.
 --
--- third, lone   the refusals of a section under element i of rank r, at the index x
--- Tally         a tally of n counts, by index, of what has been seen
--- Tallied       after a list: the answer at the first third occurrence, and else the tally of what has been seen
--- loneIn        the refusal f x at the smallest index x below n whose count is 1
--- Walkable      the numbers of a list are elements whose lists begin at place b, and the subs of these are below n
+-- ones       how many counts of a tally are 1
+-- Counted    a tally has n counts, and k of them are 1
+-- Tally      a tally of n counts, by index, of what has been seen
+-- Tallied    after a list: the answer at the first third occurrence, and else the tally of what has been seen
+-- loneIn     the refusal f x at the smallest index x below n whose count is 1
+-- Walkable   the numbers of a list are elements whose lists begin at place b, and the subs of these are below n
 use mathlib.Core.Path.{_≡_}
-use mathlib.Core.List.{List}
-use Prim.Native.Nat.{ℕ, _+_, _-_, _*_, _<_}
+use mathlib.Core.Bool.{cond}
+use mathlib.Core.List.{List, [], _∷_}
+use Prim.Native.Nat.{ℕ, _+_, _*_, _<_}
 use lib.Dec.{eqb}
 use lib.ListN.{length, getD}
 use Rattle.order.specs.Lists.{In, occurs}
 use Rattle.listing.specs.declared.Answer.{Answer}
-use Rattle.listing.specs.Refusals.{thirdBetween, loneBetween}
-use Rattle.listing.specs.Answers.{refusal, on, firstOf}
+use Rattle.listing.specs.Answers.{on, firstOf}
 use Rattle.listing.specs.Listing.{entries}
 use Rattle.valid.specs.Dyadic.{thirdTest, seenAfter}
 
-abbrev pub third : ℕ → ℕ → ℕ → Answer
-third r i x = refusal thirdBetween (r - 2) x r i
+unfoldable pub ones : List ℕ → ℕ
+ones [] = 0
+ones (x ∷ t) = cond (eqb x 1) 1 0 + ones t
 
-abbrev pub lone : ℕ → ℕ → ℕ → Answer
-lone r i x = refusal loneBetween (r - 2) x r i
+pub record Counted (n : ℕ) (t : List ℕ) (k : ℕ) : Type 0 where
+  pub whole : length t ≡ n
+  pub once : k ≡ ones t
 
 pub record Tally (n : ℕ) (t seen : List ℕ) : Type 0 where
   pub whole : length t ≡ n

@@ -11,7 +11,7 @@ use Rattle.listing.specs.Answers.{_orElse_}
 use Rattle.listing.specs.Listing.{Listing, Limits, rank}
 use Rattle.listing.specs.Shape.{shapeTest}
 use Rattle.valid.specs.Bounds.{boundedTest}
-use Rattle.valid.specs.Incidence.{incidencesTest}
+use Rattle.matching.specs.Incidence.{incidencesTest}
 use Rattle.valid.specs.Ascent.{ascentTest}
 use Rattle.valid.specs.Dyadic.{dyadicTest}
 

@@ -3,9 +3,9 @@
 pub mod ascent;
 pub mod bounds;
 pub mod dyadic;
-pub mod incidence;
 
 use listing::Answer;
+use matching::incidence;
 ghost use mathlib.Core.Path.{_≡_};
 ghost use Rattle.listing.specs.Listing.{listing, limits};
 ghost use Rattle.valid.specs.Tests as tests;

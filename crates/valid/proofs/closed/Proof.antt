@@ -5,7 +5,7 @@ use borrow.Author.Needs.{needs}
 use Rattle.listing.proofs.Answers.{no-of, then-stop, then-go}
 use Rattle.listing.proofs.ShapeExact.{shaped}
 use Rattle.valid.specs.Tests.{closed}
-use Rattle.valid.proofs.IncidenceExact.{incidences-exact}
+use Rattle.matching.proofs.IncidenceExact.{incidences-exact}
 use Rattle.valid.proofs.closed.Statement.{statement}
 use Rattle.valid.proofs.closed.Tie as tie
 

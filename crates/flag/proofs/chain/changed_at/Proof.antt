@@ -5,7 +5,7 @@ use native.Mathlib.Omega.{arith}
 use borrow.Author.Needs.{needs}
 use Rattle.listing.specs.Listing.{Listing, listing, limits}
 use Rattle.valid.specs.Closed.{Closed}
-use Rattle.valid.proofs.Places.{few-before}
+use Rattle.matching.proofs.Places.{few-before}
 use Rattle.flag.specs.Flags.{IsFlag}
 use Rattle.flag.specs.Change.{changeAt}
 use Rattle.flag.proofs.Padding.{padded-set}

@@ -10,7 +10,7 @@ use borrow.Author.Tests.{not-true, not-false}
 use lib.ListN.{length}
 use Rattle.listing.specs.Listing.{Listing, listing, before}
 use Rattle.listing.proofs.Listing.{before-zero, before-next}
-use Rattle.valid.proofs.Places.{few-before}
+use Rattle.matching.proofs.Places.{few-before}
 use Rattle.flag.specs.Flags.{every, flagAt}
 use Rattle.flag.proofs.FlagExact.{every-next, every-stop, other-length, same-length}
 use Rattle.flag.proofs.chain.is_flag.Statement.{statement}

@@ -8,7 +8,8 @@ use lib.Dec.{eqb}
 use lib.ListN.{getD}
 use Rattle.listing.specs.Answers.{on, firstOf}
 use Rattle.listing.proofs.Answers.{of-done}
-use Rattle.valid.specs.Tally.{lone, loneIn}
+use Rattle.valid.specs.Dyadic.{lone}
+use Rattle.valid.specs.Tally.{loneIn}
 use Rattle.valid.proofs.Walks.{lone-stop, lone-next}
 use Rattle.valid.proofs.dyadic.check_once.Statement.{statement}
 use Rattle.valid.proofs.dyadic.check_once.Tie as tie

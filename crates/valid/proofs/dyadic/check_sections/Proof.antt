@@ -10,10 +10,11 @@ use lib.ListN.{length}
 use Rattle.listing.specs.Listing.{Listing, listing, limits, before, subs}
 use Rattle.listing.proofs.Listing.{rank-there}
 use Rattle.listing.proofs.ShapeExact.{shaped-ends}
-use Rattle.valid.specs.Dyadic.{walk}
-use Rattle.valid.specs.Tally.{lone, loneIn, third, Tallied}
-use Rattle.valid.proofs.Walks.{walk-same, tally-zero, lone-same, sections-stop, sections-go}
-use Rattle.valid.proofs.Places.{side-fits, side-at, before-step, few-before, few-in-rank, walkable}
+use Rattle.valid.specs.Dyadic.{walk, third, lone}
+use Rattle.valid.specs.Tally.{loneIn, Tallied}
+use Rattle.valid.proofs.Walks.{walk-same, tally-zero, walkable, lone-same, sections-stop, sections-go}
+use Rattle.valid.proofs.Ones.{counted-fresh}
+use Rattle.matching.proofs.Places.{side-fits, side-at, before-step, few-before, few-in-rank}
 use Rattle.valid.proofs.dyadic.check_sections.Statement.{statement}
 use Rattle.valid.proofs.dyadic.check_sections.Tie as tie
 
@@ -42,12 +43,12 @@ its c =
 -- what was tallied
 tallied : (c : tie.After-tally-all) → let s = c .before .before .before .before .before .before .before .before in
     Tallied (limits .elements) (c .tally-all .last .0) (third (s .args .r) (s .args .i)) []
-    (walk (L s) (s .args .r) (s .args .i)) (c .tally-all .result)
+    (walk (L s) (s .args .r) (s .args .i)) (c .tally-all .result .answer)
 tallied c =
     let s = c .before .before .before .before .before .before .before .before in
     let l = its (c .before .before) in
     rw (walk-same (s .args .ends .now) (s .args .inc .now) (s .args .b) (s .pre .1 .1 .0) l)
-    at (c .tally-all .ensures [] (tally-zero (limits .elements)))
+    at (c .tally-all .ensures .0 [] (tally-zero (limits .elements)))
 
 sub-count-at : tie.Need-sub-count-at
 sub-count-at c = search needs
@@ -78,10 +79,11 @@ tally-all-requires : tie.Need-tally-all-requires
 tally-all-requires c κs =
     let s = c .before .before .before .before .before .before .before in
     let w = walkable (L s) (s .pre .0) (s .pre .1 .0) (s .args .r) (s .args .i) (s .pre .1 .1 .2) in
-    (shaped-ends (L s) (s .pre .0), (rw (its (c .before), s .pre .1 .1 .0) w, s .pre .1 .1 .1))
+    let C = counted-fresh (limits .elements) in
+    (shaped-ends (L s) (s .pre .0), (rw (its (c .before), s .pre .1 .1 .0) w, (s .pre .1 .1 .1, C)))
 
 returns : tie.Need-returns
-returns c = sections-stop _ _ _ (tallied (c .before .before) .answer) (c .if1 .taken)
+returns c = sections-stop _ _ _ (tallied (c .before .before .before) .answer) (c .before .if1 .taken)
 
 sub-count-at-2 : tie.Need-sub-count-at-2
 sub-count-at-2 c = search needs
@@ -89,16 +91,17 @@ sub-count-at-2 c = search needs
 count-at-requires-2 : tie.Need-count-at-requires-2
 count-at-requires-2 c κs = search needs
 
-cast-check-once : tie.Need-cast-check-once
-cast-check-once c =
+cast-check-lone : tie.Need-cast-check-lone
+cast-check-lone c =
     let s = c .before .before .before .before .before .before .before .before .before .before .before .before in
     omega (arith, there s, s .pre .0)
 
-check-once-requires : tie.Need-check-once-requires
-check-once-requires c κs =
+check-lone-requires : tie.Need-check-lone-requires
+check-lone-requires c κs =
     let s = c .before .before .before .before .before .before .before .before .before .before .before .before in
     let f = few-in-rank (L s) (s .pre .0) (s .args .r - 2) in
-    (omega (arith, f, c .count-at2 .ensures), s .pre .1 .1 .1)
+    let C = c .before .before .before .before .tally-all .ensures .1 in
+    (omega (arith, f, c .count-at2 .ensures), (s .pre .1 .1 .1, C))
 
 returns-2 : tie.Need-returns-2
 returns-2 c =
@@ -109,7 +112,7 @@ returns-2 c =
     let f = lone (s .args .r) (s .args .i) in
     let n = few-in-rank (L s) (s .pre .0) (s .args .r - 2) in
     let e = ap (loneIn f (d .tally-all .last .0)) (c .before .count-at2 .ensures) ∙ lone-same f _ _ _ (t .tally z) n in
-    sections-go (L s) _ _ (t .answer) z (c .check-once .ensures ∙ e)
+    sections-go (L s) _ _ (t .answer) z (c .check-lone .ensures ∙ e)
 
 pub check-sections-spec : {M : Type 1} → statement M
 check-sections-spec =
@@ -125,6 +128,6 @@ check-sections-spec =
     returns
     sub-count-at-2
     count-at-requires-2
-    cast-check-once
-    check-once-requires
+    cast-check-lone
+    check-lone-requires
     returns-2)

@@ -1,25 +1,26 @@
--- Invariant: whatever the tally counted before, the subs of the first j have been walked without refusal and are
--- counted on top of it. Measure: what is left of the list.
+-- Invariant: `once` counts of the tally are 1; and whatever the tally counted before, the subs of the first j have been
+-- walked without refusal and are counted on top of it. Measure: what is left of the list.
 -- Assumes nothing.
 use mathlib.Core.List.{List}
 use Prim.Native.Nat.{ℕ, _-_}
 use borrow.Author.Needs.{needs}
 use lib.ListN.{length, getD, take}
 use Rattle.listing.specs.Listing.{limits}
-use Rattle.valid.specs.Dyadic.{seenAfter, subsOfAll}
-use Rattle.valid.specs.Tally.{Tallied, third, Tally}
+use Rattle.valid.specs.Dyadic.{subsOfAll, seenAfter, third}
+use Rattle.valid.specs.Tally.{Counted, Tally, Tallied}
 use Rattle.valid.proofs.Walks.{subsOf, Walked, walked-none, walk-more, walk-stop, walk-all, tallied-walked}
-use Rattle.valid.proofs.Sequences.{in-at}
+use Rattle.matching.proofs.Sequences.{in-at}
 use Rattle.valid.proofs.dyadic.tally_all.Statement.{statement}
 use Rattle.valid.proofs.dyadic.tally_all.Tie as tie
 
 abbrev Inv-loop : tie.InvT-loop
-Inv-loop tally₀ ends inc b subs r i j₀ tally j =
-    (seen : List ℕ) → Tally (limits .elements) tally₀ seen
-    → Walked (limits .elements) (third r i) tally seen (subsOfAll ends inc b (take j subs))
+Inv-loop tally₀ ends inc b subs r i once₀ j₀ tally once j =
+    Counted (limits .elements) tally once
+    × ((seen : List ℕ) → Tally (limits .elements) tally₀ seen
+    → Walked (limits .elements) (third r i) tally seen (subsOfAll ends inc b (take j subs)))
 
 abbrev μ-loop : tie.MeasureT-loop
-μ-loop tally₀ ends inc b subs r i j₀ tally j = length subs - j
+μ-loop tally₀ ends inc b subs r i once₀ j₀ tally once j = length subs - j
 
 abbrev Here : Type 0
 Here = tie.After-tally-list Inv-loop μ-loop
@@ -44,14 +45,14 @@ list c =
 -- what was tallied for the list at hand
 one : (c : Here) (seen : List ℕ) → Tally (limits .elements) (start c .args .tally .now) seen
     → Tallied (limits .elements) (c .tally-list .last .0) (third (start c .args .r) (start c .args .i))
-    (seenAfter seen (done c)) (list c) (c .tally-list .result)
+    (seenAfter seen (done c)) (list c) (c .tally-list .result .answer)
 one c seen T =
-    let w = c .before .before .before .before .before .loop .inv seen T in
-    rw (c .before .side-of .ensures) at (c .tally-list .ensures _ (w .tally))
+    let w = c .before .before .before .before .before .loop .inv .1 seen T in
+    rw (c .before .side-of .ensures) at (c .tally-list .ensures .0 _ (w .tally))
 
 loop-holds : tie.Need-loop-holds Inv-loop μ-loop
 unfolding subsOfAll
-loop-holds c seen T = walked-none _ seen T
+loop-holds c = (c .before .before .before .pre .1 .1 .1, λ seen T. walked-none _ seen T)
 
 mul-side-of : tie.Need-mul-side-of Inv-loop μ-loop
 mul-side-of c = search needs
@@ -70,15 +71,20 @@ tally-list-requires c κs =
     let d = c .before .before .before in
     let s = d .before .before .before .before .before in
     let m = in-at (s .args .subs .now) (d .before .loop .j) (d .loop-test .taken) in
-    (λ x k. s .pre .1 .0 .inside _ x m (rw (c .side-of .ensures) at k), s .pre .1 .1)
+    let C = d .before .loop .inv .0 in
+    (λ x k. s .pre .1 .0 .inside _ x m (rw (c .side-of .ensures) at k), (s .pre .1 .1 .0, C))
 
 returns : tie.Need-returns Inv-loop μ-loop
-returns c seen T =
-    let d = c .before .before .before .before .before .before in
+returns c =
+    let o = c .before .before in
+    let d = o .before .before .before .before in
     let s = d .before .before .before .before .before .args in
-    let w = d .before .loop .inv seen T in
-    walk-stop (s .ends .now) (s .inc .now) (s .b) _ seen (s .subs .now) _ w (d .loop-test .taken)
-    (one (c .before .before) seen T .answer) (c .if1 .taken)
+    let w = d .before .loop .inv .1 in (
+      λ seen T.
+          walk-stop (s .ends .now) (s .inc .now) (s .b) _ seen (s .subs .now) _ (w seen T) (d .loop-test .taken)
+          (one o seen T .answer) (c .if1 .taken),
+      o .tally-list .ensures .1,
+    )
 
 add-j : tie.Need-add-j Inv-loop μ-loop
 add-j c = search needs
@@ -87,22 +93,29 @@ loop-less : tie.Need-loop-less Inv-loop μ-loop
 loop-less c = search needs
 
 loop-again : tie.Need-loop-again Inv-loop μ-loop
-loop-again c seen T =
-    let d = c .before .before .before .before .before .before in
+loop-again c =
+    let o = c .before .before in
+    let d = o .before .before .before .before in
     let s = d .before .before .before .before .before .args in
-    let w = d .before .loop .inv seen T in
-    walk-more (s .ends .now) (s .inc .now) (s .b) _ seen (s .subs .now) _ w (d .loop-test .taken)
-    (tallied-walked (one (c .before .before) seen T) (c .if1 .left))
+    let w = d .before .loop .inv .1 in (
+      o .tally-list .ensures .1,
+      λ seen T.
+          walk-more (s .ends .now) (s .inc .now) (s .b) _ seen (s .subs .now) _ (w seen T) (d .loop-test .taken)
+          (tallied-walked (one o seen T) (c .if1 .left)),
+    )
 
 plain-requires : tie.Need-plain-requires Inv-loop μ-loop
 plain-requires c κs = search needs
 
 returns-2 : tie.Need-returns-2 Inv-loop μ-loop
-returns-2 c seen T =
+returns-2 c =
     let s = c .before .before .before .before .before .before .args in
-    let w = c .before .before .loop .inv seen T in
-    walk-all (s .ends .now) (s .inc .now) (s .b) _ seen (s .subs .now) _ w (c .before .loop-test .left)
-    (c .plain .ensures)
+    let v = c .before .before .loop .inv in (
+      λ seen T.
+          walk-all (s .ends .now) (s .inc .now) (s .b) _ seen (s .subs .now) _ (v .1 seen T) (c .before .loop-test .left)
+          (c .plain .ensures),
+      v .0,
+    )
 
 pub tally-all-spec : {M : Type 1} → statement M
 tally-all-spec =

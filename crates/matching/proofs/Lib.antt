@@ -1,0 +1,4 @@
+pub mod Sequences
+pub mod Places
+pub mod Entries
+pub mod IncidenceExact
