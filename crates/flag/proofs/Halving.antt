@@ -10,7 +10,7 @@ use native.Mathlib.Omega.{arith}
 use lib.ListN.{length, getD}
 use Rattle.order.specs.Lists.{In, has, Ascending}
 use Rattle.order.proofs.Lists.{has-yes, has-no}
-use Rattle.valid.proofs.Sequences.{in-at}
+use Rattle.matching.proofs.Sequences.{in-at}
 
 -- a number of a list stands at a place
 place-in : (l : List ℕ) (x : ℕ) → In x l → (k : ℕ) × (k < length l) × (getD l k 0 ≡ x)
