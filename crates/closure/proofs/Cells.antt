@@ -16,12 +16,12 @@ use Rattle.listing.specs.Listing.{Listing, Limits, rank, count, side, subs, sup
 use Rattle.listing.specs.Shape.{Shaped}
 use Rattle.listing.specs.Layers.{layers, order, derived}
 use Rattle.listing.proofs.Layers.{layers-topped, in-range, derived-in, derived-ascending}
-use Rattle.valid.specs.Bounds.{Bounded}
 use Rattle.matching.specs.Incidence.{Incident}
+use Rattle.matching.proofs.Sequences.{at-sides}
+use Rattle.valid.specs.Bounds.{Bounded}
 use Rattle.valid.specs.Ascent.{Ascends}
 use Rattle.valid.specs.Dyadic.{Diamond}
 use Rattle.valid.specs.Closed.{Closed}
-use Rattle.matching.proofs.Sequences.{at-sides}
 use Rattle.pairing.specs.Sound.{Sound, Sorted}
 use Rattle.closure.specs.Derived.{Derived}
 use Rattle.closure.proofs.Diamonds.{diamond-same}

@@ -13,13 +13,13 @@ use Rattle.listing.specs.Answers.{_orElse_, firstIn, firstFor, firstOf}
 use Rattle.listing.specs.Listing.{Listing, limits, rank, before, entries}
 use Rattle.listing.specs.Shape.{fills, shapeTest}
 use Rattle.listing.specs.Cells.{nullitope}
-use Rattle.valid.specs.Bounds.{boundedTest}
 use Rattle.matching.specs.Incidence.{alongTest, elementTest, incidencesTest}
+use Rattle.matching.proofs.Sequences.{or-none}
+use Rattle.valid.specs.Bounds.{boundedTest}
 use Rattle.valid.specs.Ascent.{climbs, elementAscent, ascentTest}
 use Rattle.valid.specs.Dyadic.{dyadicTest}
 use Rattle.valid.specs.Tests.{closed}
 use Rattle.valid.specs.Closed.{Closed}
-use Rattle.matching.proofs.Sequences.{or-none}
 use Rattle.valid.proofs.ClosedExact.{closed-exact}
 use Rattle.pairing.specs.Trimmed.{bit}
 use Rattle.pairing.specs.Product.{productOf}

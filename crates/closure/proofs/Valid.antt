@@ -6,11 +6,11 @@ use Prim.Native.Nat.{_≤_}
 use Rattle.order.specs.Ends.{need}
 use Rattle.listing.specs.Listing.{Listing, Limits, rank}
 use Rattle.listing.specs.Layers.{layers}
-use Rattle.valid.specs.Bounds.{boundedTest, Bounded}
 use Rattle.matching.specs.Incidence.{incidencesTest, Incident}
+use Rattle.matching.proofs.IncidenceExact.{incidences-exact}
+use Rattle.valid.specs.Bounds.{boundedTest, Bounded}
 use Rattle.valid.specs.Tests.{isValid}
 use Rattle.valid.proofs.BoundsExact.{bounded-exact}
-use Rattle.matching.proofs.IncidenceExact.{incidences-exact}
 use Rattle.valid.proofs.ClosedExact.{valid-exact}
 use Rattle.pairing.specs.Sound.{Sound}
 use Rattle.pairing.specs.Product.{productOf}

@@ -14,10 +14,10 @@ use Rattle.listing.specs.Refusals.{notAFlag, outsideRanks}
 use Rattle.listing.specs.Answers.{plain, fine, ifZero}
 use Rattle.listing.specs.Listing.{Listing, Limits, rank}
 use Rattle.listing.proofs.Answers.{or-no, no-or, on-no, on-off, then-go}
+use Rattle.matching.proofs.Sequences.{and-true, and-off}
 use Rattle.valid.specs.Closed.{Closed}
 use Rattle.valid.specs.Tests.{closed}
 use Rattle.valid.proofs.ClosedExact.{closed-exact}
-use Rattle.matching.proofs.Sequences.{and-true, and-off}
 use Rattle.flag.specs.declared.Changed.{Changed}
 use Rattle.flag.specs.Flags.{flagTest, startTest, IsFlag}
 use Rattle.flag.specs.Change.{changeTest, changeAt, changedOf, padded, Changes}

@@ -1,7 +1,7 @@
 -- Test 2: incidences.
 --
 -- entryTest        one entry x of a list of element i of rank r: x is one of n elements, and its own list back holds i
--- alongTest        the first refusal along a list, which may name the n elements from place b on; at side s they lead back
+-- alongTest        the first refusal along a list, which may name n elements from place b on; at side s they lead back
 -- elementTest      one element: 11, its subs in order (15, 13), 12, its sups in order (16, 14)
 -- incidencesTest   all elements, by rank and then index
 -- Incident         the book's rule: subs above rank 0, sups below the top, and each one listed exists and lists back

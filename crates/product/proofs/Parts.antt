@@ -17,8 +17,8 @@ use Rattle.listing.specs.Shape.{Shaped}
 use Rattle.listing.specs.Layers.{layers}
 use Rattle.listing.proofs.Listing.{before-zero, before-next}
 use Rattle.listing.proofs.Sequences.{sum-add}
-use Rattle.valid.specs.Bounds.{Bounded}
 use Rattle.matching.specs.Incidence.{Incident}
+use Rattle.valid.specs.Bounds.{Bounded}
 use Rattle.valid.proofs.ClosedExact.{valid-exact}
 use Rattle.pairing.specs.Trimmed.{bit, trimSize, trimUnder, trimmed}
 use Rattle.pairing.proofs.Trimmed.{raised-used}

@@ -15,8 +15,8 @@ use Rattle.listing.specs.Listing.{Listing, count, before, start, entries, rank}
 use Rattle.listing.specs.Shape.{elements}
 use Rattle.listing.specs.Layers.{Layers, Topped}
 use Rattle.listing.proofs.Listing.{before-next, before-le}
-use Rattle.valid.specs.Bounds.{Bounded}
 use Rattle.matching.specs.Incidence.{Incident}
+use Rattle.valid.specs.Bounds.{Bounded}
 use Rattle.pairing.specs.Trimmed.{bit}
 use Rattle.pairing.specs.Paired.{block, pairOf, pairAt, leftSubs, rightSubs, paired}
 use Rattle.pairing.specs.Grown.{minSize, minUnder, grown}

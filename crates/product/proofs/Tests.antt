@@ -11,8 +11,8 @@ use Rattle.listing.specs.Answers.{plain, fine, _orElse_}
 use Rattle.listing.specs.Listing.{Listing, Limits}
 use Rattle.listing.specs.Shape.{elements}
 use Rattle.listing.proofs.Answers.{on-no, on-or-no}
-use Rattle.valid.specs.Tests.{isValid}
 use Rattle.matching.proofs.Sequences.{or-none}
+use Rattle.valid.specs.Tests.{isValid}
 use Rattle.product.specs.Outcome.{sizeTest}
 use Rattle.product.specs.Made.{factorsTest}
 

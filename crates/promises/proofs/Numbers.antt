@@ -13,8 +13,8 @@ use Rattle.listing.specs.Answers.{refusal, fine, on, _orElse_, firstIn, firstFo
 use Rattle.order.specs.Lists.{has, occurs}
 use Rattle.listing.specs.Listing.{Listing, rank, count, entries, side, subs, sups}
 use Rattle.listing.proofs.Answers.{or-fine, or-stop}
-use Rattle.valid.specs.Bounds.{boundedTest}
 use Rattle.matching.specs.Incidence.{entryTest, alongTest, elementTest, incidencesTest}
+use Rattle.valid.specs.Bounds.{boundedTest}
 use Rattle.valid.specs.Ascent.{climbs, sideAscent, elementAscent, ascentTest}
 use Rattle.valid.specs.Dyadic.{walk, thirdTest, seenAfter, loneTest, sectionsTest, dyadicTest}
 use Rattle.promises.proofs.Broken.{zero-or}

@@ -10,8 +10,8 @@ use Rattle.listing.specs.Listing.{before, entries}
 use Rattle.listing.specs.Shape.{fills, shapeTest}
 use Rattle.listing.specs.Layers.{gather, derived}
 use Rattle.listing.specs.Written.{joined, table as numbers, listAt, nth, written}
-use Rattle.valid.specs.Bounds.{boundedTest}
 use Rattle.matching.specs.Incidence.{entryTest, alongTest, elementTest, incidencesTest}
+use Rattle.valid.specs.Bounds.{boundedTest}
 use Rattle.valid.specs.Ascent.{climbs, elementAscent, ascentTest}
 use Rattle.valid.specs.Dyadic.{subsOfAll, thirdTest, seenAfter, loneTest, sectionsTest, dyadicTest}
 use Rattle.valid.specs.Tests.{isValid, closed}

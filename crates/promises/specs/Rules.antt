@@ -27,8 +27,8 @@ use Rattle.listing.specs.Refusals.{moreFlags, leftInvalid, rightInvalid, combOf
 use Rattle.listing.specs.Refusals.{productIncidences, outputShort}
 use Rattle.listing.specs.Listing.{Listing, Limits, rank, start}
 use Rattle.listing.specs.Shape.{elements}
-use Rattle.valid.specs.Bounds.{Bounded}
 use Rattle.matching.specs.Incidence.{Incident}
+use Rattle.valid.specs.Bounds.{Bounded}
 use Rattle.valid.specs.Ascent.{Ascends}
 use Rattle.valid.specs.Dyadic.{MetTwice, Diamond}
 use Rattle.valid.specs.Tests.{isValid}

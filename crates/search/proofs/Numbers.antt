@@ -11,8 +11,8 @@ use Rattle.listing.specs.declared.Answer.{Answer}
 use Rattle.listing.specs.Answers.{refusal, on, ifZero, _orElse_, firstIn, firstFor, firstOf}
 use Rattle.listing.specs.Listing.{Listing, Limits, rank, count, entries, side, subs, sups}
 use Rattle.listing.specs.Shape.{fills, elements, shapeTest}
-use Rattle.valid.specs.Bounds.{boundedTest}
 use Rattle.matching.specs.Incidence.{entryTest, alongTest, elementTest, incidencesTest}
+use Rattle.valid.specs.Bounds.{boundedTest}
 use Rattle.valid.specs.Ascent.{climbs, sideAscent, elementAscent, ascentTest}
 use Rattle.valid.specs.Dyadic.{walk, thirdTest, seenAfter, loneTest, sectionsTest, dyadicTest}
 use Rattle.valid.specs.Tests.{closed}

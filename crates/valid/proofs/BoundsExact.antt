@@ -9,8 +9,8 @@ use Rattle.listing.specs.Listing.{Listing, rank, count}
 use Rattle.listing.specs.Refusals.{notBounded}
 use Rattle.listing.specs.declared.Answer.{Answer}
 use Rattle.listing.proofs.Answers.{on-no}
-use Rattle.valid.specs.Bounds.{boundedTest, Bounded}
 use Rattle.matching.proofs.Sequences.{and-true}
+use Rattle.valid.specs.Bounds.{boundedTest, Bounded}
 
 module _ (L : Listing) where
   abbrev unbounded : Answer

@@ -13,7 +13,7 @@ use lib.ListN.{length, getD, set, length-set, replicate, length-replicate}
 use Rattle.listing.specs.declared.Answer.{Answer}
 use Rattle.listing.specs.Answers.{fine, on, firstFor, firstOf}
 use Rattle.listing.proofs.Answers.{or-fine}
-use Rattle.valid.specs.Tally.{ones, Counted, loneIn}
+use Rattle.valid.specs.Tally.{ones, LoneCount, loneIn}
 
 -- what one count adds
 abbrev own : ℕ → ℕ
@@ -69,20 +69,20 @@ none-one (c ∷ t) (suc x) h e = none-one t x (omega arith) e
 
 -- ---- a tally of n counts
 
-pub counted-fresh : (n : ℕ) → Counted n (replicate n 0) 0
-counted-fresh n = record { whole = length-replicate n 0; once = sym (ones-fresh n) }
+pub lone-fresh : (n : ℕ) → LoneCount n (replicate n 0) 0
+lone-fresh n = record { whole = length-replicate n 0; once = sym (ones-fresh n) }
 
-module _ {n : ℕ} (t : List ℕ) (k : ℕ) (C : Counted n t k) where
-  pub counted-le : k ≤ n
-  counted-le = omega (arith, ones-le t, C .whole, C .once)
+module _ {n : ℕ} (t : List ℕ) (k : ℕ) (C : LoneCount n t k) where
+  pub lone-le : k ≤ n
+  lone-le = omega (arith, ones-le t, C .whole, C .once)
 
   -- an index is met that had not been met twice
   module _ (x : ℕ) (h : x < n) (g : getD t x 0 < 2) where
-    pub counted-at : getD t x 0 ≤ k
-    counted-at = omega (arith, ones-at t x (omega (arith, C .whole)) g, C .once)
+    pub lone-at : getD t x 0 ≤ k
+    lone-at = omega (arith, ones-at t x (omega (arith, C .whole)) g, C .once)
 
-    pub counted-more : (m : ℕ) → m + 2 * getD t x 0 ≡ k + 1 → Counted n (set t x (getD t x 0 + 1)) m
-    counted-more m e = record {
+    pub lone-more : (m : ℕ) → m + 2 * getD t x 0 ≡ k + 1 → LoneCount n (set t x (getD t x 0 + 1)) m
+    lone-more m e = record {
       whole = length-set t x _ ∙ C .whole;
       once = omega (arith, ones-more t x (omega (arith, C .whole)) g, C .once);
     }
@@ -94,8 +94,8 @@ unfolding firstFor
 all-fine f e zero i = refl
 all-fine f e (suc d) i = or-fine (f i) _ (ap (λ (a : Answer). a .no) (e i)) ∙ all-fine f e d (suc i)
 
-pub counted-none : {n : ℕ} (f : ℕ → Answer) (t : List ℕ) (m : ℕ) → Counted n t 0 → loneIn f t m ≡ fine
+pub lone-none : {n : ℕ} (f : ℕ → Answer) (t : List ℕ) (m : ℕ) → LoneCount n t 0 → loneIn f t m ≡ fine
 unfolding loneIn firstOf
-counted-none f t m C =
+lone-none f t m C =
     let z = sym (C .once) in
     all-fine _ (λ x. ap (λ (b : Bool). on b (f x)) (ne-eqb (getD t x 0) 1 (none-one t x z))) (m - 0) 0

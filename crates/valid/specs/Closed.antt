@@ -3,8 +3,8 @@
 -- Closed   shaped, bounded, incident, every list strictly ascending, and the diamond up to the maximal element
 use Rattle.listing.specs.Listing.{Listing, Limits, rank}
 use Rattle.listing.specs.Shape.{Shaped}
-use Rattle.valid.specs.Bounds.{Bounded}
 use Rattle.matching.specs.Incidence.{Incident}
+use Rattle.valid.specs.Bounds.{Bounded}
 use Rattle.valid.specs.Ascent.{Ascends}
 use Rattle.valid.specs.Dyadic.{Diamond}
 

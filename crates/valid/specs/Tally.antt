@@ -1,11 +1,11 @@
 -- What the code of test 3 keeps: how often each index has been met.
 --
--- ones       how many counts of a tally are 1
--- Counted    a tally has n counts, and k of them are 1
--- Tally      a tally of n counts, by index, of what has been seen
--- Tallied    after a list: the answer at the first third occurrence, and else the tally of what has been seen
--- loneIn     the refusal f x at the smallest index x below n whose count is 1
--- Walkable   the numbers of a list are elements whose lists begin at place b, and the subs of these are below n
+-- ones        how many counts of a tally are 1
+-- LoneCount   a tally has n counts, and k of them are 1
+-- Tally       a tally of n counts, by index, of what has been seen
+-- Tallied     after a list: the answer at the first third occurrence, and else the tally of what has been seen
+-- loneIn      the refusal f x at the smallest index x below n whose count is 1
+-- Walkable    the numbers of a list are elements whose lists begin at place b, and the subs of these are below n
 use mathlib.Core.Path.{_≡_}
 use mathlib.Core.Bool.{cond}
 use mathlib.Core.List.{List, [], _∷_}
@@ -22,7 +22,7 @@ unfoldable pub ones : List ℕ → ℕ
 ones [] = 0
 ones (x ∷ t) = cond (eqb x 1) 1 0 + ones t
 
-pub record Counted (n : ℕ) (t : List ℕ) (k : ℕ) : Type 0 where
+pub record LoneCount (n : ℕ) (t : List ℕ) (k : ℕ) : Type 0 where
   pub whole : length t ≡ n
   pub once : k ≡ ones t
 

@@ -13,7 +13,7 @@ ghost use Rattle.listing.specs.Listing.{listing, limits, before, Ends};
 ghost use Rattle.listing.specs.Shape.{Shaped};
 ghost use Rattle.matching.specs.Incidence.{Incident};
 ghost use Rattle.valid.specs.Dyadic.{subsOfAll, third, lone, sectionsTest, dyadicTest};
-ghost use Rattle.valid.specs.Tally.{Counted, Tally, Tallied, loneIn, Walkable};
+ghost use Rattle.valid.specs.Tally.{LoneCount, Tally, Tallied, loneIn, Walkable};
 
 // What a walk leaves: its answer, and how many indices it has met exactly once.
 struct Met {
@@ -33,10 +33,10 @@ fn once_after(once: u16, before: u8) -> u16
 // have been met once.
 fn tally_list(tally: &mut [u8; limit::ELEMENTS], subs: &[u16], once: u16, r: u16, i: u16) -> Met
     requires { ⌜ ((x : ℕ) → In x (now subs) → x < limits .elements) ⌝ }
-    requires { ⌜ (2 ≤ r) × Counted (limits .elements) (now tally) once ⌝ }
+    requires { ⌜ (2 ≤ r) × LoneCount (limits .elements) (now tally) once ⌝ }
     ensures { λ m. ⌜ ((seen : List ℕ) → Tally (limits .elements) (now (tally .entry)) seen
         → Tallied (limits .elements) (now (tally .exit)) (third r i) seen (now (subs .entry)) (m .answer)) ⌝ }
-    ensures { λ m. ⌜ Counted (limits .elements) (now (tally .exit)) (m .once) ⌝ }
+    ensures { λ m. ⌜ LoneCount (limits .elements) (now (tally .exit)) (m .once) ⌝ }
 {
     let mut n = once;
     let mut j: usize = 0;
@@ -76,11 +76,11 @@ fn tally_all(
 ) -> Met
     requires { ⌜ Ends (now ends) (now inc) ⌝ }
     requires { ⌜ Walkable (now ends) (now inc) b (limits .elements) (now subs) ⌝ }
-    requires { ⌜ (2 ≤ r) × Counted (limits .elements) (now tally) 0 ⌝ }
+    requires { ⌜ (2 ≤ r) × LoneCount (limits .elements) (now tally) 0 ⌝ }
     ensures { λ m. ⌜ ((seen : List ℕ) → Tally (limits .elements) (now (tally .entry)) seen
         → Tallied (limits .elements) (now (tally .exit)) (third r i) seen
         (subsOfAll (now (ends .entry)) (now (inc .entry)) b (now (subs .entry))) (m .answer)) ⌝ }
-    ensures { λ m. ⌜ Counted (limits .elements) (now (tally .exit)) (m .once) ⌝ }
+    ensures { λ m. ⌜ LoneCount (limits .elements) (now (tally .exit)) (m .once) ⌝ }
 {
     let mut once: u16 = 0;
     let mut j: usize = 0;
@@ -129,7 +129,7 @@ fn check_once(tally: &[u8; limit::ELEMENTS], n: u16, r: u16, i: u16) -> Answer
 // The smallest index below n that was met once, where `once` of the whole tally were: it is looked for only if some were.
 fn check_lone(tally: &[u8; limit::ELEMENTS], once: u16, n: u16, r: u16, i: u16) -> Answer
     requires { ⌜ n ≤ limits .elements ⌝ }
-    requires { ⌜ (2 ≤ r) × Counted (limits .elements) (now tally) once ⌝ }
+    requires { ⌜ (2 ≤ r) × LoneCount (limits .elements) (now tally) once ⌝ }
     ensures { λ a. ⌜ a ≡ loneIn (lone r i) (now (tally .entry)) n ⌝ }
 {
     if once == 0 {

@@ -5,8 +5,8 @@ use native.Mathlib.Omega.{arith}
 use borrow.Author.Needs.{needs}
 use Rattle.listing.specs.Listing.{Listing, listing}
 use Rattle.listing.proofs.ShapeExact.{shaped-ends}
-use Rattle.valid.specs.Ascent.{Ascends}
 use Rattle.matching.proofs.Places.{side-fits, side-at}
+use Rattle.valid.specs.Ascent.{Ascends}
 use Rattle.flag.specs.Change.{between, Neighbours}
 use Rattle.flag.proofs.chain.change_index.Statement.{statement}
 use Rattle.flag.proofs.chain.change_index.Tie as tie

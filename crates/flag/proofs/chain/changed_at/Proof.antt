@@ -4,8 +4,8 @@ use Prim.Native.Nat.{_+_, _-_}
 use native.Mathlib.Omega.{arith}
 use borrow.Author.Needs.{needs}
 use Rattle.listing.specs.Listing.{Listing, listing, limits}
-use Rattle.valid.specs.Closed.{Closed}
 use Rattle.matching.proofs.Places.{few-before}
+use Rattle.valid.specs.Closed.{Closed}
 use Rattle.flag.specs.Flags.{IsFlag}
 use Rattle.flag.specs.Change.{changeAt}
 use Rattle.flag.proofs.Padding.{padded-set}

@@ -2,7 +2,7 @@
 -- Assumes nothing.
 use mathlib.Core.Path.{sym, _∙_}
 use borrow.Author.Needs.{needs}
-use Rattle.valid.proofs.Ones.{counted-none}
+use Rattle.valid.proofs.Ones.{lone-none}
 use Rattle.valid.proofs.dyadic.check_lone.Statement.{statement}
 use Rattle.valid.proofs.dyadic.check_lone.Tie as tie
 
@@ -10,7 +10,7 @@ plain-requires : tie.Need-plain-requires
 plain-requires c κs = search needs
 
 returns : tie.Need-returns
-returns c = c .plain .ensures ∙ sym (counted-none _ _ _ (rw (c .before .if1 .taken) at (c .before .before .pre .1 .1)))
+returns c = c .plain .ensures ∙ sym (lone-none _ _ _ (rw (c .before .if1 .taken) at (c .before .before .pre .1 .1)))
 
 check-once-requires : tie.Need-check-once-requires
 check-once-requires c κs = search needs

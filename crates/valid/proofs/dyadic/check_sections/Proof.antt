@@ -10,11 +10,11 @@ use lib.ListN.{length}
 use Rattle.listing.specs.Listing.{Listing, listing, limits, before, subs}
 use Rattle.listing.proofs.Listing.{rank-there}
 use Rattle.listing.proofs.ShapeExact.{shaped-ends}
+use Rattle.matching.proofs.Places.{side-fits, side-at, before-step, few-before, few-in-rank}
 use Rattle.valid.specs.Dyadic.{walk, third, lone}
 use Rattle.valid.specs.Tally.{loneIn, Tallied}
 use Rattle.valid.proofs.Walks.{walk-same, tally-zero, walkable, lone-same, sections-stop, sections-go}
-use Rattle.valid.proofs.Ones.{counted-fresh}
-use Rattle.matching.proofs.Places.{side-fits, side-at, before-step, few-before, few-in-rank}
+use Rattle.valid.proofs.Ones.{lone-fresh}
 use Rattle.valid.proofs.dyadic.check_sections.Statement.{statement}
 use Rattle.valid.proofs.dyadic.check_sections.Tie as tie
 
@@ -79,7 +79,7 @@ tally-all-requires : tie.Need-tally-all-requires
 tally-all-requires c κs =
     let s = c .before .before .before .before .before .before .before in
     let w = walkable (L s) (s .pre .0) (s .pre .1 .0) (s .args .r) (s .args .i) (s .pre .1 .1 .2) in
-    let C = counted-fresh (limits .elements) in
+    let C = lone-fresh (limits .elements) in
     (shaped-ends (L s) (s .pre .0), (rw (its (c .before), s .pre .1 .1 .0) w, (s .pre .1 .1 .1, C)))
 
 returns : tie.Need-returns

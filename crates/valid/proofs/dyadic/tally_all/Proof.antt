@@ -6,16 +6,16 @@ use Prim.Native.Nat.{ℕ, _-_}
 use borrow.Author.Needs.{needs}
 use lib.ListN.{length, getD, take}
 use Rattle.listing.specs.Listing.{limits}
-use Rattle.valid.specs.Dyadic.{subsOfAll, seenAfter, third}
-use Rattle.valid.specs.Tally.{Counted, Tally, Tallied}
-use Rattle.valid.proofs.Walks.{subsOf, Walked, walked-none, walk-more, walk-stop, walk-all, tallied-walked}
 use Rattle.matching.proofs.Sequences.{in-at}
+use Rattle.valid.specs.Dyadic.{subsOfAll, seenAfter, third}
+use Rattle.valid.specs.Tally.{LoneCount, Tally, Tallied}
+use Rattle.valid.proofs.Walks.{subsOf, Walked, walked-none, walk-more, walk-stop, walk-all, tallied-walked}
 use Rattle.valid.proofs.dyadic.tally_all.Statement.{statement}
 use Rattle.valid.proofs.dyadic.tally_all.Tie as tie
 
 abbrev Inv-loop : tie.InvT-loop
 Inv-loop tally₀ ends inc b subs r i once₀ j₀ tally once j =
-    Counted (limits .elements) tally once
+    LoneCount (limits .elements) tally once
     × ((seen : List ℕ) → Tally (limits .elements) tally₀ seen
     → Walked (limits .elements) (third r i) tally seen (subsOfAll ends inc b (take j subs)))
 
@@ -112,8 +112,8 @@ returns-2 c =
     let s = c .before .before .before .before .before .before .args in
     let v = c .before .before .loop .inv in (
       λ seen T.
-          walk-all (s .ends .now) (s .inc .now) (s .b) _ seen (s .subs .now) _ (v .1 seen T) (c .before .loop-test .left)
-          (c .plain .ensures),
+          walk-all (s .ends .now) (s .inc .now) (s .b) _ seen (s .subs .now) _ (v .1 seen T)
+          (c .before .loop-test .left) (c .plain .ensures),
       v .0,
     )
 

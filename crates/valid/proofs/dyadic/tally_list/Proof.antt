@@ -7,17 +7,17 @@ use native.Mathlib.Omega.{arith}
 use borrow.Author.Needs.{needs}
 use lib.ListN.{length, getD, take}
 use Rattle.listing.specs.Listing.{limits}
-use Rattle.valid.specs.Dyadic.{third}
-use Rattle.valid.specs.Tally.{Counted, Tally}
 use Rattle.matching.proofs.Sequences.{in-at}
-use Rattle.valid.proofs.Ones.{counted-le, counted-at, counted-more}
+use Rattle.valid.specs.Dyadic.{third}
+use Rattle.valid.specs.Tally.{LoneCount, Tally}
+use Rattle.valid.proofs.Ones.{lone-le, lone-at, lone-more}
 use Rattle.valid.proofs.Walks.{Walked, walked-none, list-more, list-stop, list-all}
 use Rattle.valid.proofs.dyadic.tally_list.Statement.{statement}
 use Rattle.valid.proofs.dyadic.tally_list.Tie as tie
 
 abbrev Inv-loop : tie.InvT-loop
 Inv-loop tally₀ subs once r i n₀ j₀ tally n j =
-    Counted (limits .elements) tally n
+    LoneCount (limits .elements) tally n
     × ((seen : List ℕ) → Tally (limits .elements) tally₀ seen
     → Walked (limits .elements) (third r i) tally seen (take j subs))
 
@@ -74,7 +74,7 @@ once-after-requires c κs =
     let d = c .before .before .before in
     let l = d .before .before .before .loop in
     let C = l .inv .0 in
-    (few (c .before), counted-at _ _ C _ (inside d) (few (c .before)), omega (arith, counted-le (l .tally) (l .n) C))
+    (few (c .before), lone-at _ _ C _ (inside d) (few (c .before)), omega (arith, lone-le (l .tally) (l .n) C))
 
 element-copy-out-tally : tie.Need-element-copy-out-tally Inv-loop μ-loop
 element-copy-out-tally c = inside (c .before .before .before .before)
@@ -98,7 +98,7 @@ loop-again c =
     let d = o .before .before .before .before in
     let v = d .before .before .before .loop .inv in
     let x = d .wide .ensures .0 in (
-      counted-more _ _ (v .0) _ (inside d) f _ (o .once-after .ensures),
+      lone-more _ _ (v .0) _ (inside d) f _ (o .once-after .ensures),
       λ seen T. list-more _ seen _ _ (v .1 seen T) (d .before .before .loop-test .taken) _ x (inside d) f,
     )
 
