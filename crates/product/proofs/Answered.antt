@@ -24,7 +24,7 @@ use Rattle.closure.proofs.Products.{four-closed}
 use Rattle.building.specs.Built.{over}
 use Rattle.product.specs.declared.Built.{Built}
 use Rattle.product.specs.Outcome.{productTest, Outcome}
-use Rattle.product.proofs.Tests.{Passed}
+use Rattle.sizing.proofs.Tested.{Passed}
 use Rattle.product.proofs.Made.{answer-is, built-refused, after-refused, built-full, after-full}
 use Rattle.product.proofs.Chain.{chain-passed}
 

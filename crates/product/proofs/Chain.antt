@@ -17,9 +17,11 @@ use Rattle.pairing.specs.Product.{productOf}
 use Rattle.closure.specs.Result.{nullCase, combCase, resultOf}
 use Rattle.closure.proofs.Results.{result-product, result-null}
 use Rattle.product.specs.declared.Built.{Built}
-use Rattle.product.specs.Outcome.{sizeTest, productTest, Outcome}
+use Rattle.sizing.specs.Sizing.{sizeTest}
+use Rattle.product.specs.Outcome.{productTest, Outcome}
 use Rattle.product.specs.Made.{factorsTest, restTest, Made}
-use Rattle.product.proofs.Tests.{Passed, factors-valid, sizes-passed}
+use Rattle.sizing.proofs.Tested.{Passed, sizes-passed}
+use Rattle.product.proofs.Tests.{factors-valid}
 use Rattle.product.proofs.Made.{answer-is}
 
 -- ---- which test decides

@@ -1,11 +1,4 @@
 pub mod Tests
-pub mod Parts
-pub mod Counted
-pub mod Targets
-pub mod Lists
-pub mod Entries
-pub mod Past
-pub mod Planned
 pub mod Made
 pub mod Chain
 pub mod Answered

@@ -12,9 +12,10 @@ use Rattle.listing.specs.Listing.{Listing, before}
 use Rattle.listing.specs.Cells.{nullitope}
 use Rattle.building.specs.Built.{over}
 use Rattle.product.specs.declared.Built.{Built}
-use Rattle.product.specs.declared.sizes.Sizes.{Sizes}
+use Rattle.sizing.specs.declared.sizes.Sizes.{Sizes}
 use Rattle.product.specs.Outcome.{builtOf, after}
-use Rattle.product.specs.Made.{Measures, Made}
+use Rattle.sizing.specs.Sizing.{Measures}
+use Rattle.product.specs.Made.{Made}
 
 if-not : {A : Type 0} (n : ℕ) (x y : A) → (n ≡ 0 → ⊥) → ifZero n x y ≡ y
 if-not zero x y h = absurd (h refl)

@@ -1,34 +1,25 @@
 -- What the four products answer and write. min and max tell the product: duopyramid neither, duoprism min, duotegum
 -- max, duocomb both. A is the left factor, B the right one.
 --
--- sizeTest      33, 34, 35 by the limits, and 36 by the lengths of the output slices
 -- productTest   the refusals in their order: 30, 31, 32, then those of size
 -- builtOf       the answer with the three lengths written; 0 where it is refused
 -- after         what an output slice holds afterwards: the new numbers and then what stood past them; as it was where
 --               the product is refused
 -- Outcome       what a product answers and what its three output slices hold afterwards, all at once
 use mathlib.Core.Path.{_≡_}
-use mathlib.Core.Bool.{Bool, not, _||_}
+use mathlib.Core.Bool.{Bool, not}
 use mathlib.Core.List.{List, _++_}
 use Prim.Native.Nat.{ℕ}
-use lib.Dec.{ltb, eqb}
+use lib.Dec.{eqb}
 use lib.ListN.{length, drop}
 use Rattle.listing.specs.declared.Answer.{Answer}
 use Rattle.listing.specs.Refusals.{leftInvalid, rightInvalid, combOfPoint}
-use Rattle.listing.specs.Refusals.{productRanks, productElements, productIncidences, outputShort}
 use Rattle.listing.specs.Answers.{plain, ifZero, on, _orElse_}
 use Rattle.listing.specs.Listing.{Listing, Limits, limits}
-use Rattle.listing.specs.Shape.{elements}
 use Rattle.valid.specs.Tests.{isValid}
 use Rattle.closure.specs.Result.{combCase, resultOf}
+use Rattle.sizing.specs.Sizing.{sizeTest}
 use Rattle.product.specs.declared.Built.{Built}
-
-unfoldable pub sizeTest : Limits → Listing → ℕ → ℕ → ℕ → Answer
-sizeTest m R c e i =
-    on (ltb (m .ranks) (length (R .counts))) (plain productRanks) orElse
-    on (ltb (m .elements) (elements R)) (plain productElements) orElse
-    on (ltb (m .incidences) (length (R .inc))) (plain productIncidences) orElse
-    on (ltb c (length (R .counts)) || (ltb e (length (R .ends)) || ltb i (length (R .inc)))) (plain outputShort)
 
 unfoldable pub productTest : Limits → Bool → Bool → Listing → Listing → ℕ → ℕ → ℕ → Answer
 productTest m min max A B c e i =

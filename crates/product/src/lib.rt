@@ -1,7 +1,6 @@
 // The four products of cells.
 mod factors;
 mod make;
-mod sizes;
 
 use listing::Answer;
 ghost use Rattle.listing.specs.Listing.{listing};

@@ -1,12 +1,12 @@
 // The chain of tests, and then the builder, once over the two flags.
 use crate::Built;
 use crate::factors;
-use crate::sizes;
-use crate::sizes::Sizes;
 use building::build;
 use listing::Answer;
 use listing::inner;
 use listing::refusal;
+use sizing::sizes;
+use sizing::sizes::Sizes;
 ghost use mathlib.Core.Path.{_≡_};
 ghost use mathlib.Core.Bool.{false, _||_};
 ghost use Prim.Native.Nat.{_≤_};
@@ -17,8 +17,10 @@ ghost use Rattle.valid.specs.Tests.{isValid};
 ghost use Rattle.listing.specs.Cells.{nullitope};
 ghost use Rattle.pairing.specs.Product.{productOf};
 ghost use Rattle.closure.specs.Result.{nullCase, combCase, resultOf};
-ghost use Rattle.product.specs.Outcome.{sizeTest, builtOf, Outcome};
-ghost use Rattle.product.specs.Made.{restTest, Usable, Measures, Made};
+ghost use Rattle.sizing.specs.Sizing.{sizeTest};
+ghost use Rattle.product.specs.Outcome.{builtOf, Outcome};
+ghost use Rattle.sizing.specs.Sizing.{Usable, Measures};
+ghost use Rattle.product.specs.Made.{restTest, Made};
 
 // What a refused product answers: nothing is written.
 fn refused(answer: Answer) -> Built

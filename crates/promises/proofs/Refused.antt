@@ -26,7 +26,8 @@ use Rattle.valid.proofs.BoundsExact.{bounded-exact}
 use Rattle.valid.proofs.AscentExact.{ascent-exact, ascends-distinct}
 use Rattle.valid.proofs.DyadicExact.{dyadic-counts, dyadic-exact}
 use Rattle.closure.specs.Result.{combCase, resultOf}
-use Rattle.product.specs.Outcome.{sizeTest, productTest}
+use Rattle.sizing.specs.Sizing.{sizeTest}
+use Rattle.product.specs.Outcome.{productTest}
 use Rattle.flag.specs.Flags.{flagTest, startTest, IsFlag}
 use Rattle.flag.specs.Change.{changeTest}
 use Rattle.flag.proofs.FlagExact.{flag-exact}

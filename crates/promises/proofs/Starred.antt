@@ -20,7 +20,8 @@ use Rattle.pairing.specs.Paired.{block, offset, position, pairOf, pairAt, leftS
 use Rattle.pairing.specs.Grown.{upTo, minSize, minUnder, maxSize, maxUnder}
 use Rattle.pairing.specs.Product.{product, productOf}
 use Rattle.closure.specs.Result.{nullCase, combCase, resultOf}
-use Rattle.product.specs.Outcome.{sizeTest, productTest}
+use Rattle.sizing.specs.Sizing.{sizeTest}
+use Rattle.product.specs.Outcome.{productTest}
 use Rattle.flag.specs.Flags.{every, flagAt, flagTest, startTest}
 use Rattle.flag.specs.Change.{common, other, between, changeAt, padded, changeTest, changedOf}
 use Rattle.promises.specs.Starred.{answered, table}

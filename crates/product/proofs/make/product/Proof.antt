@@ -7,11 +7,11 @@ use lib.ListN.{length}
 use Rattle.listing.specs.Listing.{Listing, listing, limits}
 use Rattle.listing.proofs.Answers.{no-of}
 use Rattle.pairing.specs.Product.{productOf}
-use Rattle.product.specs.Outcome.{sizeTest}
-use Rattle.product.specs.Made.{Measures}
-use Rattle.product.proofs.Planned.{built-is, build-asked}
-use Rattle.product.proofs.Parts.{usable-shaped, usable-high}
-use Rattle.product.proofs.Tests.{Passed, sizes-passed}
+use Rattle.sizing.specs.Sizing.{sizeTest}
+use Rattle.sizing.specs.Sizing.{Measures}
+use Rattle.sizing.proofs.Planned.{built-is, build-asked}
+use Rattle.sizing.proofs.Parts.{usable-shaped, usable-high}
+use Rattle.sizing.proofs.Tested.{Passed, sizes-passed}
 use Rattle.product.proofs.Made.{made-refused, made-written}
 use Rattle.product.proofs.make.product.Statement.{statement}
 use Rattle.product.proofs.make.product.Tie as tie

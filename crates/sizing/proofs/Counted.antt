@@ -22,11 +22,11 @@ use Rattle.pairing.proofs.Lengths.{rankSubs-lowest}
 use Rattle.closure.specs.Sizes.{allElements, sizesOf}
 use Rattle.closure.proofs.Sizes.{productOf-ranks, productOf-elements, productOf-ends, productOf-incidences}
 use Rattle.closure.proofs.Valid.{valid-sound}
-use Rattle.product.specs.declared.sizes.Used.{Used}
-use Rattle.product.specs.declared.sizes.Sizes.{Sizes}
-use Rattle.product.specs.Made.{Usable, inUse, partOf, Counted, Little, Measures}
-use Rattle.product.proofs.Parts.{usable-shaped, in-use-length, in-use-size, in-use-before, part-alike}
-use Rattle.product.proofs.Parts.{used-above}
+use Rattle.sizing.specs.declared.sizes.Used.{Used}
+use Rattle.sizing.specs.declared.sizes.Sizes.{Sizes}
+use Rattle.sizing.specs.Sizing.{Usable, inUse, partOf, Counted, Little, Measures}
+use Rattle.sizing.proofs.Parts.{usable-shaped, in-use-length, in-use-size, in-use-before, part-alike}
+use Rattle.sizing.proofs.Parts.{used-above}
 
 -- ---- lists, one after another
 

@@ -21,14 +21,14 @@ use Rattle.writing.specs.Pairs.{target, listsOf, listed, sizeOf, Plan, Ready}
 use Rattle.gathering.specs.Sups.{UpCounts}
 use Rattle.building.specs.Built.{built, Derives}
 use Rattle.writing.proofs.Target.{target-size}
-use Rattle.product.specs.Made.{Usable, partOf}
-use Rattle.product.proofs.Parts.{usable-shaped, in-use-length}
-use Rattle.product.proofs.Tests.{Passed}
-use Rattle.product.proofs.Counted.{in-use-few}
-use Rattle.product.proofs.Targets.{target-written, target-topped, target-sound, part-sound}
-use Rattle.product.proofs.Lists.{pair-under, pair-over}
-use Rattle.product.proofs.Entries.{written-derives, all-few}
-use Rattle.product.proofs.Past.{highest-past}
+use Rattle.sizing.specs.Sizing.{Usable, partOf}
+use Rattle.sizing.proofs.Parts.{usable-shaped, in-use-length}
+use Rattle.sizing.proofs.Tested.{Passed}
+use Rattle.sizing.proofs.Counted.{in-use-few}
+use Rattle.sizing.proofs.Targets.{target-written, target-topped, target-sound, part-sound}
+use Rattle.sizing.proofs.Lists.{pair-under, pair-over}
+use Rattle.sizing.proofs.Entries.{written-derives, all-few}
+use Rattle.sizing.proofs.Past.{highest-past}
 
 module _ (min max : Bool) (A B : Listing) (uA : Usable min max A) (uB : Usable min max B) where
   abbrev P : Factor

@@ -6,9 +6,9 @@ use native.Mathlib.Omega.{arith}
 use borrow.Author.Needs.{needs}
 use Rattle.pairing.specs.Trimmed.{bit}
 use Rattle.placing.proofs.Numbers.{bit-le}
-use Rattle.product.proofs.Counted.{measured}
-use Rattle.product.proofs.sizes.product_sizes.Statement.{statement}
-use Rattle.product.proofs.sizes.product_sizes.Tie as tie
+use Rattle.sizing.proofs.Counted.{measured}
+use Rattle.sizing.proofs.sizes.product_sizes.Statement.{statement}
+use Rattle.sizing.proofs.sizes.product_sizes.Tie as tie
 
 -- where the function began, and where it had the flags as numbers
 abbrev start : tie.After-struct-known2 → tie.Start

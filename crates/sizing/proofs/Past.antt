@@ -24,10 +24,10 @@ use Rattle.pairing.proofs.Sequences.{upTo-in}
 use Rattle.pairing.proofs.Grown.{grown-size, grown-max-under}
 use Rattle.placing.specs.Factors.{used}
 use Rattle.writing.specs.Pairs.{factorLayers, target}
-use Rattle.product.specs.Made.{Usable, inUse, partOf}
-use Rattle.product.proofs.Parts.{used-above, usable-shaped, usable-bounded, usable-incident, usable-high}
-use Rattle.product.proofs.Parts.{in-use-length, in-use-at, in-use-before}
-use Rattle.product.proofs.Entries.{place-past, exists-few}
+use Rattle.sizing.specs.Sizing.{Usable, inUse, partOf}
+use Rattle.sizing.proofs.Parts.{used-above, usable-shaped, usable-bounded, usable-incident, usable-high}
+use Rattle.sizing.proofs.Parts.{in-use-length, in-use-at, in-use-before}
+use Rattle.sizing.proofs.Entries.{place-past, exists-few}
 
 entries-past : (ends inc : List ℕ) (k : ℕ) → length ends ≤ k → entries ends inc k ≡ []
 unfolding entries

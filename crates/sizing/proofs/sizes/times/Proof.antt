@@ -2,8 +2,8 @@
 -- Assumes nothing.
 use native.Mathlib.Nat.{mul-le-mul}
 use native.Mathlib.Omega.{arith}
-use Rattle.product.proofs.sizes.times.Statement.{statement}
-use Rattle.product.proofs.sizes.times.Tie as tie
+use Rattle.sizing.proofs.sizes.times.Statement.{statement}
+use Rattle.sizing.proofs.sizes.times.Tie as tie
 
 mul-result : tie.Need-mul-result
 mul-result c = omega (arith, mul-le-mul (c .pre .0) (c .pre .1))

@@ -12,8 +12,8 @@ ghost use Rattle.listing.specs.Listing.{Listing, listing, limits, Ends, entries
 ghost use Rattle.listing.specs.Layers.{layers};
 ghost use Rattle.pairing.specs.Trimmed.{bit, trimmed};
 ghost use Rattle.pairing.specs.Product.{productOf};
-ghost use Rattle.product.specs.Outcome.{sizeTest};
-ghost use Rattle.product.specs.Made.{Usable, inUse, Counted, Little, Measures};
+ghost use Rattle.sizing.specs.Sizing.{sizeTest};
+ghost use Rattle.sizing.specs.Sizing.{Usable, inUse, Counted, Little, Measures};
 
 // What a factor has in use: how many ranks, elements and subs, and how many elements of its lowest and highest rank.
 pub struct Used {

@@ -1,9 +1,9 @@
 -- `range`: the part that is returned is the counts in use.
 -- Assumes nothing.
 use borrow.Author.Needs.{needs}
-use Rattle.product.specs.Made.{inUse}
-use Rattle.product.proofs.sizes.range.Statement.{statement}
-use Rattle.product.proofs.sizes.range.Tie as tie
+use Rattle.sizing.specs.Sizing.{inUse}
+use Rattle.sizing.proofs.sizes.range.Statement.{statement}
+use Rattle.sizing.proofs.sizes.range.Tie as tie
 
 bit-of-requires : tie.Need-bit-of-requires
 bit-of-requires c κs = search needs

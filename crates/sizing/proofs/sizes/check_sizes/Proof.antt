@@ -3,10 +3,10 @@
 use mathlib.Core.Path.{sym, _∙_}
 use native.Mathlib.Omega.{arith}
 use borrow.Author.Needs.{needs}
-use Rattle.product.proofs.Tests.{over-ranks, over-elements, over-incidences}
-use Rattle.product.proofs.Tests.{short-counts, short-ends, short-inc, sizes-fine}
-use Rattle.product.proofs.sizes.check_sizes.Statement.{statement}
-use Rattle.product.proofs.sizes.check_sizes.Tie as tie
+use Rattle.sizing.proofs.Tested.{over-ranks, over-elements, over-incidences}
+use Rattle.sizing.proofs.Tested.{short-counts, short-ends, short-inc, sizes-fine}
+use Rattle.sizing.proofs.sizes.check_sizes.Statement.{statement}
+use Rattle.sizing.proofs.sizes.check_sizes.Tie as tie
 
 plain-requires : tie.Need-plain-requires
 plain-requires c κs = search needs

@@ -22,8 +22,8 @@ use Rattle.pairing.proofs.Product.{product-topped, product-sound}
 use Rattle.closure.proofs.Alike.{Alike, alike-derived, alike-exists}
 use Rattle.closure.proofs.Valid.{valid-sound}
 use Rattle.writing.specs.Pairs.{factorLayers, target}
-use Rattle.product.specs.Made.{Usable, partOf}
-use Rattle.product.proofs.Parts.{part-alike}
+use Rattle.sizing.specs.Sizing.{Usable, partOf}
+use Rattle.sizing.proofs.Parts.{part-alike}
 
 -- layers with other lists
 abbrev listing-of : Layers → (ℕ → ℕ → List ℕ) → Layers

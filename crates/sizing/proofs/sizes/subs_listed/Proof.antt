@@ -8,9 +8,9 @@ use borrow.Author.Needs.{needs}
 use lib.ListN.{length}
 use Rattle.order.specs.Sums.{sum}
 use Rattle.listing.specs.Listing.{entries}
-use Rattle.product.proofs.Counted.{entries-few, listed-none, listed-next}
-use Rattle.product.proofs.sizes.subs_listed.Statement.{statement}
-use Rattle.product.proofs.sizes.subs_listed.Tie as tie
+use Rattle.sizing.proofs.Counted.{entries-few, listed-none, listed-next}
+use Rattle.sizing.proofs.sizes.subs_listed.Statement.{statement}
+use Rattle.sizing.proofs.sizes.subs_listed.Tie as tie
 
 abbrev Inv-loop : tie.InvT-loop
 Inv-loop ends inc from to n₀ e₀ n e =

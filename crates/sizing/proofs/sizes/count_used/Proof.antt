@@ -5,10 +5,10 @@ use native.Mathlib.Omega.{arith}
 use borrow.Author.Needs.{needs}
 use Rattle.listing.proofs.ShapeExact.{shaped-ends}
 use Rattle.placing.proofs.Numbers.{bit-le}
-use Rattle.product.proofs.Counted.{room, counted, little}
-use Rattle.product.proofs.Parts.{usable-shaped, usable-high}
-use Rattle.product.proofs.sizes.count_used.Statement.{statement}
-use Rattle.product.proofs.sizes.count_used.Tie as tie
+use Rattle.sizing.proofs.Counted.{room, counted, little}
+use Rattle.sizing.proofs.Parts.{usable-shaped, usable-high}
+use Rattle.sizing.proofs.sizes.count_used.Statement.{statement}
+use Rattle.sizing.proofs.sizes.count_used.Tie as tie
 
 range-requires : tie.Need-range-requires
 range-requires c κs =

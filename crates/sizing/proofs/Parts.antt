@@ -25,7 +25,7 @@ use Rattle.pairing.proofs.Trimmed.{raised-used}
 use Rattle.closure.proofs.Alike.{Alike}
 use Rattle.placing.specs.Factors.{Factor, used}
 use Rattle.writing.specs.Pairs.{factorLayers}
-use Rattle.product.specs.Made.{Usable, inUse, partOf}
+use Rattle.sizing.specs.Sizing.{Usable, inUse, partOf}
 
 high-bits : (min max : Bool) (n : ℕ) → need min max ≤ n → bit min + bit max ≤ n
 high-bits true true n h = h

@@ -1,8 +1,8 @@
 -- `where_asked`: once the number, or not at all.
 -- Assumes nothing.
 use native.Mathlib.Omega.{arith}
-use Rattle.product.proofs.sizes.where_asked.Statement.{statement}
-use Rattle.product.proofs.sizes.where_asked.Tie as tie
+use Rattle.sizing.proofs.sizes.where_asked.Statement.{statement}
+use Rattle.sizing.proofs.sizes.where_asked.Tie as tie
 
 returns : tie.Need-returns
 returns c = rw (c .if1 .taken) (omega arith, omega arith)
