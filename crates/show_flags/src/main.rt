@@ -121,15 +121,26 @@ fn change(name: &[u8], counts: &[u16], ends: &[u16], inc: &[u16], flag: &[u16], 
     io::write_all(STDOUT_FILENO, b"\n");
 }
 
-// The triangle.
-fn triangle() {
-    let c = cells::triangle::COUNTS;
-    let e = cells::triangle::ENDS;
-    let i = cells::triangle::INC;
-    change(b"triangle, change at 1", &c, &e, &i, &[0, 0, 0, 0], 1);
-    change(b"triangle, change at 2", &c, &e, &i, &[0, 0, 0, 0], 2);
-    change(b"triangle, change at 3", &c, &e, &i, &[0, 0, 0, 0], 3);
-    change(b"triangle, no flag", &c, &e, &i, &[0, 2, 0, 0], 1);
+// A change of a triangle's flag.
+fn triangle_changed(name: &[u8], flag: &[u16], r: u16) {
+    change(
+        name,
+        &cells::triangle::COUNTS,
+        &cells::triangle::ENDS,
+        &cells::triangle::INC,
+        flag,
+        r,
+    );
+}
+
+fn triangle_changes() {
+    triangle_changed(b"triangle, change at 1", &[0, 0, 0, 0], 1);
+    triangle_changed(b"triangle, change at 2", &[0, 0, 0, 0], 2);
+    triangle_changed(b"triangle, change at 3", &[0, 0, 0, 0], 3);
+    triangle_changed(b"triangle, no flag", &[0, 2, 0, 0], 1);
+}
+
+fn triangle_searches() {
     room_for_all(b"triangle, mask 6", 6);
     room_for_five(b"triangle, mask 6, room for five", 6);
     no_room(b"triangle, mask 6, no room", 6);
@@ -138,45 +149,47 @@ fn triangle() {
     room_for_all(b"triangle, mask 8", 8);
 }
 
-// Cells that show themselves not orientable, and the largest search.
-fn others() {
-    let f = [0u16; 5];
+// Cells that show themselves not orientable.
+fn hemicube(name: &[u8], mask: u16) {
     large(
-        b"hemicube",
+        name,
         &cells::hemicube::COUNTS,
         &cells::hemicube::ENDS,
         &cells::hemicube::INC,
-        &f,
-        14,
+        &[0, 0, 0, 0, 0],
+        mask,
     );
-    large(
-        b"hemicube, changes at 1 and 3",
-        &cells::hemicube::COUNTS,
-        &cells::hemicube::ENDS,
-        &cells::hemicube::INC,
-        &f,
-        10,
-    );
+}
+
+fn klein_grid() {
     large(
         b"grid on a Klein bottle",
         &cells::klein_grid::COUNTS,
         &cells::klein_grid::ENDS,
         &cells::klein_grid::INC,
-        &f,
+        &[0, 0, 0, 0, 0],
         14,
     );
-    let g = [0u16; 16];
+}
+
+// The largest search.
+fn digonal_15() {
+    let first = [0u16; 16];
     large(
         b"rank 15, two elements in every middle rank",
         &cells::digonal_15::COUNTS,
         &cells::digonal_15::ENDS,
         &cells::digonal_15::INC,
-        &g,
+        &first,
         32766,
     );
 }
 
 fn main() {
-    triangle();
-    others();
+    triangle_changes();
+    triangle_searches();
+    hemicube(b"hemicube", 14);
+    hemicube(b"hemicube, changes at 1 and 3", 10);
+    klein_grid();
+    digonal_15();
 }
