@@ -1,4 +1,4 @@
-// Cells by name, each a module with its three slices; and polygons of any size.
+// Cells by name, each a module with its three slices.
 pub mod digonal_15;
 pub mod digonal_7;
 pub mod digonal_8;
@@ -10,7 +10,6 @@ pub mod lidless_box;
 pub mod nullitope;
 pub mod one_on_top;
 pub mod point;
-pub mod polygon;
 pub mod struck;
 pub mod three_on_top;
 pub mod triangle;

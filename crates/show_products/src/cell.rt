@@ -1,6 +1,6 @@
 // The cells that are tried as factors.
-use crate::run;
-use crate::run::Kind;
+use show::run;
+use show::run::Kind;
 
 pub enum Cell {
     Nullitope,
@@ -9,8 +9,6 @@ pub enum Cell {
     Triangle,
     ThreeOnTop,
     Struck,
-    Digonal7,
-    Digonal8,
 }
 
 // The product of a left factor and the nullitope.
@@ -103,38 +101,8 @@ fn with_struck(kind: Kind, p: &[u8], counts: &[u16], ends: &[u16], inc: &[u16]) 
     );
 }
 
-// The product of a left factor and the digonal of rank 7.
-fn with_digonal_7(kind: Kind, p: &[u8], counts: &[u16], ends: &[u16], inc: &[u16]) {
-    run::show(
-        kind,
-        p,
-        counts,
-        ends,
-        inc,
-        b"digonal of rank 7",
-        &cells::digonal_7::COUNTS,
-        &cells::digonal_7::ENDS,
-        &cells::digonal_7::INC,
-    );
-}
-
-// The product of a left factor and the digonal of rank 8.
-fn with_digonal_8(kind: Kind, p: &[u8], counts: &[u16], ends: &[u16], inc: &[u16]) {
-    run::show(
-        kind,
-        p,
-        counts,
-        ends,
-        inc,
-        b"digonal of rank 8",
-        &cells::digonal_8::COUNTS,
-        &cells::digonal_8::ENDS,
-        &cells::digonal_8::INC,
-    );
-}
-
 // The product of a left factor and the right one q.
-pub fn paired(kind: Kind, p: &[u8], counts: &[u16], ends: &[u16], inc: &[u16], q: Cell) {
+fn paired(kind: Kind, p: &[u8], counts: &[u16], ends: &[u16], inc: &[u16], q: Cell) {
     match q {
         Cell::Nullitope => with_nullitope(kind, p, counts, ends, inc),
         Cell::Point => with_point(kind, p, counts, ends, inc),
@@ -142,8 +110,6 @@ pub fn paired(kind: Kind, p: &[u8], counts: &[u16], ends: &[u16], inc: &[u16], q
         Cell::Triangle => with_triangle(kind, p, counts, ends, inc),
         Cell::ThreeOnTop => with_three_on_top(kind, p, counts, ends, inc),
         Cell::Struck => with_struck(kind, p, counts, ends, inc),
-        Cell::Digonal7 => with_digonal_7(kind, p, counts, ends, inc),
-        Cell::Digonal8 => with_digonal_8(kind, p, counts, ends, inc),
     }
 }
 
@@ -219,30 +185,6 @@ fn of_struck(kind: Kind, q: Cell) {
     );
 }
 
-// The product of the digonal of rank 7 and the right factor q.
-fn of_digonal_7(kind: Kind, q: Cell) {
-    paired(
-        kind,
-        b"digonal of rank 7",
-        &cells::digonal_7::COUNTS,
-        &cells::digonal_7::ENDS,
-        &cells::digonal_7::INC,
-        q,
-    );
-}
-
-// The product of the digonal of rank 8 and the right factor q.
-fn of_digonal_8(kind: Kind, q: Cell) {
-    paired(
-        kind,
-        b"digonal of rank 8",
-        &cells::digonal_8::COUNTS,
-        &cells::digonal_8::ENDS,
-        &cells::digonal_8::INC,
-        q,
-    );
-}
-
 // The product of two cells.
 pub fn show(kind: Kind, p: Cell, q: Cell) {
     match p {
@@ -252,7 +194,5 @@ pub fn show(kind: Kind, p: Cell, q: Cell) {
         Cell::Triangle => of_triangle(kind, q),
         Cell::ThreeOnTop => of_three_on_top(kind, q),
         Cell::Struck => of_struck(kind, q),
-        Cell::Digonal7 => of_digonal_7(kind, q),
-        Cell::Digonal8 => of_digonal_8(kind, q),
     }
 }

@@ -4,8 +4,8 @@ use borrow.Author.Needs.{needs}
 use mathlib.Core.Path.{_≡_}
 use Prim.Native.Nat.{_-_, _≤_}
 use lib.ListN.{length}
-use Rattle.show_products.proofs.print.lists.Statement.{statement}
-use Rattle.show_products.proofs.print.lists.Tie as tie
+use Rattle.show.proofs.print.lists.Statement.{statement}
+use Rattle.show.proofs.print.lists.Tie as tie
 
 abbrev Inv-loop : tie.InvT-loop
 Inv-loop ends inc side k₀ k-end k = (k ≤ k-end) × (k-end ≡ length ends)

@@ -32,7 +32,7 @@ fn wide(n: u16) -> usize {
 }
 
 // The numbers of a slice from one place up to another; none where the places are out of order.
-pub fn between<'a>(list: &'a [u16], from: usize, to: usize) -> &'a [u16] {
+fn between<'a>(list: &'a [u16], from: usize, to: usize) -> &'a [u16] {
     if list.len() < to {
         return &list[..0];
     }
@@ -40,11 +40,6 @@ pub fn between<'a>(list: &'a [u16], from: usize, to: usize) -> &'a [u16] {
         return &list[..0];
     }
     &list[from..to]
-}
-
-// As many of a slice's numbers as a product says that it wrote.
-pub fn written<'a>(list: &'a [u16], n: u16) -> &'a [u16] {
-    between(list, 0, wide(n))
 }
 
 // Where list number k begins.

@@ -4,8 +4,8 @@ use borrow.Author.Needs.{needs}
 use mathlib.Core.Path.{_≡_}
 use Prim.Native.Nat.{_-_, _≤_}
 use lib.ListN.{length}
-use Rattle.show_products.proofs.print.numbers.Statement.{statement}
-use Rattle.show_products.proofs.print.numbers.Tie as tie
+use Rattle.show.proofs.print.numbers.Statement.{statement}
+use Rattle.show.proofs.print.numbers.Tie as tie
 
 abbrev Inv-loop : tie.InvT-loop
 Inv-loop list i₀ i-end i = (i ≤ i-end) × (i-end ≡ length list)

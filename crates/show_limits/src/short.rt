@@ -1,8 +1,8 @@
 // The duopyramid of a dyad and a point, which takes 4, 16 and 24 numbers, into slices of several lengths.
-use crate::print;
-use crate::run;
-use crate::run::Kind;
 use product::Built;
+use show::print;
+use show::run;
+use show::run::Kind;
 
 // The product, into slices that are lent.
 fn make(counts: &mut [u16], ends: &mut [u16], inc: &mut [u16]) -> Built {

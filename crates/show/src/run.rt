@@ -32,7 +32,7 @@ pub fn title(kind: Kind, p: &[u8], q: &[u8]) {
 }
 
 // The product, into slices that are lent.
-pub fn make(
+fn make(
     kind: Kind,
     pcounts: &[u16],
     pends: &[u16],
@@ -133,15 +133,24 @@ pub fn answer(b: Built) {
     print::text(b"\n");
 }
 
+// As many of a slice's numbers as a product says that it wrote.
+fn written<'a>(list: &'a [u16], n: u16) -> &'a [u16] {
+    let k = n as usize;
+    if list.len() < k {
+        return list;
+    }
+    &list[0..k]
+}
+
 // What a product answers, and the listing that it wrote.
 fn built(b: Built, counts: &[u16], ends: &[u16], inc: &[u16]) {
     answer(b);
     if b.answer.no != 0 {
         return;
     }
-    let c = print::written(counts, b.counts);
-    let e = print::written(ends, b.ends);
-    let i = print::written(inc, b.inc);
+    let c = written(counts, b.counts);
+    let e = written(ends, b.ends);
+    let i = written(inc, b.inc);
     print::text(b"  elements");
     print::number(b.ends / 2);
     listed(c, e, i);

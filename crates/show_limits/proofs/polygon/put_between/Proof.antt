@@ -2,8 +2,8 @@
 -- Assumes nothing.
 use borrow.Author.Needs.{needs}
 use Prim.Native.Nat.{_-_, _<_}
-use Rattle.cells.proofs.polygon.put_between.Statement.{statement}
-use Rattle.cells.proofs.polygon.put_between.Tie as tie
+use Rattle.show_limits.proofs.polygon.put_between.Statement.{statement}
+use Rattle.show_limits.proofs.polygon.put_between.Tie as tie
 
 abbrev Inv-loop : tie.InvT-loop
 Inv-loop n ends₀ inc₀ i₀ ends inc i = 0 < i
