@@ -83,17 +83,25 @@ fn all_changes(ranks: usize) -> u16 {
 }
 
 // The search by all changes, with room for 256 flags.
-fn count_from(counts: &[u16], ends: &[u16], inc: &[u16], first: &[u16]) -> Searched {
+fn count_from(counts: &[u16], ends: &[u16], inc: &[u16], first: &[u16; 16]) -> Searched {
     let mut table = [0u16; 4096];
     let mut bytes = [0u8; 256];
-    let mask = all_changes(counts.len());
-    search::search(counts, ends, inc, first, mask, &mut table, &mut bytes)
+    let n = counts.len();
+    let flag = front(first, n);
+    search::search(
+        counts,
+        ends,
+        inc,
+        flag,
+        all_changes(n),
+        &mut table,
+        &mut bytes,
+    )
 }
 
 // The flags of a cell, counted from its first flag.
 pub fn count(counts: &[u16], ends: &[u16], inc: &[u16]) -> Searched {
     let mut first = [0u16; 16];
     put_first(counts, ends, inc, &mut first);
-    let n = counts.len();
-    count_from(counts, ends, inc, front(&first, n))
+    count_from(counts, ends, inc, &first)
 }
