@@ -1,46 +1,17 @@
-// A line of the table while it is written.
+// Printing in columns. Each function is told how many bytes of the line are printed, and says how many there are then.
 use libc::STDOUT_FILENO;
 
-// Its bytes, and how many of them are in use.
-pub struct Line {
-    pub bytes: [u8; 160],
-    pub used: usize,
-}
-
-// A line with nothing in it.
-pub fn empty() -> Line {
-    let bytes = [0u8; 160];
-    Line { bytes, used: 0 }
-}
-
-// One byte more; what does not fit is dropped.
-fn byte(line: Line, b: u8) -> Line {
-    let at = line.used;
-    if 160 <= at {
-        return line;
-    }
-    let mut bytes = line.bytes;
-    bytes[at] = b;
-    Line {
-        bytes,
-        used: at + 1,
-    }
-}
-
 // A text.
-pub fn text(line: Line, t: &[u8]) -> Line {
-    let mut l = line;
-    for i in 0..t.len() {
-        l = byte(l, t[i]);
-    }
-    l
+pub fn text(at: usize, t: &[u8]) -> usize {
+    io::write_all(STDOUT_FILENO, t);
+    std::num::wrapping_add_usize(at, t.len())
 }
 
 // A number.
-pub fn number(line: Line, n: u16) -> Line {
+pub fn number(at: usize, n: u16) -> usize {
     let mut digits = [0u8; 20];
     let k = io::decimal(n as u64, &mut digits);
-    text(line, &digits[..k])
+    text(at, &digits[..k])
 }
 
 // The first n bytes of a slice; none where it is shorter.
@@ -51,25 +22,17 @@ fn front<'a>(bytes: &'a [u8], n: usize) -> &'a [u8] {
     &bytes[0..n]
 }
 
-// Spaces up to a column: one at least.
-pub fn column(line: Line, at: usize) -> Line {
-    let l = byte(line, b' ');
-    let used = l.used;
-    if at <= used {
-        return l;
+// Spaces up to a column; one at least.
+pub fn column(at: usize, to: usize) -> usize {
+    if to <= at {
+        return text(at, b" ");
     }
     let spaces = [b' '; 160];
-    text(l, front(&spaces, at - used))
-}
-
-// The line, printed with its end.
-pub fn print(line: Line) {
-    let bytes = line.bytes;
-    io::write_all(STDOUT_FILENO, front(&bytes, line.used));
-    io::write_all(STDOUT_FILENO, b"\n");
+    text(at, front(&spaces, to - at))
 }
 
 // A text that is a line of its own.
-pub fn print_text(t: &[u8]) {
-    print(text(empty(), t));
+pub fn print(t: &[u8]) {
+    io::write_all(STDOUT_FILENO, t);
+    io::write_all(STDOUT_FILENO, b"\n");
 }

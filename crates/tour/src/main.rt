@@ -44,7 +44,7 @@ fn boxes() {
         &cells::whole_box::INC,
     );
     row::show(
-        b"insurer's cell: edge 0 twice",
+        b"insurer's cell, edge 0 doubled",
         &cells::leaking_box::COUNTS,
         &cells::leaking_box::ENDS,
         &cells::leaking_box::INC,
@@ -57,18 +57,8 @@ fn boxes() {
     );
 }
 
-// A prism, made as a product, and half a box.
-fn others() {
-    made::show(
-        b"prism: duoprism(T, D)",
-        Kind::Duoprism,
-        &cells::triangle::COUNTS,
-        &cells::triangle::ENDS,
-        &cells::triangle::INC,
-        &cells::dyad::COUNTS,
-        &cells::dyad::ENDS,
-        &cells::dyad::INC,
-    );
+// Half a box.
+fn hemicube() {
     row::show(
         b"hemicube",
         &cells::hemicube::COUNTS,
@@ -77,41 +67,11 @@ fn others() {
     );
 }
 
-// Products with small factors.
-fn products() {
+// A product of two dyads.
+fn of_dyads(name: &[u8], kind: Kind) {
     made::show(
-        b"duoprism(D, D)",
-        Kind::Duoprism,
-        &cells::dyad::COUNTS,
-        &cells::dyad::ENDS,
-        &cells::dyad::INC,
-        &cells::dyad::COUNTS,
-        &cells::dyad::ENDS,
-        &cells::dyad::INC,
-    );
-    made::show(
-        b"duopyramid(D, P)",
-        Kind::Duopyramid,
-        &cells::dyad::COUNTS,
-        &cells::dyad::ENDS,
-        &cells::dyad::INC,
-        &cells::point::COUNTS,
-        &cells::point::ENDS,
-        &cells::point::INC,
-    );
-    made::show(
-        b"duoprism(N, T)",
-        Kind::Duoprism,
-        &cells::nullitope::COUNTS,
-        &cells::nullitope::ENDS,
-        &cells::nullitope::INC,
-        &cells::triangle::COUNTS,
-        &cells::triangle::ENDS,
-        &cells::triangle::INC,
-    );
-    made::show(
-        b"duotegum(D, D)",
-        Kind::Duotegum,
+        name,
+        kind,
         &cells::dyad::COUNTS,
         &cells::dyad::ENDS,
         &cells::dyad::INC,
@@ -121,21 +81,39 @@ fn products() {
     );
 }
 
-// Duocombs: one that is not closed, one that is refused, and a grid on a torus.
-fn combs() {
+// A product of a dyad and a point.
+fn of_dyad_and_point(name: &[u8], kind: Kind) {
     made::show(
-        b"duocomb(D, D)",
-        Kind::Duocomb,
+        name,
+        kind,
         &cells::dyad::COUNTS,
         &cells::dyad::ENDS,
         &cells::dyad::INC,
-        &cells::dyad::COUNTS,
-        &cells::dyad::ENDS,
-        &cells::dyad::INC,
+        &cells::point::COUNTS,
+        &cells::point::ENDS,
+        &cells::point::INC,
     );
+}
+
+// A product of the nullitope and a triangle.
+fn of_nullitope_and_triangle(name: &[u8], kind: Kind) {
     made::show(
-        b"duocomb(P, P)",
-        Kind::Duocomb,
+        name,
+        kind,
+        &cells::nullitope::COUNTS,
+        &cells::nullitope::ENDS,
+        &cells::nullitope::INC,
+        &cells::triangle::COUNTS,
+        &cells::triangle::ENDS,
+        &cells::triangle::INC,
+    );
+}
+
+// A product of two points.
+fn of_points(name: &[u8], kind: Kind) {
+    made::show(
+        name,
+        kind,
         &cells::point::COUNTS,
         &cells::point::ENDS,
         &cells::point::INC,
@@ -143,9 +121,13 @@ fn combs() {
         &cells::point::ENDS,
         &cells::point::INC,
     );
+}
+
+// A product of two triangles.
+fn of_triangles(name: &[u8], kind: Kind) {
     made::show(
-        b"duocomb(T, T)",
-        Kind::Duocomb,
+        name,
+        kind,
         &cells::triangle::COUNTS,
         &cells::triangle::ENDS,
         &cells::triangle::INC,
@@ -153,6 +135,31 @@ fn combs() {
         &cells::triangle::ENDS,
         &cells::triangle::INC,
     );
+}
+
+// A product of a triangle and a dyad.
+fn of_triangle_and_dyad(name: &[u8], kind: Kind) {
+    made::show(
+        name,
+        kind,
+        &cells::triangle::COUNTS,
+        &cells::triangle::ENDS,
+        &cells::triangle::INC,
+        &cells::dyad::COUNTS,
+        &cells::dyad::ENDS,
+        &cells::dyad::INC,
+    );
+}
+
+// Products.
+fn products() {
+    of_dyads(b"duoprism(D, D)", Kind::Duoprism);
+    of_dyad_and_point(b"duopyramid(D, P)", Kind::Duopyramid);
+    of_nullitope_and_triangle(b"duoprism(N, T)", Kind::Duoprism);
+    of_dyads(b"duotegum(D, D)", Kind::Duotegum);
+    of_dyads(b"duocomb(D, D)", Kind::Duocomb);
+    of_points(b"duocomb(P, P)", Kind::Duocomb);
+    of_triangles(b"duocomb(T, T)", Kind::Duocomb);
 }
 
 // Listings with a fault.
@@ -189,14 +196,43 @@ fn faults() {
     );
 }
 
-// The tour.
-fn main() {
-    line::print_text(b"What the two tests say of each cell.");
+// What comes before the table.
+fn headline() {
+    line::print(
+        b"Which cells are closed? is_valid is the old test, closed the one that also looks at the whole cell.",
+    );
+    line::print(
+        b"Elements are counted by rank: the smallest element, vertices, edges, faces, the cell. Numbers in",
+    );
+    line::print(b"brackets are those of docs/REFUSALS.md.");
+    line::print(b"");
     row::headings();
+}
+
+// What the table shows.
+fn last_words() {
+    line::print(b"");
+    line::print(
+        b"What let the insurer's cell through: is_valid counts what lies between two elements only below the cell",
+    );
+    line::print(
+        b"itself, so it never asks whether each edge lies in two of the cell's faces; closed asks that as well.",
+    );
+    line::print(
+        b"Products keep cells closed: a product of two closed cells is closed again, proved once for all four, and",
+    );
+    line::print(b"the one exception is the duocomb of two dyads above.");
+}
+
+fn main() {
+    headline();
     small();
     boxes();
-    others();
+    of_triangle_and_dyad(b"prism: duoprism(T, D)", Kind::Duoprism);
+    hemicube();
+    line::print(b"");
     products();
-    combs();
+    line::print(b"");
     faults();
+    last_words();
 }

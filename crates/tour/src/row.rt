@@ -1,17 +1,16 @@
 // A row of the table: what there is to say of one cell.
 use crate::flags;
 use crate::line;
-use crate::line::Line;
 use crate::words;
 use listing::Answer;
 use search::Searched;
 
 // Where the columns begin.
-const ELEMENTS: usize = 30;
+const ELEMENTS: usize = 31;
 
-const IS_VALID: usize = 43;
+const IS_VALID: usize = 44;
 
-const CLOSED: usize = 56;
+const CLOSED: usize = 58;
 
 const FLAGS: usize = 98;
 
@@ -19,30 +18,26 @@ const ORIENTABLE: usize = 105;
 
 // The headings.
 pub fn headings() {
-    let l = line::column(line::text(line::empty(), b"cell"), ELEMENTS);
-    let m = line::column(line::text(l, b"elements"), IS_VALID);
-    let n = line::column(line::text(m, b"is_valid"), CLOSED);
-    let o = line::column(line::text(n, b"closed"), FLAGS);
-    let p = line::column(line::text(o, b"flags"), ORIENTABLE);
-    line::print(line::text(p, b"orientable"));
+    line::print(
+        b"cell                           elements     is_valid      closed                                  flags  orientable",
+    );
 }
 
 // How many elements there are at each rank.
-fn numbers(line: Line, counts: &[u16]) -> Line {
-    let mut l = line;
+fn elements(at: usize, counts: &[u16]) -> usize {
+    let mut to = at;
     for r in 0..counts.len() {
-        l = line::text(line::number(l, counts[r]), b" ");
+        to = line::text(line::number(to, counts[r]), b" ");
     }
-    l
+    to
 }
 
 // What is_valid says.
-fn verdict(l: Line, a: Answer) -> Line {
+fn verdict(at: usize, a: Answer) -> usize {
     if a.no == 0 {
-        return line::text(l, b"accepts");
+        return line::text(at, b"accepts");
     }
-    let said = line::text(l, b"refuses (");
-    line::text(line::number(said, a.no), b")")
+    line::text(line::number(line::text(at, b"refuses ("), a.no), b")")
 }
 
 // The rank of a cell.
@@ -57,49 +52,49 @@ fn rank(counts: &[u16]) -> u16 {
     (n - 1) as u16
 }
 
-// No flags, since the cell is not closed.
-fn no_flags(l: Line) -> Line {
-    line::text(line::column(line::text(l, b"-"), ORIENTABLE), b"-")
-}
-
-// Yes or no.
-fn yes_or_no(l: Line, yes: u8) -> Line {
-    if yes == 0 {
-        return line::text(l, b"no");
-    }
-    line::text(l, b"yes")
+// No flags were counted.
+fn no_flags(at: usize) {
+    line::column(line::text(at, b"-"), ORIENTABLE);
+    line::print(b"-");
 }
 
 // How many flags there are, and whether the cell is orientable.
-fn flags(l: Line, s: Searched) -> Line {
+fn flags(at: usize, s: Searched) {
     if s.answer.no != 0 {
-        return no_flags(l);
+        no_flags(at);
+        return;
     }
-    yes_or_no(
-        line::column(line::number(l, s.count), ORIENTABLE),
-        s.orientable,
-    )
+    line::column(line::number(at, s.count), ORIENTABLE);
+    if s.orientable == 0 {
+        line::print(b"no");
+        return;
+    }
+    line::print(b"yes");
+}
+
+// The name of a cell, its elements, and what the two tests say.
+fn tests(name: &[u8], counts: &[u16], valid: Answer, closed: Answer) -> usize {
+    let n = line::column(line::text(0, name), ELEMENTS);
+    let v = line::column(elements(n, counts), IS_VALID);
+    let c = line::column(verdict(v, valid), CLOSED);
+    line::column(words::answer(c, closed, rank(counts)), FLAGS)
 }
 
 // A cell.
 pub fn show(name: &[u8], counts: &[u16], ends: &[u16], inc: &[u16]) {
-    let l = line::column(line::text(line::empty(), name), ELEMENTS);
-    let m = line::column(numbers(l, counts), IS_VALID);
-    let n = line::column(verdict(m, valid::is_valid(counts, ends, inc)), CLOSED);
-    let c = valid::closed(counts, ends, inc);
-    let o = line::column(words::answer(n, c, rank(counts)), FLAGS);
-    if c.no != 0 {
-        line::print(no_flags(o));
+    let closed = valid::closed(counts, ends, inc);
+    let at = tests(name, counts, valid::is_valid(counts, ends, inc), closed);
+    if closed.no != 0 {
+        no_flags(at);
         return;
     }
-    line::print(flags(o, flags::count(counts, ends, inc)));
+    flags(at, flags::count(counts, ends, inc));
 }
 
 // A product that is refused.
 pub fn refused(name: &[u8], a: Answer) {
-    let l = line::column(line::text(line::empty(), name), ELEMENTS);
-    let m = line::column(line::text(l, b"-"), IS_VALID);
-    let n = line::column(line::text(m, b"-"), CLOSED);
-    let o = line::column(words::answer(n, a, 0), FLAGS);
-    line::print(no_flags(o));
+    let n = line::column(line::text(0, name), ELEMENTS);
+    let v = line::column(line::text(n, b"-"), IS_VALID);
+    let c = line::column(line::text(v, b"-"), CLOSED);
+    no_flags(line::column(words::answer(c, a, 0), FLAGS));
 }

@@ -1,17 +1,17 @@
--- `numbers`. Invariant: r has not passed the number of counts. Measure: what is left.
+-- `elements`. Invariant: r has not passed the number of counts. Measure: what is left.
 -- Assumes nothing.
 use borrow.Author.Needs.{needs}
 use mathlib.Core.Path.{_≡_}
 use Prim.Native.Nat.{_-_, _≤_}
 use lib.ListN.{length}
-use Rattle.tour.proofs.row.numbers.Statement.{statement}
-use Rattle.tour.proofs.row.numbers.Tie as tie
+use Rattle.tour.proofs.row.elements.Statement.{statement}
+use Rattle.tour.proofs.row.elements.Tie as tie
 
 abbrev Inv-loop : tie.InvT-loop
-Inv-loop counts l₀ r₀ t5 r-end l r = (r ≤ r-end) × (r-end ≡ length counts)
+Inv-loop at counts to₀ r₀ t5 r-end to r = (r ≤ r-end) × (r-end ≡ length counts)
 
 abbrev μ-loop : tie.MeasureT-loop
-μ-loop counts l₀ r₀ t5 r-end l r = r-end - r
+μ-loop at counts to₀ r₀ t5 r-end to r = r-end - r
 
 loop-holds : tie.Need-loop-holds Inv-loop μ-loop
 loop-holds c = search needs
@@ -43,8 +43,8 @@ loop-again c = search needs
 returns : tie.Need-returns Inv-loop μ-loop
 returns c = search needs
 
-pub numbers-spec : {M : Type 1} → statement M
-numbers-spec =
+pub elements-spec : {M : Type 1} → statement M
+elements-spec =
     tie.close
     (tie.spec
     Inv-loop
