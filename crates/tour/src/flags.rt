@@ -1,34 +1,25 @@
 // The flags of a cell: a first one, and the search for all that the changes lead to.
+use listing::inner;
 use search::Searched;
-
-// A number as a place.
-pub fn wide(n: u16) -> usize {
-    n as usize
-}
 
 // Where the rank with n elements begins, of which the last one ends at place; 0 where it cannot be.
 fn begin(place: usize, n: u16) -> usize {
-    let k = wide(n);
+    let k = inner::wide(n);
     if place < k {
         return 0;
     }
     place - k
 }
 
-// Number k of a slice; 0 past its end.
-fn at(list: &[u16], k: usize) -> usize {
-    if list.len() <= k {
-        return 0;
-    }
-    wide(list[k])
-}
-
-// Where list number k begins.
+// Where list number k begins; 0 where there is none.
 fn start_of(ends: &[u16], k: usize) -> usize {
     if k == 0 {
         return 0;
     }
-    at(ends, k - 1)
+    if ends.len() < k {
+        return 0;
+    }
+    inner::wide(ends[k - 1])
 }
 
 // The first sub of element i of a rank that begins at place; 0 where it has none.
@@ -37,7 +28,7 @@ fn first_sub(ends: &[u16], inc: &[u16], place: usize, i: u16) -> u16 {
     if n <= place {
         return 0;
     }
-    let k = wide(i);
+    let k = inner::wide(i);
     if n - place <= k {
         return 0;
     }

@@ -1,6 +1,7 @@
 // Cells that are made as products of others.
 use crate::flags;
 use crate::row;
+use listing::inner;
 use product::Built;
 
 // Which product.
@@ -86,9 +87,9 @@ fn written(name: &[u8], b: Built, counts: &[u16], ends: &[u16], inc: &[u16]) {
         row::refused(name, b.answer);
         return;
     }
-    let c = flags::front(counts, flags::wide(b.counts));
-    let e = flags::front(ends, flags::wide(b.ends));
-    let i = flags::front(inc, flags::wide(b.inc));
+    let c = flags::front(counts, inner::wide(b.counts));
+    let e = flags::front(ends, inner::wide(b.ends));
+    let i = flags::front(inc, inner::wide(b.inc));
     row::show(name, c, e, i);
 }
 

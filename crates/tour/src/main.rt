@@ -35,7 +35,7 @@ fn small() {
     );
 }
 
-// Boxes, whole and damaged.
+// Boxes: whole, damaged, and half of one.
 fn boxes() {
     row::show(
         b"box",
@@ -55,15 +55,45 @@ fn boxes() {
         &cells::lidless_box::ENDS,
         &cells::lidless_box::INC,
     );
-}
-
-// Half a box.
-fn hemicube() {
     row::show(
         b"hemicube",
         &cells::hemicube::COUNTS,
         &cells::hemicube::ENDS,
         &cells::hemicube::INC,
+    );
+}
+
+// Listings with a fault.
+fn faults() {
+    row::show(
+        b"two smallest elements",
+        &cells::two_minimal::COUNTS,
+        &cells::two_minimal::ENDS,
+        &cells::two_minimal::INC,
+    );
+    row::show(
+        b"T, edge 1 struck at vertex 0",
+        &cells::struck::COUNTS,
+        &cells::struck::ENDS,
+        &cells::struck::INC,
+    );
+    row::show(
+        b"edge with three vertices",
+        &cells::three_on_top::COUNTS,
+        &cells::three_on_top::ENDS,
+        &cells::three_on_top::INC,
+    );
+    row::show(
+        b"edge with one vertex",
+        &cells::one_on_top::COUNTS,
+        &cells::one_on_top::ENDS,
+        &cells::one_on_top::INC,
+    );
+    row::show(
+        b"edge that lists a vertex twice",
+        &cells::twice_listed::COUNTS,
+        &cells::twice_listed::ENDS,
+        &cells::twice_listed::INC,
     );
 }
 
@@ -153,6 +183,7 @@ fn of_triangle_and_dyad(name: &[u8], kind: Kind) {
 
 // Products.
 fn products() {
+    of_triangle_and_dyad(b"prism: duoprism(T, D)", Kind::Duoprism);
     of_dyads(b"duoprism(D, D)", Kind::Duoprism);
     of_dyad_and_point(b"duopyramid(D, P)", Kind::Duopyramid);
     of_nullitope_and_triangle(b"duoprism(N, T)", Kind::Duoprism);
@@ -162,74 +193,39 @@ fn products() {
     of_triangles(b"duocomb(T, T)", Kind::Duocomb);
 }
 
-// Listings with a fault.
-fn faults() {
-    row::show(
-        b"two smallest elements",
-        &cells::two_minimal::COUNTS,
-        &cells::two_minimal::ENDS,
-        &cells::two_minimal::INC,
-    );
-    row::show(
-        b"T, edge 1 struck at vertex 0",
-        &cells::struck::COUNTS,
-        &cells::struck::ENDS,
-        &cells::struck::INC,
-    );
-    row::show(
-        b"edge with three vertices",
-        &cells::three_on_top::COUNTS,
-        &cells::three_on_top::ENDS,
-        &cells::three_on_top::INC,
-    );
-    row::show(
-        b"edge with one vertex",
-        &cells::one_on_top::COUNTS,
-        &cells::one_on_top::ENDS,
-        &cells::one_on_top::INC,
-    );
-    row::show(
-        b"edge with its vertex twice",
-        &cells::twice_listed::COUNTS,
-        &cells::twice_listed::ENDS,
-        &cells::twice_listed::INC,
-    );
-}
-
 // What comes before the table.
 fn headline() {
     line::print(
-        b"Which cells are closed? is_valid is the old test, closed the one that also looks at the whole cell.",
+        b"Is the cell closed? is_valid is the old test; closed also looks at the cell as a whole.",
     );
     line::print(
-        b"Elements are counted by rank: the smallest element, vertices, edges, faces, the cell. Numbers in",
+        b"Elements are counted by rank, from the smallest element to the whole. Refusals: docs/REFUSALS.md.\n",
     );
-    line::print(b"brackets are those of docs/REFUSALS.md.");
-    line::print(b"");
-    row::headings();
+    line::text(
+        0,
+        b"cell                            elements      is_valid  ",
+    );
+    line::print(b"closed                                   flags  orientable");
 }
 
 // What the table shows.
 fn last_words() {
-    line::print(b"");
     line::print(
-        b"What let the insurer's cell through: is_valid counts what lies between two elements only below the cell",
+        b"\nWhat let the insurer's cell through: is_valid counts what lies between two elements only below",
     );
     line::print(
-        b"itself, so it never asks whether each edge lies in two of the cell's faces; closed asks that as well.",
+        b"the cell itself, so it never asks whether each edge lies in two of the cell's faces; closed asks.",
     );
     line::print(
-        b"Products keep cells closed: a product of two closed cells is closed again, proved once for all four, and",
+        b"Products keep cells closed: a product of two closed cells is closed again, which is proved once",
     );
-    line::print(b"the one exception is the duocomb of two dyads above.");
+    line::print(b"for all four, and the one exception is the duocomb of two dyads.");
 }
 
 fn main() {
     headline();
     small();
     boxes();
-    of_triangle_and_dyad(b"prism: duoprism(T, D)", Kind::Duoprism);
-    hemicube();
     line::print(b"");
     products();
     line::print(b"");

@@ -6,22 +6,15 @@ use listing::Answer;
 use search::Searched;
 
 // Where the columns begin.
-const ELEMENTS: usize = 31;
+const ELEMENTS: usize = 32;
 
-const IS_VALID: usize = 44;
+const IS_VALID: usize = 46;
 
-const CLOSED: usize = 58;
+const CLOSED: usize = 56;
 
-const FLAGS: usize = 98;
+const FLAGS: usize = 97;
 
-const ORIENTABLE: usize = 105;
-
-// The headings.
-pub fn headings() {
-    line::print(
-        b"cell                           elements     is_valid      closed                                  flags  orientable",
-    );
-}
+const ORIENTABLE: usize = 104;
 
 // How many elements there are at each rank.
 fn elements(at: usize, counts: &[u16]) -> usize {
@@ -37,19 +30,7 @@ fn verdict(at: usize, a: Answer) -> usize {
     if a.no == 0 {
         return line::text(at, b"accepts");
     }
-    line::text(line::number(line::text(at, b"refuses ("), a.no), b")")
-}
-
-// The rank of a cell.
-fn rank(counts: &[u16]) -> u16 {
-    let n = counts.len();
-    if n == 0 {
-        return 0;
-    }
-    if 16 < n {
-        return 0;
-    }
-    (n - 1) as u16
+    line::text(at, b"refuses")
 }
 
 // No flags were counted.
@@ -77,7 +58,8 @@ fn tests(name: &[u8], counts: &[u16], valid: Answer, closed: Answer) -> usize {
     let n = line::column(line::text(0, name), ELEMENTS);
     let v = line::column(elements(n, counts), IS_VALID);
     let c = line::column(verdict(v, valid), CLOSED);
-    line::column(words::answer(c, closed, rank(counts)), FLAGS)
+    let top = listing::rank(counts).value;
+    line::column(words::answer(c, closed, top), FLAGS)
 }
 
 // A cell.
@@ -91,7 +73,7 @@ pub fn show(name: &[u8], counts: &[u16], ends: &[u16], inc: &[u16]) {
     flags(at, flags::count(counts, ends, inc));
 }
 
-// A product that is refused.
+// A product that is refused: there is nothing to count or to test.
 pub fn refused(name: &[u8], a: Answer) {
     let n = line::column(line::text(0, name), ELEMENTS);
     let v = line::column(line::text(n, b"-"), IS_VALID);

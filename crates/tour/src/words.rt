@@ -2,6 +2,7 @@
 // function is told how many bytes of the line are printed, and says how many there are then.
 use crate::line;
 use listing::Answer;
+use std::num;
 
 // What an element of a rank is called.
 fn kind(at: usize, r: u16) -> usize {
@@ -10,7 +11,7 @@ fn kind(at: usize, r: u16) -> usize {
         2 => line::text(at, b"edge"),
         3 => line::text(at, b"face"),
         4 => line::text(at, b"cell"),
-        _ => line::text(at, b"element"),
+        _ => line::text(line::number(line::text(at, b"rank "), r), b" element"),
     }
 }
 
@@ -22,109 +23,79 @@ fn kinds(at: usize, r: u16) -> usize {
     line::text(kind(at, r), b"s")
 }
 
-// The rank, where it has no name of its own.
-fn of_rank(at: usize, r: u16) -> usize {
-    if r <= 4 {
-        return at;
-    }
-    line::number(line::text(at, b" of rank "), r)
-}
-
 // An element.
 fn element(at: usize, r: u16, i: u16) -> usize {
     if r == 0 {
         return line::text(at, b"the smallest element");
     }
-    of_rank(line::number(line::text(kind(at, r), b" "), i), r)
+    line::number(line::text(kind(at, r), b" "), i)
 }
 
-// The rank above; the last one has none.
-fn above(r: u16) -> u16 {
-    if r == 65535 {
-        return r;
-    }
-    r + 1
-}
-
-// The rank below; the first one has none.
-fn below(r: u16) -> u16 {
-    if r == 0 {
-        return r;
-    }
-    r - 1
-}
-
-// How many lie in a section: more than two, or only one.
+// How many elements of a rank: more than two, or only one.
 fn how_many(at: usize, no: u16, r: u16) -> usize {
     if no == 17 {
-        return of_rank(kinds(line::text(at, b"more than two "), r), r);
+        return kinds(line::text(at, b"more than two "), r);
     }
-    of_rank(kind(line::text(at, b"only one "), r), r)
+    kind(line::text(at, b"only one "), r)
 }
 
-// The upper end of a section; nothing where it is the whole cell.
-fn part_of(at: usize, r: u16, i: u16, top: u16) -> usize {
-    if r == top {
-        return at;
-    }
-    element(line::text(at, b" of "), r, i)
-}
-
-// A section without two elements. Over the smallest element it is said as what the upper end has.
-fn section(at: usize, a: Answer, top: u16) -> usize {
+// A section without two elements: what its upper end has over the smallest element, or else what its lower end lies in.
+// An upper end of rank top is the whole cell, and goes without saying.
+fn section(at: usize, a: Answer, top: usize) -> usize {
     if a.a == 0 {
         return how_many(line::text(element(at, a.c, a.d), b" has "), a.no, 1);
     }
-    let e = line::text(element(at, a.a, a.b), b" lies in ");
-    part_of(how_many(e, a.no, above(a.a)), a.c, a.d, top)
-}
-
-// Ends that are not one and one.
-fn ends(at: usize, a: Answer) -> usize {
-    let lowest = line::text(line::number(at, a.a), b" smallest and ");
-    line::text(line::number(lowest, a.b), b" largest elements")
-}
-
-// An entry at rank r that does not list the element back.
-fn not_back(at: usize, a: Answer, r: u16) -> usize {
-    let e = line::text(element(at, r, a.c), b" does not list ");
-    line::text(element(e, a.a, a.b), b" back")
-}
-
-// An entry that is not there: its number.
-fn missing(at: usize, a: Answer) -> usize {
-    let e = line::text(element(at, a.a, a.b), b" lists ");
-    line::number(line::text(e, b"what is not there: "), a.c)
-}
-
-// A list that does not ascend.
-fn not_ascending(at: usize, a: Answer) -> usize {
-    let e = line::text(element(at, a.a, a.b), b": its list ");
-    if a.c == 0 {
-        return line::text(e, b"of subs does not ascend");
+    let low = line::text(element(at, a.a, a.b), b" lies in ");
+    let said = how_many(low, a.no, num::wrapping_add_u16(a.a, 1));
+    if a.c as usize == top {
+        return said;
     }
-    line::text(e, b"of sups does not ascend")
+    element(line::text(said, b" of "), a.c, a.d)
 }
 
-// A refusal, of a listing of rank top.
-fn refusal(at: usize, a: Answer, top: u16) -> usize {
+// An entry of an element, c at rank r, that does not list the element back.
+fn not_back(at: usize, a: Answer, r: u16) -> usize {
+    let entry = line::text(element(at, r, a.c), b" does not list ");
+    line::text(element(entry, a.a, a.b), b" back")
+}
+
+// A side: subs or sups.
+fn side(at: usize, s: u16) -> usize {
+    if s == 0 {
+        return line::text(at, b"the subs of ");
+    }
+    line::text(at, b"the sups of ")
+}
+
+// A refusal of a listing of rank top.
+fn refusal(at: usize, a: Answer, top: usize) -> usize {
     let no = a.no;
     match no {
-        10 => ends(at, a),
+        10 => line::number(
+            line::text(line::number(at, a.a), b" at the bottom, at the top "),
+            a.b,
+        ),
         11 => line::text(element(at, a.a, a.b), b" has nothing under it"),
         12 => line::text(element(at, a.a, a.b), b" has nothing over it"),
-        13 => not_back(at, a, below(a.a)),
-        14 => not_back(at, a, above(a.a)),
-        15 | 16 => missing(at, a),
+        13 => not_back(at, a, num::wrapping_sub_u16(a.a, 1)),
+        14 => not_back(at, a, num::wrapping_add_u16(a.a, 1)),
+        15 => line::number(
+            line::text(element(at, a.a, a.b), b" has no such sub: "),
+            a.c,
+        ),
+        16 => line::number(
+            line::text(element(at, a.a, a.b), b" has no such sup: "),
+            a.c,
+        ),
         17 | 18 => section(at, a, top),
-        19 => not_ascending(at, a),
-        32 => line::text(at, b"a duocomb of a point has no pairs"),
+        19 => line::text(element(side(at, a.c), a.a, a.b), b" do not ascend"),
+        32 => line::text(at, b"not built: a duocomb of a point"),
         _ => line::text(at, b"refused"),
     }
 }
 
 // What an answer says of a listing of rank top: that it accepts, or the refusal with its number.
-pub fn answer(at: usize, a: Answer, top: u16) -> usize {
+pub fn answer(at: usize, a: Answer, top: usize) -> usize {
     if a.no == 0 {
         return line::text(at, b"accepts");
     }
