@@ -6,7 +6,6 @@
 -- nullCase        a factor of rank 0, for all but the duopyramid
 -- combCase        the duocomb with a factor of rank 1, and none of rank 0
 -- resultOf        the product: the nullitope in the null case, else that of the pairs
--- duopyramidOf, duoprismOf, duotegumOf, duocombOf   the four by name
 -- HighEnough      the ranks of two closed factors at which the product is closed: all for the duopyramid, from 1 for
 --                 duoprism and duotegum, from 2 and not both 2 for the duocomb
 use mathlib.Core.Bool.{Bool, true, false, not, _&&_, _||_}
@@ -36,18 +35,6 @@ resultOf min max A B =
       | true ↦ nullitope
       | false ↦ productOf min max (first min A B) (second min A B)
     ]
-
-abbrev pub duopyramidOf : Listing → Listing → Listing
-duopyramidOf A B = resultOf false false A B
-
-abbrev pub duoprismOf : Listing → Listing → Listing
-duoprismOf A B = resultOf true false A B
-
-abbrev pub duotegumOf : Listing → Listing → Listing
-duotegumOf A B = resultOf false true A B
-
-abbrev pub duocombOf : Listing → Listing → Listing
-duocombOf A B = resultOf true true A B
 
 unfoldable pub HighEnough : Bool → Bool → ℕ → ℕ → Type 0
 HighEnough false false p q = Unit {0}

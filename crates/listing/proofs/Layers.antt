@@ -102,10 +102,6 @@ module _ (M : Layers) (r a : ℕ) where
   unfolding derived
   derived-in b = (gather-in _ a _ b, λ h. in-gather _ a _ b (h .0) (h .1))
 
-  pub derived-occurs : (b : ℕ) → b < M .size (suc r) → occurs b (derived M r a) ≡ occurs a (M .under (suc r) b)
-  unfolding derived
-  derived-occurs b h = gather-occurs _ a _ b h
-
   pub derived-ascending : ((b : ℕ) → b < M .size (suc r) → occurs a (M .under (suc r) b) ≤ 1)
       → Ascending (derived M r a)
   unfolding derived

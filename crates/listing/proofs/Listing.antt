@@ -1,6 +1,6 @@
 -- Laws of the elements before a rank, of where a list begins, and of elements that are there.
 -- Assumes nothing.
-use mathlib.Core.Path.{_≡_, refl, ap}
+use mathlib.Core.Path.{_≡_, refl}
 use mathlib.Core.List.{List, _∷_}
 use Prim.Native.Nat.{ℕ, zero, suc, _+_, _-_, _≤_, _<_}
 use native.Mathlib.Numerals.{add-one}
@@ -9,7 +9,7 @@ use native.Mathlib.Omega.{arith}
 use lib.ListN.{length, getD, List·getD-eq-default}
 use Rattle.order.specs.Sums.{sum}
 use Rattle.order.proofs.Sums.{sum-le}
-use Rattle.listing.specs.Listing.{Listing, rank, count, below, before, start}
+use Rattle.listing.specs.Listing.{Listing, count, before, start}
 
 -- ---- the elements before a rank
 
@@ -44,9 +44,6 @@ before-all counts (suc r) = go (before-all counts r) (decLt r (length counts))
     go ih (no l) = omega (arith, List·getD-eq-default counts 0 {n = r} (omega arith))
 
 -- ---- where a list begins
-
-pub start-zero : (ends : List ℕ) {k : ℕ} → k ≡ 0 → start ends k ≡ 0
-start-zero ends e = ap (λ (n : ℕ). start ends n) e
 
 -- the end before it; also the count of the rank below
 pub start-more : (ends : List ℕ) {k : ℕ} → (k ≡ 0 → ⊥) → start ends k ≡ getD ends (k - 1) 0

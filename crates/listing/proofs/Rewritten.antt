@@ -8,7 +8,7 @@ use lib.ListN.{length, getD, take}
 use lib.Seq.{take-add, take-length, length-take-le}
 use Rattle.order.specs.Sums.{sum, place}
 use Rattle.order.proofs.Sums.{sum-same, place-ok}
-use Rattle.listing.specs.Listing.{Listing, Limits, rank, count, before, start, Ends, entries, side, subs, sups}
+use Rattle.listing.specs.Listing.{Listing, Limits, rank, count, before, start, Ends, entries, side, sups}
 use Rattle.listing.specs.Shape.{Shaped}
 use Rattle.listing.specs.Layers.{Layers, layers}
 use Rattle.listing.specs.Written.{joined, table, lengths, listAt, nth, written}
@@ -110,11 +110,3 @@ module _ (M N : Layers) (a b : ℕ → ℕ → List ℕ) (p : M .top ≡ N .top)
 
       inc : written M a .inc ≡ written N b .inc
       inc = joined-same _ _ _ same-nth ∙ ap (joined (nth N b)) same-lists
-
--- two listings in good shape that say the same are the same
-pub shaped-same : {m n : Limits} (K L : Listing) → Shaped m K → Shaped n L
-    → rank K ≡ rank L → ((r : ℕ) → count K r ≡ count L r)
-    → ((r i : ℕ) → i < count K r → subs K r i ≡ subs L r i)
-    → ((r i : ℕ) → i < count K r → sups K r i ≡ sups L r i) → K ≡ L
-shaped-same K L k l p q u v =
-    sym (written-layers K k) ∙ written-same (layers K) (layers L) _ _ p q u v ∙ written-layers L l

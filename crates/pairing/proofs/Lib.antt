@@ -16,4 +16,3 @@ pub mod OverPairs
 pub mod PairedLengths
 pub mod GrownLengths
 pub mod ProductLengths
-pub mod ProductLists

@@ -126,10 +126,6 @@ module _ (A B : Layers) (tA : Topped A) (tB : Topped B) (sA : Sound A) (sB : Sou
   unfolding paired-order
   paired-order-to x = refl
 
-  pub paired-order-from : (y : El) → paired-order .from y ≡ pairAt A B y
-  unfolding paired-order
-  paired-order-from y = refl
-
 module _ (A B : Layers) (sA : Sound A) (sB : Sound B) (oA : Sorted A) (oB : Sorted B) where
   left-ascending : (q : El × El) → Pairs (order A) (order B) .Exists q → Ascending (leftSubs A B q)
   unfolding leftSubs position Sorted

@@ -19,14 +19,6 @@ module _ (A B : Layers) where
   unfolding sum block
   block-next R i = refl
 
-  -- one rank higher in the first member, one lower in the second: the next block of the same rank
-  pub offset-next : (i j : ℕ) → offset A B (suc i) j ≡ offset A B i (suc j) + A .size i * B .size (suc j)
-  unfolding offset
-  offset-next i j =
-      let e : suc i + j ≡ i + suc j = omega arith in
-      let d : i + suc j - i ≡ suc j = omega arith in
-      rw (e, block-next (i + suc j) i, d)
-
   -- the place of a pair in its block
   pub in-block : (i a j b : ℕ) → a < A .size i → b < B .size j → a * B .size j + b < block A B (i + j) i
   unfolding block

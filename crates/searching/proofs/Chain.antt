@@ -2,7 +2,6 @@
 -- Assumes nothing.
 use mathlib.Core.Path.{_≡_, refl, ap}
 use mathlib.Core.Bool.{Bool, false}
-use mathlib.Core.List.{List}
 use mathlib.Core.Logic.{_≢_, _⊎_, inl, inr}
 use Prim.Native.Nat.{ℕ, zero, suc, _+_, _-_, _≤_, _<_}
 use native.Mathlib.Nat.{eq-or-lt-of-le}
@@ -10,10 +9,9 @@ use native.Mathlib.Decide.{ℕ-discrete, decLe, decLt}
 use native.Mathlib.Numerals.{add-one}
 use native.Mathlib.Omega.{arith}
 use borrow.Author.Tests.{eq-eqb, ne-eqb}
-use lib.ListN.{length, getD}
-use Rattle.searching.specs.Search.{indexIn, Decides}
+use Rattle.searching.specs.Search.{Decides}
 use Rattle.searching.specs.Chain.{latest, Latest, Walk}
-use Rattle.searching.proofs.Lookup.{differs, index-none}
+use Rattle.searching.proofs.Lookup.{differs}
 
 module _ {A : Type 0} (hash : A → ℕ) (row : ℕ → A) (h : ℕ) where
   -- one row more, with the hash and with another
@@ -84,8 +82,3 @@ module _ {A : Type 0} (same : A → A → Bool) (decides : Decides same) (hash :
       go k g m (no q) (no t) =
           let i : k ≡ p - 1 = omega arith in
           rw i e
-
--- A walk over the rows of a list that comes to 0 has not found y: its index is the length.
-pub walk-end : {A : Type 0} (same : A → A → Bool) (hash : A → ℕ) (l : List A) (d y : A)
-    → Walk same hash (λ k. getD l k d) (length l) y 0 → indexIn same l y ≡ length l
-walk-end same hash l d y w = index-none same l d y (λ k h. w .none k (omega arith) h)

@@ -6,7 +6,6 @@ use mathlib.Core.Logic.{_↔_}
 use mathlib.Core.Bool.{Bool, false, not}
 use mathlib.Core.List.{List}
 use Prim.Native.Nat.{ℕ, zero, suc, _-_, _≤_, _<_}
-use native.Mathlib.Decide.{ℕ-discrete}
 use native.Mathlib.Omega.{arith}
 use lib.Dec.{eqb}
 use lib.ListN.{length, getD}
@@ -60,16 +59,3 @@ module _ {A : Type 0} (same : A → A → Bool) (decides : Decides same) (room :
 
   pub place-exact : S .over ≡ false → (S .place ≡ 0) ↔ Colouring (Neighbour nbrs) a
   place-exact o = (bytes-colour o, coloured-still same decides room nbrs a)
-
--- There is a place exactly if what is reachable has no colouring.
-pub place-some : {A : Type 0} (same : A → A → Bool) (decides : Decides same) (room : ℕ) (nbrs : A → List A) (a : A)
-    → search same room nbrs a .over ≡ false → (0 < search same room nbrs a .place) ↔ (¬ Colouring (Neighbour nbrs) a)
-place-some same decides room nbrs a o =
-    (λ h c. omega (arith, e .1 c), λ n. go n (ℕ-discrete (search same room nbrs a .place) 0))
-  where
-    e : (search same room nbrs a .place ≡ 0) ↔ Colouring (Neighbour nbrs) a
-    e = place-exact same decides room nbrs a o
-
-    go : ¬ Colouring (Neighbour nbrs) a → Dec (search same room nbrs a .place ≡ 0) → 0 < search same room nbrs a .place
-    go n (yes z) = absurd (n (e .0 z))
-    go n (no z) = omega arith

@@ -75,12 +75,6 @@ module _ {A : Type 0} (same : A → A → Bool) (room : ℕ) (nbrs : A → List 
 
   -- ---- to the end
 
-  -- with any number that is enough
-  pub run-enough : (d k : ℕ) (s : State A) → length (s .found) ≤ room → room ≤ k + d
-      → runFor same room nbrs a d k s ≡ run same room nbrs a k s
-  unfolding run
-  run-enough d k s h p = for-same d (room - k) k s h p (omega arith)
-
   module _ (W : State A) (k : ℕ) (s : State A) (e : W ≡ run same room nbrs a k s) where
     pub run-next : s .over ≡ false → k < length (s .found) → length (s .found) ≤ room
         → W ≡ run same room nbrs a (k + 1) (work same room nbrs a k s)
