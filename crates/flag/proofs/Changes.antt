@@ -13,8 +13,8 @@ use Rattle.order.specs.Lists.{In}
 use Rattle.order.specs.Flags.{ChangedAt}
 use Rattle.order.specs.Diamond.{OneOther}
 use Rattle.listing.specs.Listing.{Listing, Limits, count, rank, subs}
+use Rattle.diamond.specs.Dyadic.{Between, Two, DiamondAt, Diamond}
 use Rattle.valid.specs.Closed.{Closed}
-use Rattle.valid.specs.Dyadic.{Between, Two, DiamondAt, Diamond}
 use Rattle.flag.specs.Flags.{IsFlag}
 use Rattle.flag.specs.Change.{other, between, changeAt, Changes}
 use Rattle.flag.proofs.Common.{common-in, other-same, other-found}

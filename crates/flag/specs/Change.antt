@@ -22,7 +22,7 @@ use Rattle.listing.specs.declared.Answer.{Answer}
 use Rattle.listing.specs.Refusals.{outsideRanks}
 use Rattle.listing.specs.Answers.{plain, on, _orElse_, ifZero}
 use Rattle.listing.specs.Listing.{Listing, Limits, rank, count, subs, sups}
-use Rattle.valid.specs.Dyadic.{Two}
+use Rattle.diamond.specs.Dyadic.{Two}
 use Rattle.flag.specs.declared.Changed.{Changed}
 use Rattle.flag.specs.Flags.{startTest, IsFlag}
 

@@ -11,9 +11,9 @@ use Rattle.listing.specs.Shape.{fills, shapeTest}
 use Rattle.listing.specs.Layers.{gather, derived}
 use Rattle.listing.specs.Written.{joined, table as numbers, listAt, nth, written}
 use Rattle.matching.specs.Incidence.{entryTest, alongTest, elementTest, incidencesTest}
+use Rattle.diamond.specs.Dyadic.{subsOfAll, thirdTest, seenAfter, loneTest, sectionsTest, dyadicTest}
 use Rattle.valid.specs.Bounds.{boundedTest}
 use Rattle.valid.specs.Ascent.{climbs, elementAscent, ascentTest}
-use Rattle.valid.specs.Dyadic.{subsOfAll, thirdTest, seenAfter, loneTest, sectionsTest, dyadicTest}
 use Rattle.valid.specs.Tests.{isValid, closed}
 use Rattle.pairing.specs.Trimmed.{trimSize, trimUnder}
 use Rattle.pairing.specs.Paired.{block, offset, position, pairOf, pairAt, leftSubs, rightSubs}

@@ -9,8 +9,8 @@ use native.Mathlib.Omega.{arith}
 use lib.ListN.{length}
 use Rattle.order.specs.Lists.{In, occurs}
 use Rattle.order.proofs.Lists.{occurs-some}
-use Rattle.valid.specs.Dyadic.{Two}
-use Rattle.valid.proofs.Counting.{occurs-cons, occurs-own}
+use Rattle.diamond.specs.Dyadic.{Two}
+use Rattle.diamond.proofs.Counting.{occurs-cons, occurs-own}
 
 -- no number more than once
 abbrev pub Once : List ℕ → Type 0

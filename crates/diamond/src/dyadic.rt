@@ -12,8 +12,8 @@ ghost use Rattle.listing.specs.Answers.{firstOf};
 ghost use Rattle.listing.specs.Listing.{listing, limits, before, Ends};
 ghost use Rattle.listing.specs.Shape.{Shaped};
 ghost use Rattle.matching.specs.Incidence.{Incident};
-ghost use Rattle.valid.specs.Dyadic.{subsOfAll, third, lone, sectionsTest, dyadicTest};
-ghost use Rattle.valid.specs.Tally.{LoneCount, Tally, Tallied, loneIn, Walkable};
+ghost use Rattle.diamond.specs.Dyadic.{subsOfAll, third, lone, sectionsTest, dyadicTest};
+ghost use Rattle.diamond.specs.Tally.{LoneCount, Tally, Tallied, loneIn, Walkable};
 
 // What a walk leaves: its answer, and how many indices it has met exactly once.
 struct Met {

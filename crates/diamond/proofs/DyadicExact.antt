@@ -14,11 +14,11 @@ use Rattle.order.proofs.Lists.{occurs-none, occurs-some, occurs-append}
 use Rattle.listing.specs.Listing.{Listing, count, before, subs}
 use Rattle.matching.specs.Incidence.{Incident}
 use Rattle.matching.proofs.Sequences.{elements-exact}
-use Rattle.valid.specs.Dyadic.{subsOfAll, walk, sectionsTest, dyadicTest}
-use Rattle.valid.specs.Dyadic.{Between, Two, DiamondAt, Diamond, Distinct, MetTwice}
-use Rattle.valid.proofs.Walks.{subsOf}
-use Rattle.valid.proofs.Counting.{occurs-nil, sections-exact}
-use Rattle.valid.proofs.Twos.{Once, keep, in-keep, once-keep, two-exact, two-map}
+use Rattle.diamond.specs.Dyadic.{subsOfAll, walk, sectionsTest, dyadicTest}
+use Rattle.diamond.specs.Dyadic.{Between, Two, DiamondAt, Diamond, Distinct, MetTwice}
+use Rattle.diamond.proofs.Walks.{subsOf}
+use Rattle.diamond.proofs.Counting.{occurs-nil, sections-exact}
+use Rattle.diamond.proofs.Twos.{Once, keep, in-keep, once-keep, two-exact, two-map}
 
 -- ---- what a walk meets
 

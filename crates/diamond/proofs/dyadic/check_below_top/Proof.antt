@@ -3,9 +3,9 @@
 use mathlib.Core.Path.{sym, _∙_}
 use native.Mathlib.Omega.{arith}
 use borrow.Author.Needs.{needs}
-use Rattle.valid.proofs.Walks.{dyadic-low}
-use Rattle.valid.proofs.dyadic.check_below_top.Statement.{statement}
-use Rattle.valid.proofs.dyadic.check_below_top.Tie as tie
+use Rattle.diamond.proofs.Walks.{dyadic-low}
+use Rattle.diamond.proofs.dyadic.check_below_top.Statement.{statement}
+use Rattle.diamond.proofs.dyadic.check_below_top.Tie as tie
 
 sub-rank : tie.Need-sub-rank
 sub-rank c = omega (arith, c .before .before .before .pre .0)

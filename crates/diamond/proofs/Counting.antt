@@ -14,7 +14,7 @@ use Rattle.listing.specs.declared.Answer.{Answer}
 use Rattle.listing.specs.Answers.{on}
 use Rattle.listing.specs.Listing.{Listing, count}
 use Rattle.listing.proofs.Answers.{or-no, no-or, on-no, on-off, of-each, of-all}
-use Rattle.valid.specs.Dyadic.{walk, thirdTest, seenAfter, loneTest, third, lone, sectionsTest}
+use Rattle.diamond.specs.Dyadic.{walk, thirdTest, seenAfter, loneTest, third, lone, sectionsTest}
 
 -- ---- occurrences
 

@@ -11,9 +11,9 @@ use Rattle.listing.specs.Listing.{listing, before}
 use Rattle.listing.proofs.Answers.{of-return, of-turn, of-done}
 use Rattle.listing.proofs.Listing.{before-zero, before-next}
 use Rattle.matching.proofs.Places.{before-step, few-before}
-use Rattle.valid.specs.Dyadic.{sectionsTest, dyadicTest}
-use Rattle.valid.proofs.dyadic.check_up_to.Statement.{statement}
-use Rattle.valid.proofs.dyadic.check_up_to.Tie as tie
+use Rattle.diamond.specs.Dyadic.{sectionsTest, dyadicTest}
+use Rattle.diamond.proofs.dyadic.check_up_to.Statement.{statement}
+use Rattle.diamond.proofs.dyadic.check_up_to.Tie as tie
 
 abbrev Inv-loop : tie.InvT-loop
 Inv-loop counts ends inc high b₀ r₀ b r =

@@ -8,12 +8,12 @@ use borrow.Author.Needs.{needs}
 use lib.ListN.{length, getD, take}
 use Rattle.listing.specs.Listing.{limits}
 use Rattle.matching.proofs.Sequences.{in-at}
-use Rattle.valid.specs.Dyadic.{third}
-use Rattle.valid.specs.Tally.{LoneCount, Tally}
-use Rattle.valid.proofs.Ones.{lone-le, lone-at, lone-more}
-use Rattle.valid.proofs.Walks.{Walked, walked-none, list-more, list-stop, list-all}
-use Rattle.valid.proofs.dyadic.tally_list.Statement.{statement}
-use Rattle.valid.proofs.dyadic.tally_list.Tie as tie
+use Rattle.diamond.specs.Dyadic.{third}
+use Rattle.diamond.specs.Tally.{LoneCount, Tally}
+use Rattle.diamond.proofs.Ones.{lone-le, lone-at, lone-more}
+use Rattle.diamond.proofs.Walks.{Walked, walked-none, list-more, list-stop, list-all}
+use Rattle.diamond.proofs.dyadic.tally_list.Statement.{statement}
+use Rattle.diamond.proofs.dyadic.tally_list.Tie as tie
 
 abbrev Inv-loop : tie.InvT-loop
 Inv-loop tally₀ subs once r i n₀ j₀ tally n j =

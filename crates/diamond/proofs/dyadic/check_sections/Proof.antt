@@ -11,12 +11,12 @@ use Rattle.listing.specs.Listing.{Listing, listing, limits, before, subs}
 use Rattle.listing.proofs.Listing.{rank-there}
 use Rattle.listing.proofs.ShapeExact.{shaped-ends}
 use Rattle.matching.proofs.Places.{side-fits, side-at, before-step, few-before, few-in-rank}
-use Rattle.valid.specs.Dyadic.{walk, third, lone}
-use Rattle.valid.specs.Tally.{loneIn, Tallied}
-use Rattle.valid.proofs.Walks.{walk-same, tally-zero, walkable, lone-same, sections-stop, sections-go}
-use Rattle.valid.proofs.Ones.{lone-fresh}
-use Rattle.valid.proofs.dyadic.check_sections.Statement.{statement}
-use Rattle.valid.proofs.dyadic.check_sections.Tie as tie
+use Rattle.diamond.specs.Dyadic.{walk, third, lone}
+use Rattle.diamond.specs.Tally.{loneIn, Tallied}
+use Rattle.diamond.proofs.Walks.{walk-same, tally-zero, walkable, lone-same, sections-stop, sections-go}
+use Rattle.diamond.proofs.Ones.{lone-fresh}
+use Rattle.diamond.proofs.dyadic.check_sections.Statement.{statement}
+use Rattle.diamond.proofs.dyadic.check_sections.Tie as tie
 
 abbrev L : tie.Start → Listing
 L s = listing (s .args .counts .now) (s .args .ends .now) (s .args .inc .now)

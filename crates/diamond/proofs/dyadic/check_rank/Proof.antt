@@ -7,9 +7,9 @@ use borrow.Author.Needs.{needs}
 use Rattle.listing.specs.Answers.{firstOf}
 use Rattle.listing.specs.Listing.{listing}
 use Rattle.listing.proofs.Answers.{of-return, of-turn, of-done}
-use Rattle.valid.specs.Dyadic.{sectionsTest}
-use Rattle.valid.proofs.dyadic.check_rank.Statement.{statement}
-use Rattle.valid.proofs.dyadic.check_rank.Tie as tie
+use Rattle.diamond.specs.Dyadic.{sectionsTest}
+use Rattle.diamond.proofs.dyadic.check_rank.Statement.{statement}
+use Rattle.diamond.proofs.dyadic.check_rank.Tie as tie
 
 abbrev Inv-loop : tie.InvT-loop
 Inv-loop counts ends inc b r n i₀ i =

@@ -13,7 +13,7 @@ use lib.ListN.{length, getD, set, length-set, replicate, length-replicate}
 use Rattle.listing.specs.declared.Answer.{Answer}
 use Rattle.listing.specs.Answers.{fine, on, firstFor, firstOf}
 use Rattle.listing.proofs.Answers.{or-fine}
-use Rattle.valid.specs.Tally.{ones, LoneCount, loneIn}
+use Rattle.diamond.specs.Tally.{ones, LoneCount, loneIn}
 
 -- what one count adds
 abbrev own : ℕ → ℕ

@@ -2,9 +2,9 @@
 -- Assumes nothing.
 use mathlib.Core.Path.{sym, _∙_}
 use borrow.Author.Needs.{needs}
-use Rattle.valid.proofs.Ones.{lone-none}
-use Rattle.valid.proofs.dyadic.check_lone.Statement.{statement}
-use Rattle.valid.proofs.dyadic.check_lone.Tie as tie
+use Rattle.diamond.proofs.Ones.{lone-none}
+use Rattle.diamond.proofs.dyadic.check_lone.Statement.{statement}
+use Rattle.diamond.proofs.dyadic.check_lone.Tie as tie
 
 plain-requires : tie.Need-plain-requires
 plain-requires c κs = search needs

@@ -7,11 +7,11 @@ use borrow.Author.Needs.{needs}
 use lib.ListN.{length, getD, take}
 use Rattle.listing.specs.Listing.{limits}
 use Rattle.matching.proofs.Sequences.{in-at}
-use Rattle.valid.specs.Dyadic.{subsOfAll, seenAfter, third}
-use Rattle.valid.specs.Tally.{LoneCount, Tally, Tallied}
-use Rattle.valid.proofs.Walks.{subsOf, Walked, walked-none, walk-more, walk-stop, walk-all, tallied-walked}
-use Rattle.valid.proofs.dyadic.tally_all.Statement.{statement}
-use Rattle.valid.proofs.dyadic.tally_all.Tie as tie
+use Rattle.diamond.specs.Dyadic.{subsOfAll, seenAfter, third}
+use Rattle.diamond.specs.Tally.{LoneCount, Tally, Tallied}
+use Rattle.diamond.proofs.Walks.{subsOf, Walked, walked-none, walk-more, walk-stop, walk-all, tallied-walked}
+use Rattle.diamond.proofs.dyadic.tally_all.Statement.{statement}
+use Rattle.diamond.proofs.dyadic.tally_all.Tie as tie
 
 abbrev Inv-loop : tie.InvT-loop
 Inv-loop tally₀ ends inc b subs r i once₀ j₀ tally once j =

@@ -21,9 +21,9 @@ use Rattle.listing.proofs.Answers.{of-stop, of-next, of-end}
 use Rattle.matching.specs.Incidence.{Incident}
 use Rattle.matching.proofs.Places.{side-fits, few-in-rank}
 use Rattle.matching.proofs.Sequences.{or-assoc, of-same}
-use Rattle.valid.specs.Dyadic.{subsOfAll, walk, thirdTest, seenAfter, loneTest, third, lone}
-use Rattle.valid.specs.Dyadic.{sectionsTest, dyadicTest}
-use Rattle.valid.specs.Tally.{Tally, Tallied, loneIn, Walkable}
+use Rattle.diamond.specs.Dyadic.{subsOfAll, walk, thirdTest, seenAfter, loneTest, third, lone}
+use Rattle.diamond.specs.Dyadic.{sectionsTest, dyadicTest}
+use Rattle.diamond.specs.Tally.{Tally, Tallied, loneIn, Walkable}
 
 -- ---- one walk after another
 

@@ -16,7 +16,7 @@ use Rattle.order.specs.Lists.{In, occurs}
 use Rattle.listing.specs.declared.Answer.{Answer}
 use Rattle.listing.specs.Answers.{on, firstOf}
 use Rattle.listing.specs.Listing.{entries}
-use Rattle.valid.specs.Dyadic.{thirdTest, seenAfter}
+use Rattle.diamond.specs.Dyadic.{thirdTest, seenAfter}
 
 unfoldable pub ones : List ℕ → ℕ
 ones [] = 0

@@ -8,11 +8,11 @@ use lib.Dec.{eqb}
 use lib.ListN.{getD}
 use Rattle.listing.specs.Answers.{on, firstOf}
 use Rattle.listing.proofs.Answers.{of-done}
-use Rattle.valid.specs.Dyadic.{lone}
-use Rattle.valid.specs.Tally.{loneIn}
-use Rattle.valid.proofs.Walks.{lone-stop, lone-next}
-use Rattle.valid.proofs.dyadic.check_once.Statement.{statement}
-use Rattle.valid.proofs.dyadic.check_once.Tie as tie
+use Rattle.diamond.specs.Dyadic.{lone}
+use Rattle.diamond.specs.Tally.{loneIn}
+use Rattle.diamond.proofs.Walks.{lone-stop, lone-next}
+use Rattle.diamond.proofs.dyadic.check_once.Statement.{statement}
+use Rattle.diamond.proofs.dyadic.check_once.Tie as tie
 
 abbrev Inv-loop : tie.InvT-loop
 Inv-loop tally n r i x₀ x =
