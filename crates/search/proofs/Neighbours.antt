@@ -19,7 +19,7 @@ use Rattle.searching.proofs.Once.{in-at, at-in}
 use Rattle.searching.proofs.Step.{meet-cases}
 use Rattle.store.specs.Rows.{rows}
 use Rattle.store.proofs.Rows.{rows-length, rows-at}
-use Rattle.search.specs.Masks.{ranksOf}
+use Rattle.masks.specs.Masks.{ranksOf}
 use Rattle.search.specs.Searched.{neighbours}
 use Rattle.search.specs.Ready.{Within, AllFlags}
 

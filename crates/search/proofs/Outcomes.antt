@@ -19,8 +19,8 @@ use Rattle.store.specs.declared.found.Progress.{Progress}
 use Rattle.store.specs.Rows.{flatten}
 use Rattle.store.specs.Held.{stateOf}
 use Rattle.store.proofs.Rows.{rows-length, rows-flat}
+use Rattle.masks.specs.Masks.{maskFits}
 use Rattle.search.specs.declared.Searched.{Searched}
-use Rattle.search.specs.Masks.{maskFits}
 use Rattle.search.specs.Searched.{foundBy}
 use Rattle.search.specs.Outcome.{refusedAs, foundAs, roomOf, searchTest, searchedOf, after, searchedBy}
 use Rattle.search.specs.Outcome.{tableAfter, bytesAfter}

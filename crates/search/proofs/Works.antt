@@ -19,10 +19,10 @@ use Rattle.store.specs.declared.found.Progress.{Progress}
 use Rattle.store.specs.Rows.{sameList}
 use Rattle.store.specs.Held.{stateOf, Held, Rest, Moved}
 use Rattle.store.proofs.Meets.{moved-none}
-use Rattle.search.specs.Masks.{ranksOf}
+use Rattle.masks.specs.Masks.{ranksOf}
+use Rattle.masks.proofs.Ranks.{ranks-next, ranks-none}
 use Rattle.search.specs.Searched.{neighbours}
 use Rattle.search.specs.Ready.{Within}
-use Rattle.search.proofs.Ranks.{ranks-next, ranks-none}
 
 -- ---- one move after another
 

@@ -29,8 +29,8 @@ use Rattle.flag.specs.Change.{changeAt}
 use Rattle.searching.specs.Search.{Once, More, Colouring, tone}
 use Rattle.searching.specs.Course.{Earlier, Stands, Agrees}
 use Rattle.store.specs.Rows.{rowOf, rows}
+use Rattle.masks.specs.Masks.{bit}
 use Rattle.search.specs.declared.Searched.{Searched}
-use Rattle.search.specs.Masks.{bit}
 use Rattle.search.specs.Searched.{foundBy}
 use Rattle.search.specs.Outcome.{refusedAs, roomOf, searchedBy, tableAfter, bytesAfter}
 

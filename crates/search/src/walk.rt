@@ -1,10 +1,10 @@
 // The search on a listing that is known to be closed: flags are kept in the table in the order found, and worked in
 // that order.
-use crate::mask;
 use flag::Orientation;
 use flag::chain;
 use listing::inner;
 use listing::limit;
+use masks::mask;
 use store::found;
 use store::found::Progress;
 use store::index;

@@ -9,10 +9,10 @@ use borrow.Author.Tests.{not-true, not-false}
 use borrow.Author.Needs.{needs}
 use Rattle.flag.proofs.FlagExact.{every-stop, every-next}
 use Rattle.flag.specs.Flags.{every}
-use Rattle.search.specs.Masks.{maskFits}
-use Rattle.search.proofs.Ranks.{test}
-use Rattle.search.proofs.mask.fits.Statement.{statement}
-use Rattle.search.proofs.mask.fits.Tie as tie
+use Rattle.masks.specs.Masks.{maskFits}
+use Rattle.masks.proofs.Ranks.{test}
+use Rattle.masks.proofs.mask.fits.Statement.{statement}
+use Rattle.masks.proofs.mask.fits.Tie as tie
 
 abbrev Inv-loop : tie.InvT-loop
 Inv-loop mask rank r₀ r = (r ≤ 16) × (every (test rank mask) r ≡ true)

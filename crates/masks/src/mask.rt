@@ -5,7 +5,7 @@ ghost use mathlib.Core.Bool.{_||_, _&&_};
 ghost use Prim.Native.Nat.{_-_, _^_, _≤_, _<_};
 ghost use lib.Dec.{eqb, ltb};
 ghost use lib.Count.{trailingZeros};
-ghost use Rattle.search.specs.Masks.{bit, maskFits};
+ghost use Rattle.masks.specs.Masks.{bit, maskFits};
 
 // Whether rank r is to be changed.
 fn asked(mask: u16, r: u16) -> bool

@@ -4,9 +4,9 @@ use mathlib.Core.Path.{sym, _∙_}
 use native.Mathlib.Omega.{arith}
 use borrow.Author.Tests.{not-true, not-false, lt-ltb}
 use borrow.Author.Needs.{needs}
-use Rattle.search.proofs.Ranks.{unset-test, asked-test}
-use Rattle.search.proofs.mask.allowed.Statement.{statement}
-use Rattle.search.proofs.mask.allowed.Tie as tie
+use Rattle.masks.proofs.Ranks.{unset-test, asked-test}
+use Rattle.masks.proofs.mask.allowed.Statement.{statement}
+use Rattle.masks.proofs.mask.allowed.Tie as tie
 
 asked-requires : tie.Need-asked-requires
 asked-requires c κs = search needs

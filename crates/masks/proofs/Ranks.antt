@@ -14,8 +14,8 @@ use Rattle.order.specs.Lists.{In, Ascending}
 use Rattle.matching.proofs.Sequences.{and-true}
 use Rattle.flag.specs.Flags.{every}
 use Rattle.flag.proofs.FlagExact.{every-stop}
-use Rattle.search.specs.Masks.{bit, bitsIn, ranksOf, maskFits}
-use Rattle.search.proofs.Low.{low-fits}
+use Rattle.masks.specs.Masks.{bit, bitsIn, ranksOf, maskFits}
+use Rattle.masks.proofs.Low.{low-fits}
 
 -- ---- bits
 

@@ -3,9 +3,9 @@
 use mathlib.Core.Path.{refl}
 use native.Mathlib.Omega.{arith}
 use lib.Count.{trailing-le}
-use Rattle.search.proofs.Low.{low-inside}
-use Rattle.search.proofs.mask.lowest.Statement.{statement}
-use Rattle.search.proofs.mask.lowest.Tie as tie
+use Rattle.masks.proofs.Low.{low-inside}
+use Rattle.masks.proofs.mask.lowest.Statement.{statement}
+use Rattle.masks.proofs.mask.lowest.Tie as tie
 
 cast-result : tie.Need-cast-result
 cast-result c = omega (arith, trailing-le 16 (c .args .left))

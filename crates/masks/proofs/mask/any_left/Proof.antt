@@ -1,9 +1,9 @@
 -- Some change is left exactly if the mask has a set bit, that is, is not 0. No loop.
 -- Assumes nothing.
 use native.Mathlib.Omega.{arith}
-use Rattle.search.proofs.Low.{any-ones}
-use Rattle.search.proofs.mask.any_left.Statement.{statement}
-use Rattle.search.proofs.mask.any_left.Tie as tie
+use Rattle.masks.proofs.Low.{any-ones}
+use Rattle.masks.proofs.mask.any_left.Statement.{statement}
+use Rattle.masks.proofs.mask.any_left.Tie as tie
 
 returns : tie.Need-returns
 returns c = any-ones (c .args .left) (omega arith)

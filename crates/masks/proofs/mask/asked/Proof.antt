@@ -5,8 +5,8 @@ use Prim.Native.Nat.{_/_, _^_}
 use borrow.Author.Needs.{needs}
 use lib.Dec.{eqb}
 use lib.Bits.{and-mask}
-use Rattle.search.proofs.mask.asked.Statement.{statement}
-use Rattle.search.proofs.mask.asked.Tie as tie
+use Rattle.masks.proofs.mask.asked.Statement.{statement}
+use Rattle.masks.proofs.mask.asked.Tie as tie
 
 shr-result : tie.Need-shr-result
 shr-result c = search needs
