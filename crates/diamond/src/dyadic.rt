@@ -126,7 +126,8 @@ fn check_once(tally: &[u8; limit::ELEMENTS], n: u16, r: u16, i: u16) -> Answer
     inner::plain(0)
 }
 
-// The smallest index below n that was met once, where `once` of the whole tally were: it is looked for only if some were.
+// The smallest index below n that was met once, where `once` of the whole tally were: it is looked for only if some
+// were.
 fn check_lone(tally: &[u8; limit::ELEMENTS], once: u16, n: u16, r: u16, i: u16) -> Answer
     requires { ⌜ n ≤ limits .elements ⌝ }
     requires { ⌜ (2 ≤ r) × LoneCount (limits .elements) (now tally) once ⌝ }

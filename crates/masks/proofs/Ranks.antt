@@ -12,8 +12,8 @@ use lib.Dec.{eqb, ltb}
 use lib.Count.{trailingZeros, under}
 use Rattle.order.specs.Lists.{In, Ascending}
 use Rattle.matching.proofs.Sequences.{and-true}
-use Rattle.flag.specs.Flags.{every}
-use Rattle.flag.proofs.FlagExact.{every-stop}
+use Rattle.changing.specs.Flags.{every}
+use Rattle.changing.proofs.FlagExact.{every-stop}
 use Rattle.masks.specs.Masks.{bit, bitsIn, ranksOf, maskFits}
 use Rattle.masks.proofs.Low.{low-fits}
 

@@ -27,7 +27,7 @@ use Rattle.valid.proofs.check_incidences.Reads as check-incidences
 use Rattle.valid.proofs.is_dyadic.Reads as is-dyadic
 use Rattle.valid.proofs.is_valid.Reads as is-valid
 use Rattle.valid.proofs.closed.Reads as closed
-use Rattle.flag.specs.Change.{Changes, changeAt, padded}
+use Rattle.changing.specs.Change.{Changes, changeAt, padded}
 use Rattle.flag.specs.declared.Event.the-variants.{Nothing}
 use Rattle.flag.specs.Events.{events, eventsOf, taken}
 use Rattle.flag.proofs.EventsTaken.{all-taken}

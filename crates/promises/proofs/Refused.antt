@@ -28,9 +28,9 @@ use Rattle.valid.proofs.AscentExact.{ascent-exact, ascends-distinct}
 use Rattle.closure.specs.Result.{combCase, resultOf}
 use Rattle.sizing.specs.Sizing.{sizeTest}
 use Rattle.product.specs.Outcome.{productTest}
-use Rattle.flag.specs.Flags.{flagTest, startTest, IsFlag}
-use Rattle.flag.specs.Change.{changeTest}
-use Rattle.flag.proofs.FlagExact.{flag-exact}
+use Rattle.changing.specs.Flags.{flagTest, startTest, IsFlag}
+use Rattle.changing.proofs.FlagExact.{flag-exact}
+use Rattle.flag.specs.Changed.{changeTest}
 use Rattle.promises.specs.Rules.{Rule, FirstBroken, Filled, shapeRules}
 use Rattle.promises.specs.Rules.{flagRule, changeRules, productRules}
 use Rattle.promises.specs.Rules.{boundedRules, incidentRules, dyadicRules, validRules, closedRules}

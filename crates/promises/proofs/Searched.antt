@@ -12,8 +12,8 @@ use Rattle.listing.specs.Answers.{plain, ifZero, on, _orElse_}
 use Rattle.listing.specs.Listing.{Listing, limits, rank}
 use Rattle.listing.proofs.Answers.{or-fine, on-no, on-off}
 use Rattle.valid.specs.Closed.{Closed}
-use Rattle.flag.specs.Flags.{startTest, IsFlag}
-use Rattle.flag.proofs.ChangeAnswers.{start-exact}
+use Rattle.changing.specs.Flags.{startTest, IsFlag}
+use Rattle.changing.proofs.StartExact.{start-exact}
 use Rattle.searching.specs.Search.{State, More}
 use Rattle.masks.specs.Masks.{maskFits}
 use Rattle.masks.proofs.Ranks.{fits-exact}

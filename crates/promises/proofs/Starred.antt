@@ -22,8 +22,9 @@ use Rattle.pairing.specs.Product.{product, productOf}
 use Rattle.closure.specs.Result.{nullCase, combCase, resultOf}
 use Rattle.sizing.specs.Sizing.{sizeTest}
 use Rattle.product.specs.Outcome.{productTest}
-use Rattle.flag.specs.Flags.{every, flagAt, flagTest, startTest}
-use Rattle.flag.specs.Change.{common, other, between, changeAt, padded, changeTest, changedOf}
+use Rattle.changing.specs.Flags.{every, flagAt, flagTest, startTest}
+use Rattle.changing.specs.Change.{common, other, between, changeAt, padded}
+use Rattle.flag.specs.Changed.{changeTest, changedOf}
 use Rattle.promises.specs.Starred.{answered, table}
 
 -- Computing each row of the table gives the answers that stand in it.

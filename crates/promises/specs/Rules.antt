@@ -33,7 +33,7 @@ use Rattle.valid.specs.Bounds.{Bounded}
 use Rattle.valid.specs.Ascent.{Ascends}
 use Rattle.valid.specs.Tests.{isValid}
 use Rattle.closure.specs.Result.{combCase, resultOf}
-use Rattle.flag.specs.Flags.{IsFlag}
+use Rattle.changing.specs.Flags.{IsFlag}
 use Rattle.searching.specs.Search.{More}
 use Rattle.search.specs.Exact.{Inside, Leads}
 

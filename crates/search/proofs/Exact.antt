@@ -15,9 +15,9 @@ use Rattle.listing.proofs.Answers.{or-stop}
 use Rattle.valid.specs.Closed.{Closed}
 use Rattle.valid.specs.Tests.{closed}
 use Rattle.valid.proofs.ClosedExact.{closed-exact}
-use Rattle.flag.specs.Flags.{IsFlag, flagTest, startTest}
-use Rattle.flag.proofs.FlagExact.{flag-exact}
-use Rattle.flag.proofs.ChangeAnswers.{start-exact, start-none}
+use Rattle.changing.specs.Flags.{IsFlag, flagTest, startTest}
+use Rattle.changing.proofs.FlagExact.{flag-exact}
+use Rattle.changing.proofs.StartExact.{start-exact, start-none}
 use Rattle.searching.specs.Search.{State, More}
 use Rattle.searching.proofs.Found.{over-exact, over-full}
 use Rattle.searching.proofs.Prefix.{prefix}

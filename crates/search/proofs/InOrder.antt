@@ -8,8 +8,8 @@ use native.Mathlib.Decide.{ℕ-discrete}
 use native.Mathlib.Omega.{arith}
 use lib.ListN.{length, getD}
 use Rattle.listing.specs.Listing.{Listing}
-use Rattle.flag.specs.Change.{changeAt}
-use Rattle.flag.proofs.Halving.{ascending-at, ascending-back}
+use Rattle.changing.specs.Change.{changeAt}
+use Rattle.changing.proofs.Halving.{ascending-at, ascending-back}
 use Rattle.searching.specs.Course.{Earlier, Stands, Agrees, Inside, nbr, Came, Clash}
 use Rattle.searching.proofs.Once.{in-at, at-in}
 use Rattle.masks.specs.Masks.{ranksOf}

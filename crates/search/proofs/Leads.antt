@@ -7,9 +7,9 @@ use mathlib.Core.List.{List, Memᴰ·map, Memᴰ·of-map, Memᴰ·cast}
 use Prim.Native.Nat.{ℕ, _<_}
 use Rattle.order.specs.Flags.{Reach, start, next}
 use Rattle.listing.specs.Listing.{Listing, Limits}
-use Rattle.flag.specs.Flags.{IsFlag}
-use Rattle.flag.specs.Change.{changeAt, Changes}
-use Rattle.flag.proofs.Changes.{changes}
+use Rattle.changing.specs.Flags.{IsFlag}
+use Rattle.changing.specs.Change.{changeAt, Changes}
+use Rattle.changing.proofs.Changes.{changes}
 use Rattle.searching.specs.Search.{Neighbour, More, Colouring}
 use Rattle.masks.specs.Masks.{bit, ranksOf}
 use Rattle.masks.proofs.Ranks.{ranks-exact}

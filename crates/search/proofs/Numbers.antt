@@ -16,7 +16,7 @@ use Rattle.diamond.specs.Dyadic.{walk, thirdTest, seenAfter, loneTest, sections
 use Rattle.valid.specs.Bounds.{boundedTest}
 use Rattle.valid.specs.Ascent.{climbs, sideAscent, elementAscent, ascentTest}
 use Rattle.valid.specs.Tests.{closed}
-use Rattle.flag.specs.Flags.{flagTest, startTest}
+use Rattle.changing.specs.Flags.{flagTest, startTest}
 
 -- the number of an answer is at most n
 record Most (n : ℕ) (a : Answer) : Type 0 where

@@ -13,7 +13,7 @@ use Rattle.listing.specs.declared.Answer.{Answer}
 use Rattle.listing.specs.Answers.{plain, fine, ifZero, on}
 use Rattle.listing.specs.Listing.{Listing, Limits, rank}
 use Rattle.listing.proofs.Answers.{or-fine, or-stop}
-use Rattle.flag.specs.Flags.{startTest}
+use Rattle.changing.specs.Flags.{startTest}
 use Rattle.searching.specs.Search.{State}
 use Rattle.store.specs.declared.found.Progress.{Progress}
 use Rattle.store.specs.Rows.{flatten}

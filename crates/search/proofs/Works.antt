@@ -12,7 +12,7 @@ use lib.ListN.{length, drop}
 use lib.Seq.{drop-drop}
 use Rattle.order.specs.Lists.{In}
 use Rattle.listing.specs.Listing.{Listing, rank}
-use Rattle.flag.specs.Change.{changeAt}
+use Rattle.changing.specs.Change.{changeAt}
 use Rattle.searching.specs.Search.{State, meet, meetAll}
 use Rattle.searching.proofs.Step.{meets-over}
 use Rattle.store.specs.declared.found.Progress.{Progress}

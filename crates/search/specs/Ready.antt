@@ -13,7 +13,7 @@ use lib.ListN.{length, getD, take}
 use Rattle.order.specs.Lists.{In}
 use Rattle.listing.specs.Listing.{Listing, limits, rank, before}
 use Rattle.valid.specs.Closed.{Closed}
-use Rattle.flag.specs.Flags.{IsFlag}
+use Rattle.changing.specs.Flags.{IsFlag}
 use Rattle.searching.specs.Search.{State}
 use Rattle.store.specs.declared.found.Progress.{Progress}
 use Rattle.store.specs.Rows.{rowOf}

@@ -5,7 +5,7 @@
 use mathlib.Core.List.{List, map}
 use Prim.Native.Nat.{ℕ}
 use Rattle.listing.specs.Listing.{Listing}
-use Rattle.flag.specs.Change.{changeAt}
+use Rattle.changing.specs.Change.{changeAt}
 use Rattle.searching.specs.Search.{State, search}
 use Rattle.store.specs.Rows.{sameList}
 use Rattle.masks.specs.Masks.{ranksOf}

@@ -2,7 +2,7 @@
 mod answer;
 mod walk;
 
-use flag::chain;
+use changing::chain;
 use listing::Answer;
 use listing::inner;
 use listing::refusal;
