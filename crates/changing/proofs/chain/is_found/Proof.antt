@@ -1,5 +1,5 @@
--- `is_found`: the invariant: wherever x stands in the list, it is from lo up to, not including, hi, and hi is within the
--- list. Each turn passes the place in the middle: the measure is how many places are left between lo and hi.
+-- `is_found`: the invariant: wherever x stands in the list, it is from lo up to, not including, hi, and hi is within
+-- the list. Each turn passes the place in the middle: the measure is how many places are left between lo and hi.
 -- Assumes nothing.
 use mathlib.Core.Path.{sym}
 use Prim.Native.Nat.{_+_, _-_, _/_, _≤_}
