@@ -18,9 +18,9 @@ use Rattle.listing.specs.Layers.{layers, order, derived}
 use Rattle.listing.proofs.Layers.{layers-topped, in-range, derived-in, derived-ascending}
 use Rattle.matching.specs.Incidence.{Incident}
 use Rattle.matching.proofs.Sequences.{at-sides}
+use Rattle.diamond.specs.Dyadic.{Diamond}
 use Rattle.valid.specs.Bounds.{Bounded}
 use Rattle.valid.specs.Ascent.{Ascends}
-use Rattle.valid.specs.Dyadic.{Diamond}
 use Rattle.valid.specs.Closed.{Closed}
 use Rattle.pairing.specs.Sound.{Sound, Sorted}
 use Rattle.closure.specs.Derived.{Derived}

@@ -11,7 +11,7 @@ use Rattle.order.proofs.Pairs.{pair-path}
 use Rattle.listing.specs.Listing.{Listing, rank, count}
 use Rattle.listing.specs.Layers.{layers, order}
 use Rattle.listing.proofs.Layers.{layers-topped, in-range}
-use Rattle.valid.specs.Dyadic.{Between, Two, Diamond, DiamondAt}
+use Rattle.diamond.specs.Dyadic.{Between, Two, Diamond, DiamondAt}
 use Rattle.pairing.specs.Sound.{Sound}
 
 -- ---- exactly two, and exactly one other

@@ -15,9 +15,9 @@ use Rattle.listing.specs.Shape.{fills, shapeTest}
 use Rattle.listing.specs.Cells.{nullitope}
 use Rattle.matching.specs.Incidence.{alongTest, elementTest, incidencesTest}
 use Rattle.matching.proofs.Sequences.{or-none}
+use Rattle.diamond.specs.Dyadic.{dyadicTest}
 use Rattle.valid.specs.Bounds.{boundedTest}
 use Rattle.valid.specs.Ascent.{climbs, elementAscent, ascentTest}
-use Rattle.valid.specs.Dyadic.{dyadicTest}
 use Rattle.valid.specs.Tests.{closed}
 use Rattle.valid.specs.Closed.{Closed}
 use Rattle.valid.proofs.ClosedExact.{closed-exact}

@@ -1,7 +1,7 @@
--- The answer of a change: of the tests before it, with their exactness, and as a whole.
+-- The answer of a change: of its tests, with their exactness, and as a whole.
 -- Assumes nothing.
 use mathlib.Core.Path.{_≡_, refl, ap}
-use mathlib.Core.Bool.{Bool, true, false, not, _&&_}
+use mathlib.Core.Bool.{Bool, not, _&&_}
 use mathlib.Core.List.{List}
 use mathlib.Core.Logic.{_↔_}
 use Prim.Native.Nat.{ℕ, zero, suc, _≤_, _<_}
@@ -10,50 +10,19 @@ use borrow.Author.Tests.{lt-ltb, le-ltb, ltb-true, not-false}
 use lib.Dec.{ltb}
 use lib.ListN.{length, replicate}
 use Rattle.listing.specs.declared.Answer.{Answer}
-use Rattle.listing.specs.Refusals.{notAFlag, outsideRanks}
+use Rattle.listing.specs.Refusals.{outsideRanks}
 use Rattle.listing.specs.Answers.{plain, fine, ifZero}
 use Rattle.listing.specs.Listing.{Listing, Limits, rank}
 use Rattle.listing.proofs.Answers.{or-no, no-or, on-no, on-off, then-go}
 use Rattle.matching.proofs.Sequences.{and-true, and-off}
 use Rattle.valid.specs.Closed.{Closed}
-use Rattle.valid.specs.Tests.{closed}
-use Rattle.valid.proofs.ClosedExact.{closed-exact}
+use Rattle.changing.specs.Flags.{startTest, IsFlag}
+use Rattle.changing.specs.Change.{changeAt, padded, Changes}
+use Rattle.changing.proofs.StartExact.{start-exact}
+use Rattle.changing.proofs.Padding.{padded-length}
+use Rattle.changing.proofs.Changes.{changes, flag-width}
 use Rattle.flag.specs.declared.Changed.{Changed}
-use Rattle.flag.specs.Flags.{flagTest, startTest, IsFlag}
-use Rattle.flag.specs.Change.{changeTest, changeAt, changedOf, padded, Changes}
-use Rattle.flag.proofs.FlagExact.{flag-exact}
-use Rattle.flag.proofs.Padding.{padded-length}
-use Rattle.flag.proofs.Changes.{changes, flag-width}
-
--- ---- 20
-
-module _ (m : Limits) (L : Listing) (f : List ℕ) where
-  module _ {a b : Answer} (e : a ≡ closed m L) (z : a .no ≡ 0) where
-    pub start-fine : flagTest L f ≡ true → b ≡ fine → b ≡ startTest m L f
-    unfolding startTest
-    start-fine t k = then-go e z (rw t k)
-
-    pub start-none : flagTest L f ≡ false → b ≡ plain notAFlag → b ≡ startTest m L f
-    unfolding startTest
-    start-none t k = then-go e z (rw t k)
-
-  -- The tests before a change or a search answer 0 exactly if the listing is closed and the numbers are a flag of it.
-  pub start-exact : startTest m L f .no ≡ 0 ↔ (Closed m L × IsFlag L f)
-  unfolding startTest
-  start-exact = (there, back)
-    where
-      there : startTest m L f .no ≡ 0 → Closed m L × IsFlag L f
-      there e =
-          let p = or-no (closed m L) _ e in
-          let t = on-no (not (flagTest L f)) (plain notAFlag) (λ z. omega arith) (p .1) in
-          (closed-exact m L .0 (p .0), flag-exact L f .0 (not-false _ t))
-
-      back : Closed m L × IsFlag L f → startTest m L f .no ≡ 0
-      back h =
-          no-or (closed m L) _ (closed-exact m L .1 (h .0))
-          (on-off (not (flagTest L f)) (plain notAFlag) (ap not (flag-exact L f .1 (h .1))))
-
--- ---- 21
+use Rattle.flag.specs.Changed.{changeTest, changedOf}
 
 module _ (m : Limits) (L : Listing) (f : List ℕ) (r : ℕ) where
   module _ {a b : Answer} (e : a ≡ startTest m L f) (z : a .no ≡ 0) where

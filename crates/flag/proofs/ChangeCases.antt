@@ -16,12 +16,14 @@ use Rattle.listing.proofs.Answers.{or-stop}
 use Rattle.valid.specs.Closed.{Closed}
 use Rattle.valid.specs.Tests.{closed}
 use Rattle.valid.proofs.ClosedExact.{closed-exact}
+use Rattle.changing.specs.Flags.{flagTest, startTest, IsFlag}
+use Rattle.changing.specs.Change.{changeAt, padded}
+use Rattle.changing.proofs.FlagExact.{flag-exact}
+use Rattle.changing.proofs.Changes.{changes}
+use Rattle.changing.proofs.StartExact.{start-exact, start-none}
 use Rattle.flag.specs.declared.Changed.{Changed}
-use Rattle.flag.specs.Flags.{flagTest, startTest, IsFlag}
-use Rattle.flag.specs.Change.{changeTest, changeAt, changedOf, padded}
-use Rattle.flag.proofs.FlagExact.{flag-exact}
-use Rattle.flag.proofs.Changes.{changes}
-use Rattle.flag.proofs.ChangeAnswers.{start-exact, start-none, change-fine, change-lowest, change-highest}
+use Rattle.flag.specs.Changed.{changeTest, changedOf}
+use Rattle.flag.proofs.ChangeAnswers.{change-fine, change-lowest, change-highest}
 use Rattle.flag.proofs.ChangeAnswers.{change-exact, change-changes, changed-none, changed-some}
 
 -- the answer of a refusal: all numbers of the flag are 0

@@ -1,9 +1,3 @@
-pub mod FlagExact
-pub mod Common
-pub mod Halving
-pub mod Padding
-pub mod Replaced
-pub mod Changes
 pub mod ChangeAnswers
 pub mod EventRow
 pub mod EventsTaken

@@ -1,4 +1,3 @@
-pub mod Flags
-pub mod Change
+pub mod Changed
 pub mod Orientations
 pub mod Events

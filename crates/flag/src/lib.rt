@@ -1,13 +1,12 @@
 // Flags: chains of elements from the lowest rank to the highest. Here are the change of a flag, its orientation, and
 // the events of a finished search.
-pub mod chain;
-
+use changing::chain;
 use listing::Answer;
 use listing::inner;
 use listing::refusal;
 ghost use mathlib.Core.Path.{_≡_};
 ghost use Rattle.listing.specs.Listing.{listing, limits};
-ghost use Rattle.flag.specs.Change.{changeTest, changedOf};
+ghost use Rattle.flag.specs.Changed.{changeTest, changedOf};
 ghost use Rattle.flag.specs.Orientations.{byteOf, ofByte, flipOf, signOf};
 ghost use Rattle.flag.specs.Events.{within, eventAt, events, nextAt, saidOf, Stepped};
 

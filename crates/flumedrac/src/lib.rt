@@ -14,7 +14,7 @@ ghost use Rattle.listing.specs.Counts.{rankOf, elCountOf, vertexCountOf, facetC
 ghost use Rattle.listing.specs.Listing.{listing, limits};
 ghost use Rattle.valid.specs.Tests as tests;
 ghost use Rattle.product.specs.Outcome.{Outcome};
-ghost use Rattle.flag.specs.Change.{changedOf};
+ghost use Rattle.flag.specs.Changed.{changedOf};
 ghost use Rattle.flag.specs.Events.{SaidStep};
 ghost use Rattle.flag.specs.Orientations.{ofByte, signOf};
 ghost use Rattle.search.specs.Outcome.{searchedBy, tableAfter, bytesAfter};

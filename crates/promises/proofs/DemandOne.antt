@@ -10,7 +10,8 @@ use Prim.Native.Nat.{ℕ, zero, suc}
 use lib.ListN.{replicate}
 use Rattle.listing.specs.Listing.{limits}
 use Rattle.listing.specs.Answers.{ifZero}
-use Rattle.flag.specs.Change.{changeAt, padded, changeTest, changedOf}
+use Rattle.changing.specs.Change.{changeAt, padded}
+use Rattle.flag.specs.Changed.{changeTest, changedOf}
 use Rattle.listing.proofs.shape.Reads as shape
 use Rattle.valid.proofs.bounded.Reads as bounded
 use Rattle.valid.proofs.check_incidences.Reads as check-incidences

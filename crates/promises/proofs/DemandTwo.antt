@@ -15,19 +15,19 @@ use Rattle.listing.proofs.Answers.{or-no, no-or}
 use Rattle.listing.proofs.ShapeExact.{shape-exact}
 use Rattle.matching.specs.Incidence.{Incident}
 use Rattle.matching.proofs.IncidenceExact.{incidences-exact}
+use Rattle.diamond.specs.Dyadic.{Diamond, Distinct}
+use Rattle.diamond.proofs.DyadicExact.{dyadic-exact, twice-diamond}
 use Rattle.valid.specs.Bounds.{Bounded}
-use Rattle.valid.specs.Dyadic.{Diamond, Distinct}
 use Rattle.valid.specs.Closed.{Closed}
 use Rattle.valid.specs.Tests as tests
 use Rattle.valid.proofs.BoundsExact.{bounded-exact}
-use Rattle.valid.proofs.DyadicExact.{dyadic-exact, twice-diamond}
 use Rattle.valid.proofs.ClosedExact.{valid-exact, closed-exact}
 use Rattle.valid.proofs.bounded.Reads as bounded
 use Rattle.valid.proofs.check_incidences.Reads as check-incidences
 use Rattle.valid.proofs.is_dyadic.Reads as is-dyadic
 use Rattle.valid.proofs.is_valid.Reads as is-valid
 use Rattle.valid.proofs.closed.Reads as closed
-use Rattle.flag.specs.Change.{Changes, changeAt, padded}
+use Rattle.changing.specs.Change.{Changes, changeAt, padded}
 use Rattle.flag.specs.declared.Event.the-variants.{Nothing}
 use Rattle.flag.specs.Events.{events, eventsOf, taken}
 use Rattle.flag.proofs.EventsTaken.{all-taken}

@@ -10,8 +10,8 @@ use Rattle.listing.specs.declared.Answer.{Answer}
 use Rattle.listing.specs.Refusals.{loneBetween}
 use Rattle.listing.specs.Answers.{refusal, fine}
 use Rattle.listing.specs.Listing.{Listing, listing, Limits, limits, rank}
+use Rattle.diamond.specs.Dyadic.{DiamondAt}
 use Rattle.valid.specs.Ascent.{Ascends}
-use Rattle.valid.specs.Dyadic.{DiamondAt}
 use Rattle.valid.specs.Tests.{isValid, closed}
 use Rattle.valid.proofs.ClosedExact.{closed-exact, closed-is-valid-and}
 use Rattle.closure.specs.Result.{HighEnough}

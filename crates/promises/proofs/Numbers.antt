@@ -14,9 +14,9 @@ use Rattle.order.specs.Lists.{has, occurs}
 use Rattle.listing.specs.Listing.{Listing, rank, count, entries, side, subs, sups}
 use Rattle.listing.proofs.Answers.{or-fine, or-stop}
 use Rattle.matching.specs.Incidence.{entryTest, alongTest, elementTest, incidencesTest}
+use Rattle.diamond.specs.Dyadic.{walk, thirdTest, seenAfter, loneTest, sectionsTest, dyadicTest}
 use Rattle.valid.specs.Bounds.{boundedTest}
 use Rattle.valid.specs.Ascent.{climbs, sideAscent, elementAscent, ascentTest}
-use Rattle.valid.specs.Dyadic.{walk, thirdTest, seenAfter, loneTest, sectionsTest, dyadicTest}
 use Rattle.promises.proofs.Broken.{zero-or}
 
 -- a refusal has one of the numbers from low to high

@@ -17,20 +17,20 @@ use Rattle.listing.proofs.ShapeExact.{fills-exact}
 use Rattle.matching.specs.Incidence.{Incident, incidencesTest}
 use Rattle.matching.proofs.IncidenceExact.{incidences-exact}
 use Rattle.matching.proofs.Sequences.{and-true, or-none}
+use Rattle.diamond.specs.Dyadic.{MetTwice, Diamond, dyadicTest}
+use Rattle.diamond.proofs.DyadicExact.{dyadic-counts, dyadic-exact}
 use Rattle.valid.specs.Bounds.{Bounded, boundedTest}
 use Rattle.valid.specs.Ascent.{Ascends, ascentTest}
-use Rattle.valid.specs.Dyadic.{MetTwice, Diamond, dyadicTest}
 use Rattle.valid.specs.Closed.{Closed}
 use Rattle.valid.specs.Tests.{bounded, checkIncidences, isDyadic, isValid, closed}
 use Rattle.valid.proofs.BoundsExact.{bounded-exact}
 use Rattle.valid.proofs.AscentExact.{ascent-exact, ascends-distinct}
-use Rattle.valid.proofs.DyadicExact.{dyadic-counts, dyadic-exact}
 use Rattle.closure.specs.Result.{combCase, resultOf}
 use Rattle.sizing.specs.Sizing.{sizeTest}
 use Rattle.product.specs.Outcome.{productTest}
-use Rattle.flag.specs.Flags.{flagTest, startTest, IsFlag}
-use Rattle.flag.specs.Change.{changeTest}
-use Rattle.flag.proofs.FlagExact.{flag-exact}
+use Rattle.changing.specs.Flags.{flagTest, startTest, IsFlag}
+use Rattle.changing.proofs.FlagExact.{flag-exact}
+use Rattle.flag.specs.Changed.{changeTest}
 use Rattle.promises.specs.Rules.{Rule, FirstBroken, Filled, shapeRules}
 use Rattle.promises.specs.Rules.{flagRule, changeRules, productRules}
 use Rattle.promises.specs.Rules.{boundedRules, incidentRules, dyadicRules, validRules, closedRules}

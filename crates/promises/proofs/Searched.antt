@@ -12,15 +12,15 @@ use Rattle.listing.specs.Answers.{plain, ifZero, on, _orElse_}
 use Rattle.listing.specs.Listing.{Listing, limits, rank}
 use Rattle.listing.proofs.Answers.{or-fine, on-no, on-off}
 use Rattle.valid.specs.Closed.{Closed}
-use Rattle.flag.specs.Flags.{startTest, IsFlag}
-use Rattle.flag.proofs.ChangeAnswers.{start-exact}
+use Rattle.changing.specs.Flags.{startTest, IsFlag}
+use Rattle.changing.proofs.StartExact.{start-exact}
 use Rattle.searching.specs.Search.{State, More}
+use Rattle.masks.specs.Masks.{maskFits}
+use Rattle.masks.proofs.Ranks.{fits-exact}
 use Rattle.search.specs.declared.Searched.{Searched}
-use Rattle.search.specs.Masks.{maskFits}
 use Rattle.search.specs.Searched.{foundBy}
 use Rattle.search.specs.Outcome.{refusedAs, foundAs, searchTest, searchedOf, searchedBy, tableAfter, bytesAfter}
 use Rattle.search.specs.Exact.{Inside, Taken, Leads, Promised}
-use Rattle.search.proofs.Ranks.{fits-exact}
 use Rattle.search.proofs.Exact.{promised}
 use Rattle.promises.specs.Rules.{FirstBroken, searchRules}
 use Rattle.promises.specs.Searches.{roomIn, Searches, Found}

@@ -11,9 +11,9 @@ use Rattle.listing.specs.Shape.{fills, shapeTest}
 use Rattle.listing.specs.Layers.{gather, derived}
 use Rattle.listing.specs.Written.{joined, table as numbers, listAt, nth, written}
 use Rattle.matching.specs.Incidence.{entryTest, alongTest, elementTest, incidencesTest}
+use Rattle.diamond.specs.Dyadic.{subsOfAll, thirdTest, seenAfter, loneTest, sectionsTest, dyadicTest}
 use Rattle.valid.specs.Bounds.{boundedTest}
 use Rattle.valid.specs.Ascent.{climbs, elementAscent, ascentTest}
-use Rattle.valid.specs.Dyadic.{subsOfAll, thirdTest, seenAfter, loneTest, sectionsTest, dyadicTest}
 use Rattle.valid.specs.Tests.{isValid, closed}
 use Rattle.pairing.specs.Trimmed.{trimSize, trimUnder}
 use Rattle.pairing.specs.Paired.{block, offset, position, pairOf, pairAt, leftSubs, rightSubs}
@@ -22,8 +22,9 @@ use Rattle.pairing.specs.Product.{product, productOf}
 use Rattle.closure.specs.Result.{nullCase, combCase, resultOf}
 use Rattle.sizing.specs.Sizing.{sizeTest}
 use Rattle.product.specs.Outcome.{productTest}
-use Rattle.flag.specs.Flags.{every, flagAt, flagTest, startTest}
-use Rattle.flag.specs.Change.{common, other, between, changeAt, padded, changeTest, changedOf}
+use Rattle.changing.specs.Flags.{every, flagAt, flagTest, startTest}
+use Rattle.changing.specs.Change.{common, other, between, changeAt, padded}
+use Rattle.flag.specs.Changed.{changeTest, changedOf}
 use Rattle.promises.specs.Starred.{answered, table}
 
 -- Computing each row of the table gives the answers that stand in it.

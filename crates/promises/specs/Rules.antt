@@ -28,12 +28,12 @@ use Rattle.listing.specs.Refusals.{productIncidences, outputShort}
 use Rattle.listing.specs.Listing.{Listing, Limits, rank, start}
 use Rattle.listing.specs.Shape.{elements}
 use Rattle.matching.specs.Incidence.{Incident}
+use Rattle.diamond.specs.Dyadic.{MetTwice, Diamond}
 use Rattle.valid.specs.Bounds.{Bounded}
 use Rattle.valid.specs.Ascent.{Ascends}
-use Rattle.valid.specs.Dyadic.{MetTwice, Diamond}
 use Rattle.valid.specs.Tests.{isValid}
 use Rattle.closure.specs.Result.{combCase, resultOf}
-use Rattle.flag.specs.Flags.{IsFlag}
+use Rattle.changing.specs.Flags.{IsFlag}
 use Rattle.searching.specs.Search.{More}
 use Rattle.search.specs.Exact.{Inside, Leads}
 

@@ -24,8 +24,9 @@ use Rattle.listing.specs.Cells.{nullitope, point, dyad, triangle, nothing, twoM
 use Rattle.valid.specs.Tests.{isValid, closed}
 use Rattle.closure.specs.Result.{resultOf}
 use Rattle.product.specs.Outcome.{productTest}
+use Rattle.changing.specs.Change.{padded}
 use Rattle.flag.specs.declared.Changed.{Changed}
-use Rattle.flag.specs.Change.{changedOf, padded}
+use Rattle.flag.specs.Changed.{changedOf}
 
 abbrev pub square : Listing
 square =

@@ -8,7 +8,7 @@ use lib.ListN.{length, getD, take, set}
 use lib.Seq.{length-take-le, getD-take, take-set-lt, set-set, set-getD}
 use Rattle.listing.specs.Listing.{Listing, limits, rank, subs, sups}
 use Rattle.valid.specs.Closed.{Closed}
-use Rattle.flag.specs.Change.{common, other, between, changeAt, Neighbours}
+use Rattle.changing.specs.Change.{common, other, between, changeAt, Neighbours}
 use Rattle.store.specs.Hash.{hashes, weight, hashOf}
 use Rattle.store.proofs.Hash.{old-inside, hash-changed}
 use Rattle.search.specs.Ready.{AtHand}

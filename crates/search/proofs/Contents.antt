@@ -16,7 +16,7 @@ use lib.Seq.{drop-at, ext-getD}
 use Rattle.order.specs.Flags.{Reach}
 use Rattle.listing.specs.Answers.{fine}
 use Rattle.listing.specs.Listing.{Listing, Limits, rank}
-use Rattle.flag.specs.Flags.{IsFlag}
+use Rattle.changing.specs.Flags.{IsFlag}
 use Rattle.searching.specs.Search.{State, Neighbour, More, Kept, Colouring, tone}
 use Rattle.searching.proofs.Once.{in-at}
 use Rattle.searching.proofs.Lookup.{index-only}

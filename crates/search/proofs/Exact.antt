@@ -15,20 +15,20 @@ use Rattle.listing.proofs.Answers.{or-stop}
 use Rattle.valid.specs.Closed.{Closed}
 use Rattle.valid.specs.Tests.{closed}
 use Rattle.valid.proofs.ClosedExact.{closed-exact}
-use Rattle.flag.specs.Flags.{IsFlag, flagTest, startTest}
-use Rattle.flag.proofs.FlagExact.{flag-exact}
-use Rattle.flag.proofs.ChangeAnswers.{start-exact, start-none}
+use Rattle.changing.specs.Flags.{IsFlag, flagTest, startTest}
+use Rattle.changing.proofs.FlagExact.{flag-exact}
+use Rattle.changing.proofs.StartExact.{start-exact, start-none}
 use Rattle.searching.specs.Search.{State, More}
 use Rattle.searching.proofs.Found.{over-exact, over-full}
 use Rattle.searching.proofs.Prefix.{prefix}
 use Rattle.store.specs.Rows.{rows, sameList, flatten}
 use Rattle.store.proofs.Rows.{same-decides}
+use Rattle.masks.specs.Masks.{maskFits}
+use Rattle.masks.proofs.Ranks.{fits-exact}
 use Rattle.search.specs.declared.Searched.{Searched}
-use Rattle.search.specs.Masks.{maskFits}
 use Rattle.search.specs.Searched.{neighbours, foundBy}
 use Rattle.search.specs.Outcome.{refusedAs, foundAs, roomOf, tableAfter, bytesAfter}
 use Rattle.search.specs.Exact.{Inside, Taken, Leads, Holds, Finds, room, said, number, After, Promised}
-use Rattle.search.proofs.Ranks.{fits-exact}
 use Rattle.search.proofs.Leads.{more-leads}
 use Rattle.search.proofs.Outcomes.{Outcome, Written, room-fits, outcome-start, outcome-mask, said-full}
 use Rattle.search.proofs.Outcomes.{said-fine}

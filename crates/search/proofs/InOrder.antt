@@ -8,14 +8,14 @@ use native.Mathlib.Decide.{ℕ-discrete}
 use native.Mathlib.Omega.{arith}
 use lib.ListN.{length, getD}
 use Rattle.listing.specs.Listing.{Listing}
-use Rattle.flag.specs.Change.{changeAt}
-use Rattle.flag.proofs.Halving.{ascending-at, ascending-back}
+use Rattle.changing.specs.Change.{changeAt}
+use Rattle.changing.proofs.Halving.{ascending-at, ascending-back}
 use Rattle.searching.specs.Course.{Earlier, Stands, Agrees, Inside, nbr, Came, Clash}
 use Rattle.searching.proofs.Once.{in-at, at-in}
-use Rattle.search.specs.Masks.{ranksOf}
+use Rattle.masks.specs.Masks.{ranksOf}
+use Rattle.masks.proofs.Ranks.{ranks-exact, ranks-ascend}
 use Rattle.search.specs.Searched.{neighbours}
 use Rattle.search.specs.Exact.{Asked, FirstMet, Repeat}
-use Rattle.search.proofs.Ranks.{ranks-exact, ranks-ascend}
 use Rattle.search.proofs.Neighbours.{mem-in, in-mem}
 
 -- ---- places in lists

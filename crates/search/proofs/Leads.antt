@@ -7,15 +7,15 @@ use mathlib.Core.List.{List, Memᴰ·map, Memᴰ·of-map, Memᴰ·cast}
 use Prim.Native.Nat.{ℕ, _<_}
 use Rattle.order.specs.Flags.{Reach, start, next}
 use Rattle.listing.specs.Listing.{Listing, Limits}
-use Rattle.flag.specs.Flags.{IsFlag}
-use Rattle.flag.specs.Change.{changeAt, Changes}
-use Rattle.flag.proofs.Changes.{changes}
+use Rattle.changing.specs.Flags.{IsFlag}
+use Rattle.changing.specs.Change.{changeAt, Changes}
+use Rattle.changing.proofs.Changes.{changes}
 use Rattle.searching.specs.Search.{Neighbour, More, Colouring}
-use Rattle.search.specs.Masks.{bit, ranksOf}
+use Rattle.masks.specs.Masks.{bit, ranksOf}
+use Rattle.masks.proofs.Ranks.{ranks-exact}
 use Rattle.search.specs.Searched.{neighbours}
 use Rattle.search.specs.Ready.{Within}
 use Rattle.search.specs.Exact.{Taken, Leads}
-use Rattle.search.proofs.Ranks.{ranks-exact}
 use Rattle.search.proofs.Neighbours.{mem-in, in-mem}
 
 module _ {m : Limits} {L : Listing} {first : List ℕ} {mask : ℕ} (T : Taken m L first mask) where

@@ -1,5 +1,3 @@
-pub mod Low
-pub mod Ranks
 pub mod Begins
 pub mod AtHand
 pub mod Neighbours

@@ -11,15 +11,15 @@ use lib.ListN.{length}
 use Rattle.order.specs.Lists.{In}
 use Rattle.listing.specs.Listing.{Listing, Limits}
 use Rattle.valid.specs.Closed.{Closed}
-use Rattle.flag.specs.Flags.{IsFlag}
-use Rattle.flag.specs.Change.{changeAt}
-use Rattle.flag.proofs.Changes.{changes}
+use Rattle.changing.specs.Flags.{IsFlag}
+use Rattle.changing.specs.Change.{changeAt}
+use Rattle.changing.proofs.Changes.{changes}
 use Rattle.searching.specs.Search.{State, meet, meetAll}
 use Rattle.searching.proofs.Once.{in-at, at-in}
 use Rattle.searching.proofs.Step.{meet-cases}
 use Rattle.store.specs.Rows.{rows}
 use Rattle.store.proofs.Rows.{rows-length, rows-at}
-use Rattle.search.specs.Masks.{ranksOf}
+use Rattle.masks.specs.Masks.{ranksOf}
 use Rattle.search.specs.Searched.{neighbours}
 use Rattle.search.specs.Ready.{Within, AllFlags}
 

@@ -10,7 +10,7 @@ use native.Mathlib.Omega.{arith}
 use lib.ListN.{length, getD, take, drop, take-append-drop}
 use lib.Seq.{ext-getD, getD-drop}
 use Rattle.listing.specs.Listing.{Listing, rank}
-use Rattle.flag.specs.Change.{changeAt}
+use Rattle.changing.specs.Change.{changeAt}
 use Rattle.searching.specs.Search.{Once}
 use Rattle.searching.specs.Course.{Earlier}
 use Rattle.searching.proofs.Once.{in-at}

@@ -13,14 +13,14 @@ use Rattle.listing.specs.declared.Answer.{Answer}
 use Rattle.listing.specs.Answers.{plain, fine, ifZero, on}
 use Rattle.listing.specs.Listing.{Listing, Limits, rank}
 use Rattle.listing.proofs.Answers.{or-fine, or-stop}
-use Rattle.flag.specs.Flags.{startTest}
+use Rattle.changing.specs.Flags.{startTest}
 use Rattle.searching.specs.Search.{State}
 use Rattle.store.specs.declared.found.Progress.{Progress}
 use Rattle.store.specs.Rows.{flatten}
 use Rattle.store.specs.Held.{stateOf}
 use Rattle.store.proofs.Rows.{rows-length, rows-flat}
+use Rattle.masks.specs.Masks.{maskFits}
 use Rattle.search.specs.declared.Searched.{Searched}
-use Rattle.search.specs.Masks.{maskFits}
 use Rattle.search.specs.Searched.{foundBy}
 use Rattle.search.specs.Outcome.{refusedAs, foundAs, roomOf, searchTest, searchedOf, after, searchedBy}
 use Rattle.search.specs.Outcome.{tableAfter, bytesAfter}

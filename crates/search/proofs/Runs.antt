@@ -9,7 +9,7 @@ use lib.ListN.{length, getD}
 use lib.Seq.{getD-take}
 use Rattle.listing.specs.Listing.{Listing, limits}
 use Rattle.valid.specs.Closed.{Closed}
-use Rattle.flag.specs.Flags.{IsFlag}
+use Rattle.changing.specs.Flags.{IsFlag}
 use Rattle.searching.specs.Search.{meetAll, work, run}
 use Rattle.searching.proofs.Run.{run-next, run-stop, run-end}
 use Rattle.store.specs.declared.found.Progress.{Progress}

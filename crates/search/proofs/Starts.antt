@@ -8,8 +8,8 @@ use native.Mathlib.Omega.{arith}
 use lib.ListN.{length, take, replicate, length-replicate, getD-replicate}
 use lib.Seq.{take-at}
 use Rattle.listing.specs.Listing.{Listing, limits}
-use Rattle.flag.specs.Flags.{IsFlag}
-use Rattle.flag.specs.Change.{padded}
+use Rattle.changing.specs.Flags.{IsFlag}
+use Rattle.changing.specs.Change.{padded}
 use Rattle.searching.specs.Search.{nothing, Once, meet, run, search}
 use Rattle.searching.specs.Chain.{latest}
 use Rattle.store.specs.declared.found.Progress.{Progress}

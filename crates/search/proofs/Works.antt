@@ -12,17 +12,17 @@ use lib.ListN.{length, drop}
 use lib.Seq.{drop-drop}
 use Rattle.order.specs.Lists.{In}
 use Rattle.listing.specs.Listing.{Listing, rank}
-use Rattle.flag.specs.Change.{changeAt}
+use Rattle.changing.specs.Change.{changeAt}
 use Rattle.searching.specs.Search.{State, meet, meetAll}
 use Rattle.searching.proofs.Step.{meets-over}
 use Rattle.store.specs.declared.found.Progress.{Progress}
 use Rattle.store.specs.Rows.{sameList}
 use Rattle.store.specs.Held.{stateOf, Held, Rest, Moved}
 use Rattle.store.proofs.Meets.{moved-none}
-use Rattle.search.specs.Masks.{ranksOf}
+use Rattle.masks.specs.Masks.{ranksOf}
+use Rattle.masks.proofs.Ranks.{ranks-next, ranks-none}
 use Rattle.search.specs.Searched.{neighbours}
 use Rattle.search.specs.Ready.{Within}
-use Rattle.search.proofs.Ranks.{ranks-next, ranks-none}
 
 -- ---- one move after another
 

@@ -24,13 +24,13 @@ use Rattle.listing.specs.Answers.{plain, fine}
 use Rattle.listing.specs.Listing.{Listing, Limits, rank}
 use Rattle.valid.specs.Closed.{Closed}
 use Rattle.valid.specs.Tests.{closed}
-use Rattle.flag.specs.Flags.{IsFlag}
-use Rattle.flag.specs.Change.{changeAt}
+use Rattle.changing.specs.Flags.{IsFlag}
+use Rattle.changing.specs.Change.{changeAt}
 use Rattle.searching.specs.Search.{Once, More, Colouring, tone}
 use Rattle.searching.specs.Course.{Earlier, Stands, Agrees}
 use Rattle.store.specs.Rows.{rowOf, rows}
+use Rattle.masks.specs.Masks.{bit}
 use Rattle.search.specs.declared.Searched.{Searched}
-use Rattle.search.specs.Masks.{bit}
 use Rattle.search.specs.Searched.{foundBy}
 use Rattle.search.specs.Outcome.{refusedAs, roomOf, searchedBy, tableAfter, bytesAfter}
 

@@ -1,4 +1,3 @@
-pub mod Masks
 pub mod Searched
 pub mod Outcome
 pub mod Ready

@@ -19,11 +19,11 @@ use Rattle.listing.specs.declared.Answer.{Answer}
 use Rattle.listing.specs.Refusals.{outsideRanks, moreFlags}
 use Rattle.listing.specs.Answers.{plain, ifZero, on, _orElse_}
 use Rattle.listing.specs.Listing.{Listing, Limits, rank}
-use Rattle.flag.specs.Flags.{startTest}
+use Rattle.changing.specs.Flags.{startTest}
 use Rattle.searching.specs.Search.{State}
 use Rattle.store.specs.Rows.{flatten}
+use Rattle.masks.specs.Masks.{maskFits}
 use Rattle.search.specs.declared.Searched.{Searched}
-use Rattle.search.specs.Masks.{maskFits}
 use Rattle.search.specs.Searched.{foundBy}
 
 abbrev pub refusedAs : Answer → Searched

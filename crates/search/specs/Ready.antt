@@ -13,13 +13,13 @@ use lib.ListN.{length, getD, take}
 use Rattle.order.specs.Lists.{In}
 use Rattle.listing.specs.Listing.{Listing, limits, rank, before}
 use Rattle.valid.specs.Closed.{Closed}
-use Rattle.flag.specs.Flags.{IsFlag}
+use Rattle.changing.specs.Flags.{IsFlag}
 use Rattle.searching.specs.Search.{State}
 use Rattle.store.specs.declared.found.Progress.{Progress}
 use Rattle.store.specs.Rows.{rowOf}
 use Rattle.store.specs.Hash.{hashes, sumFrom, Weights}
 use Rattle.store.specs.Held.{stateOf, Rest}
-use Rattle.search.specs.Masks.{ranksOf}
+use Rattle.masks.specs.Masks.{ranksOf}
 
 pub record Ended (w room : ℕ) (table bytes table′ bytes′ : List ℕ) (r : Progress) (S : State (List ℕ)) : Type 0 where
   pub state : stateOf w table′ bytes′ r ≡ S

@@ -5,10 +5,10 @@
 use mathlib.Core.List.{List, map}
 use Prim.Native.Nat.{ℕ}
 use Rattle.listing.specs.Listing.{Listing}
-use Rattle.flag.specs.Change.{changeAt}
+use Rattle.changing.specs.Change.{changeAt}
 use Rattle.searching.specs.Search.{State, search}
 use Rattle.store.specs.Rows.{sameList}
-use Rattle.search.specs.Masks.{ranksOf}
+use Rattle.masks.specs.Masks.{ranksOf}
 
 unfoldable pub neighbours : Listing → ℕ → List ℕ → List (List ℕ)
 neighbours L mask f = map (λ r. changeAt L r f) (ranksOf mask)

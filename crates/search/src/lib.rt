@@ -1,12 +1,12 @@
 // The search for the flags of a cell that changes lead to from a first flag, and for an orientation of them.
 mod answer;
-mod mask;
 mod walk;
 
-use flag::chain;
+use changing::chain;
 use listing::Answer;
 use listing::inner;
 use listing::refusal;
+use masks::mask;
 use store::row;
 ghost use mathlib.Core.Path.{_≡_};
 ghost use Rattle.listing.specs.Listing.{listing, limits};

@@ -1,10 +1,10 @@
 // The search on a listing that is known to be closed: flags are kept in the table in the order found, and worked in
 // that order.
-use crate::mask;
+use changing::chain;
 use flag::Orientation;
-use flag::chain;
 use listing::inner;
 use listing::limit;
+use masks::mask;
 use store::found;
 use store::found::Progress;
 use store::index;
@@ -16,8 +16,8 @@ ghost use Prim.Native.Nat.{ℕ, _-_, _*_, _≤_, _<_};
 ghost use lib.ListN.{length, getD, take};
 ghost use Rattle.listing.specs.Listing.{listing, limits, rank};
 ghost use Rattle.valid.specs.Closed.{Closed};
-ghost use Rattle.flag.specs.Flags.{IsFlag};
-ghost use Rattle.flag.specs.Change.{changeAt};
+ghost use Rattle.changing.specs.Flags.{IsFlag};
+ghost use Rattle.changing.specs.Change.{changeAt};
 ghost use Rattle.searching.specs.Search.{meet as meetIn, meetAll, run as runIn};
 ghost use Rattle.store.specs.Rows.{rowOf, sameList};
 ghost use Rattle.store.specs.Held.{stateOf, Held, Moved};

@@ -11,14 +11,14 @@ use Rattle.listing.proofs.Answers.{or-no, no-or}
 use Rattle.listing.proofs.ShapeExact.{shape-exact}
 use Rattle.matching.specs.Incidence.{Incident}
 use Rattle.matching.proofs.IncidenceExact.{incidences-exact}
+use Rattle.diamond.specs.Dyadic.{DiamondAt, Diamond, MetTwice}
+use Rattle.diamond.proofs.DyadicExact.{dyadic-counts, twice-diamond, dyadic-exact}
 use Rattle.valid.specs.Bounds.{Bounded}
 use Rattle.valid.specs.Ascent.{Ascends}
-use Rattle.valid.specs.Dyadic.{DiamondAt, Diamond, MetTwice}
 use Rattle.valid.specs.Tests.{isValid, closed}
 use Rattle.valid.specs.Closed.{Closed}
 use Rattle.valid.proofs.BoundsExact.{bounded-exact}
 use Rattle.valid.proofs.AscentExact.{ascent-exact, ascends-distinct}
-use Rattle.valid.proofs.DyadicExact.{dyadic-counts, twice-diamond, dyadic-exact}
 
 module _ (m : Limits) (L : Listing) where
   -- is_valid answers 0 exactly if the listing is shaped, bounded and incident, and below the top each index that a walk

@@ -1,8 +1,3 @@
 pub mod BoundsExact
 pub mod AscentExact
-pub mod Walks
-pub mod Ones
-pub mod Counting
-pub mod Twos
-pub mod DyadicExact
 pub mod ClosedExact

@@ -4,9 +4,9 @@
 use Rattle.listing.specs.Listing.{Listing, Limits, rank}
 use Rattle.listing.specs.Shape.{Shaped}
 use Rattle.matching.specs.Incidence.{Incident}
+use Rattle.diamond.specs.Dyadic.{Diamond}
 use Rattle.valid.specs.Bounds.{Bounded}
 use Rattle.valid.specs.Ascent.{Ascends}
-use Rattle.valid.specs.Dyadic.{Diamond}
 
 pub record Closed (m : Limits) (L : Listing) : Type 0 where
   pub shaped : Shaped m L

@@ -11,9 +11,9 @@ use Rattle.listing.specs.Answers.{_orElse_}
 use Rattle.listing.specs.Listing.{Listing, Limits, rank}
 use Rattle.listing.specs.Shape.{shapeTest}
 use Rattle.matching.specs.Incidence.{incidencesTest}
+use Rattle.diamond.specs.Dyadic.{dyadicTest}
 use Rattle.valid.specs.Bounds.{boundedTest}
 use Rattle.valid.specs.Ascent.{ascentTest}
-use Rattle.valid.specs.Dyadic.{dyadicTest}
 
 unfoldable pub bounded : Limits → Listing → Answer
 bounded m L = shapeTest m L orElse boundedTest L

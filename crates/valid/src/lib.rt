@@ -2,8 +2,8 @@
 // any three slices and tests their shape first; the modules hold the tests of a listing whose shape is known.
 pub mod ascent;
 pub mod bounds;
-pub mod dyadic;
 
+use diamond::dyadic;
 use listing::Answer;
 use matching::incidence;
 ghost use mathlib.Core.Path.{_≡_};

@@ -3,8 +3,9 @@
 use native.Mathlib.Omega.{arith}
 use borrow.Author.Needs.{needs}
 use Rattle.listing.proofs.Answers.{then-stop, no-of}
-use Rattle.flag.specs.Change.{changeTest}
-use Rattle.flag.proofs.ChangeAnswers.{start-exact, change-fine, change-lowest, change-highest}
+use Rattle.changing.proofs.StartExact.{start-exact}
+use Rattle.flag.specs.Changed.{changeTest}
+use Rattle.flag.proofs.ChangeAnswers.{change-fine, change-lowest, change-highest}
 use Rattle.flag.proofs.check_change.Statement.{statement}
 use Rattle.flag.proofs.check_change.Tie as tie
 

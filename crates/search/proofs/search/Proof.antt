@@ -10,14 +10,14 @@ use lib.ListN.{length}
 use Rattle.listing.proofs.Answers.{no-of}
 use Rattle.listing.specs.Listing.{Listing, listing, limits, rank}
 use Rattle.valid.specs.Closed.{Closed}
-use Rattle.flag.proofs.ChangeAnswers.{start-exact}
-use Rattle.flag.specs.Flags.{startTest, IsFlag}
+use Rattle.changing.proofs.StartExact.{start-exact}
+use Rattle.changing.specs.Flags.{startTest, IsFlag}
+use Rattle.masks.specs.Masks.{maskFits}
+use Rattle.masks.proofs.Ranks.{fits-ranks}
 use Rattle.search.specs.Ready.{Ended}
 use Rattle.search.specs.Searched.{foundBy}
 use Rattle.search.specs.Outcome.{refusedAs, roomOf}
-use Rattle.search.specs.Masks.{maskFits}
 use Rattle.search.proofs.Outcomes.{room-is, room-fits, outcome-start, outcome-mask, outcome-over, outcome-found}
-use Rattle.search.proofs.Ranks.{fits-ranks}
 use Rattle.search.proofs.search.Statement.{statement}
 use Rattle.search.proofs.search.Tie as tie
 

@@ -6,7 +6,7 @@ use native.Mathlib.Omega.{arith}
 use borrow.Author.Needs.{needs}
 use lib.ListN.{length, take}
 use Rattle.listing.specs.Listing.{Listing, listing}
-use Rattle.flag.proofs.Padding.{padded-length}
+use Rattle.changing.proofs.Padding.{padded-length}
 use Rattle.searching.specs.Search.{meet}
 use Rattle.store.specs.Held.{stateOf, Moved}
 use Rattle.store.specs.Rows.{sameList}

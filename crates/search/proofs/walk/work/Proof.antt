@@ -14,10 +14,10 @@ use Rattle.searching.specs.Search.{meetAll}
 use Rattle.store.specs.Held.{stateOf}
 use Rattle.store.specs.Rows.{sameList, rowOf}
 use Rattle.store.proofs.Rows.{row-end}
+use Rattle.masks.proofs.Low.{low-fits}
 use Rattle.search.specs.Ready.{AtHand}
 use Rattle.search.specs.Searched.{neighbours}
 use Rattle.search.proofs.Works.{Working, working-start, working-rank, working-next, working-stop, working-end}
-use Rattle.search.proofs.Low.{low-fits}
 use Rattle.search.proofs.walk.work.Statement.{statement}
 use Rattle.search.proofs.walk.work.Tie as tie
 

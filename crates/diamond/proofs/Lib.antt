@@ -1,0 +1,5 @@
+pub mod Walks
+pub mod Ones
+pub mod Counting
+pub mod Twos
+pub mod DyadicExact

@@ -1,0 +1,2 @@
+pub mod Dyadic
+pub mod Tally
