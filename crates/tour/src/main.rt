@@ -97,100 +97,65 @@ fn faults() {
     );
 }
 
-// A product of two dyads.
-fn of_dyads(name: &[u8], kind: Kind) {
+// Products of the nullitope n, the point p, the dyad d and the triangle t.
+fn products(
+    nc: &[u16],
+    ne: &[u16],
+    ni: &[u16],
+    pc: &[u16],
+    pe: &[u16],
+    pi: &[u16],
+    dc: &[u16],
+    de: &[u16],
+    di: &[u16],
+    tc: &[u16],
+    te: &[u16],
+    ti: &[u16],
+) {
     made::show(
-        name,
-        kind,
-        &cells::dyad::COUNTS,
-        &cells::dyad::ENDS,
-        &cells::dyad::INC,
-        &cells::dyad::COUNTS,
-        &cells::dyad::ENDS,
-        &cells::dyad::INC,
+        b"prism: duoprism(T, D)",
+        Kind::Duoprism,
+        tc,
+        te,
+        ti,
+        dc,
+        de,
+        di,
     );
+    made::show(b"duoprism(D, D)", Kind::Duoprism, dc, de, di, dc, de, di);
+    made::show(
+        b"duopyramid(D, P)",
+        Kind::Duopyramid,
+        dc,
+        de,
+        di,
+        pc,
+        pe,
+        pi,
+    );
+    made::show(b"duoprism(N, T)", Kind::Duoprism, nc, ne, ni, tc, te, ti);
+    made::show(b"duotegum(D, D)", Kind::Duotegum, dc, de, di, dc, de, di);
+    made::show(b"duocomb(D, D)", Kind::Duocomb, dc, de, di, dc, de, di);
+    made::show(b"duocomb(P, P)", Kind::Duocomb, pc, pe, pi, pc, pe, pi);
+    made::show(b"duocomb(T, T)", Kind::Duocomb, tc, te, ti, tc, te, ti);
 }
 
-// A product of a dyad and a point.
-fn of_dyad_and_point(name: &[u8], kind: Kind) {
-    made::show(
-        name,
-        kind,
-        &cells::dyad::COUNTS,
-        &cells::dyad::ENDS,
-        &cells::dyad::INC,
-        &cells::point::COUNTS,
-        &cells::point::ENDS,
-        &cells::point::INC,
-    );
-}
-
-// A product of the nullitope and a triangle.
-fn of_nullitope_and_triangle(name: &[u8], kind: Kind) {
-    made::show(
-        name,
-        kind,
+// Products of small cells.
+fn built() {
+    products(
         &cells::nullitope::COUNTS,
         &cells::nullitope::ENDS,
         &cells::nullitope::INC,
-        &cells::triangle::COUNTS,
-        &cells::triangle::ENDS,
-        &cells::triangle::INC,
-    );
-}
-
-// A product of two points.
-fn of_points(name: &[u8], kind: Kind) {
-    made::show(
-        name,
-        kind,
         &cells::point::COUNTS,
         &cells::point::ENDS,
         &cells::point::INC,
-        &cells::point::COUNTS,
-        &cells::point::ENDS,
-        &cells::point::INC,
-    );
-}
-
-// A product of two triangles.
-fn of_triangles(name: &[u8], kind: Kind) {
-    made::show(
-        name,
-        kind,
-        &cells::triangle::COUNTS,
-        &cells::triangle::ENDS,
-        &cells::triangle::INC,
-        &cells::triangle::COUNTS,
-        &cells::triangle::ENDS,
-        &cells::triangle::INC,
-    );
-}
-
-// A product of a triangle and a dyad.
-fn of_triangle_and_dyad(name: &[u8], kind: Kind) {
-    made::show(
-        name,
-        kind,
-        &cells::triangle::COUNTS,
-        &cells::triangle::ENDS,
-        &cells::triangle::INC,
         &cells::dyad::COUNTS,
         &cells::dyad::ENDS,
         &cells::dyad::INC,
+        &cells::triangle::COUNTS,
+        &cells::triangle::ENDS,
+        &cells::triangle::INC,
     );
-}
-
-// Products.
-fn products() {
-    of_triangle_and_dyad(b"prism: duoprism(T, D)", Kind::Duoprism);
-    of_dyads(b"duoprism(D, D)", Kind::Duoprism);
-    of_dyad_and_point(b"duopyramid(D, P)", Kind::Duopyramid);
-    of_nullitope_and_triangle(b"duoprism(N, T)", Kind::Duoprism);
-    of_dyads(b"duotegum(D, D)", Kind::Duotegum);
-    of_dyads(b"duocomb(D, D)", Kind::Duocomb);
-    of_points(b"duocomb(P, P)", Kind::Duocomb);
-    of_triangles(b"duocomb(T, T)", Kind::Duocomb);
 }
 
 // What comes before the table.
@@ -211,15 +176,15 @@ fn headline() {
 // What the table shows.
 fn last_words() {
     line::print(
-        b"\nWhat let the insurer's cell through: is_valid counts what lies between two elements only below",
+        b"\nWhat let the insurer's cell through: is_valid asks for two elements in between only below the cell",
     );
     line::print(
-        b"the cell itself, so it never asks whether each edge lies in two of the cell's faces; closed asks.",
+        b"itself, so an edge that lies in only one of its faces goes unseen; closed asks up to the cell itself.",
     );
     line::print(
-        b"Products keep cells closed: a product of two closed cells is closed again, which is proved once",
+        b"Products keep cells closed: a product of two closed cells is closed again, which is proved once for",
     );
-    line::print(b"for all four, and the one exception is the duocomb of two dyads.");
+    line::print(b"all four, and the one exception is the duocomb of two dyads.");
 }
 
 fn main() {
@@ -227,7 +192,7 @@ fn main() {
     small();
     boxes();
     line::print(b"");
-    products();
+    built();
     line::print(b"");
     faults();
     last_words();

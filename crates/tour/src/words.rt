@@ -67,26 +67,28 @@ fn side(at: usize, s: u16) -> usize {
     line::text(at, b"the sups of ")
 }
 
+// How many there are at each end, where it is not one and one.
+fn ends(at: usize, a: Answer) -> usize {
+    let smallest = line::text(line::number(at, a.a), b" smallest and ");
+    line::text(line::number(smallest, a.b), b" largest elements")
+}
+
+// An entry that is not there.
+fn missing(at: usize, entry: u16) -> usize {
+    line::text(line::number(at, entry), b", which is missing")
+}
+
 // A refusal of a listing of rank top.
 fn refusal(at: usize, a: Answer, top: usize) -> usize {
     let no = a.no;
     match no {
-        10 => line::number(
-            line::text(line::number(at, a.a), b" at the bottom, at the top "),
-            a.b,
-        ),
+        10 => ends(at, a),
         11 => line::text(element(at, a.a, a.b), b" has nothing under it"),
         12 => line::text(element(at, a.a, a.b), b" has nothing over it"),
         13 => not_back(at, a, num::wrapping_sub_u16(a.a, 1)),
         14 => not_back(at, a, num::wrapping_add_u16(a.a, 1)),
-        15 => line::number(
-            line::text(element(at, a.a, a.b), b" has no such sub: "),
-            a.c,
-        ),
-        16 => line::number(
-            line::text(element(at, a.a, a.b), b" has no such sup: "),
-            a.c,
-        ),
+        15 => missing(line::text(element(at, a.a, a.b), b" lists sub "), a.c),
+        16 => missing(line::text(element(at, a.a, a.b), b" lists sup "), a.c),
         17 | 18 => section(at, a, top),
         19 => line::text(element(side(at, a.c), a.a, a.b), b" do not ascend"),
         32 => line::text(at, b"not built: a duocomb of a point"),
