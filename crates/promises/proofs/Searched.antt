@@ -8,7 +8,7 @@ use Prim.Native.Nat.{ℕ, zero, suc}
 use native.Mathlib.Omega.{arith}
 use lib.ListN.{length}
 use Rattle.listing.specs.declared.Answer.{Answer}
-use Rattle.listing.specs.Answers.{plain, ifZero, on, _orElse_}
+use Rattle.listing.specs.Answers.{plain, ifZero, on}
 use Rattle.listing.specs.Listing.{Listing, limits, rank}
 use Rattle.listing.proofs.Answers.{or-fine, on-no, on-off}
 use Rattle.valid.specs.Closed.{Closed}
