@@ -17,14 +17,14 @@ fn of_fronts(
     kind: Kind,
     p: &[u8],
     n: usize,
-    pcounts: &[u16],
-    pends: &[u16],
-    pinc: &[u16],
+    pcounts: &[u16; 4],
+    pends: &[u16; 260],
+    pinc: &[u16; 512],
     q: &[u8],
     m: usize,
-    qcounts: &[u16],
-    qends: &[u16],
-    qinc: &[u16],
+    qcounts: &[u16; 4],
+    qends: &[u16; 260],
+    qinc: &[u16; 512],
 )
     requires { ⌜ (n ≤ 64) × (m ≤ 64) ⌝ }
 {
