@@ -1,7 +1,6 @@
-// Tries the four products where they come to a limit: ranks, elements, incidences, and the room in the output slices.
+// Tries the four products where they come to a limit: ranks, elements, incidences.
 mod polygon;
 mod polygons;
-mod short;
 
 use show::print;
 use show::run;
@@ -77,9 +76,4 @@ fn main() {
     seventeen_ranks();
     elements();
     incidences();
-    short::to_spare();
-    short::exact();
-    short::counts_short();
-    short::ends_short();
-    short::inc_short();
 }

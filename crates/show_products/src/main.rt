@@ -1,5 +1,7 @@
-// Tries the four products on the cells of the crate `cells`: what is answered, and what is_valid and closed say of it.
+// Tries the four products on the cells of the crate `cells`: what is answered, and what is_valid and closed say of it;
+// and one of them with output slices of several lengths.
 mod cell;
+mod short;
 
 use cell::Cell;
 use show::run::Kind;
@@ -27,4 +29,9 @@ fn not_valid() {
 fn main() {
     small();
     not_valid();
+    short::to_spare();
+    short::exact();
+    short::counts_short();
+    short::ends_short();
+    short::inc_short();
 }
