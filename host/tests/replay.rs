@@ -1,20 +1,21 @@
 //! The replay lists, asked of the model and, where it is linked, of the archive. No Rust files are needed for it.
 
-use flumedrac::trial::{Library, Model, Question};
+use flumedrac::trial::{reply_to, Library, Model};
 
 const RUST: &str = include_str!("../replay.txt");
 const RULES: &str = include_str!("../rules.txt");
+const SHOWN: &str = include_str!("../shown.txt");
 
 fn lines(list: &str) -> impl Iterator<Item = &str> {
     list.lines().filter(|line| !line.is_empty() && !line.starts_with('#'))
 }
 
 fn replay(library: &dyn Library) {
-    for (list, least) in [(RUST, 300), (RULES, 300)] {
+    for (list, least) in [(RUST, 300), (RULES, 300), (SHOWN, 40)] {
         for line in lines(list) {
             let (question, reply) = line.split_once(" = ").expect("a question and its reply");
-            let question = Question::read(question).unwrap_or_else(|| panic!("no question: {line}"));
-            assert_eq!(question.ask(library).to_string(), reply, "{line}");
+            let said = reply_to(question, library).unwrap_or_else(|| panic!("no question: {line}"));
+            assert_eq!(said.to_string(), reply, "{line}");
         }
         assert!(lines(list).count() >= least, "the list has too few cases");
     }
@@ -53,7 +54,7 @@ fn headings() {
 fn program() {
     let folder = concat!(env!("CARGO_MANIFEST_DIR"), "/../crates/replay/");
     let read = |name: &str| std::fs::read_to_string(folder.to_owned() + name).expect("the program's files are there");
-    let asked: Vec<&str> = [RUST, RULES].iter().flat_map(|list| list.lines()).collect();
+    let asked: Vec<&str> = [RUST, RULES, SHOWN].iter().flat_map(|list| list.lines()).collect();
     assert_eq!(read("stdout").lines().collect::<Vec<_>>(), asked, "host/replay.sh makes it");
     let question = |line: &&str| match line.starts_with('#') {
         true => line.to_string(),

@@ -1,6 +1,6 @@
 // The four products of cells.
 mod factors;
-mod make;
+pub mod make;
 
 use listing::Answer;
 ghost use Rattle.listing.specs.Listing.{listing};

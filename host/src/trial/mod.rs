@@ -12,7 +12,7 @@ pub mod random;
 pub use library::{Kind, Library, Test};
 pub use limit::limit_memory;
 pub use model::{Break, Model};
-pub use question::{Question, Reply};
+pub use question::{reply_to, Question, Reply};
 pub use random::Random;
 
 use crate::{Listing, Slices};

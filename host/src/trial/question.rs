@@ -174,6 +174,31 @@ impl<L: AsRef<Raw>> Question<L> {
     }
 }
 
+/// What a library replies to a line: to a question or, after the word `tested`, to a product and then to is_valid and
+/// closed of the listing that it wrote, with the counts of that listing.
+pub fn reply_to(line: &str, library: &dyn Library) -> Option<Reply> {
+    match line.strip_prefix("tested ") {
+        Some(product) => Some(tested(Question::read(product)?.ask(library), library)),
+        None => Some(Question::read(line)?.ask(library)),
+    }
+}
+
+/// A product's reply, with the tests of the listing that it wrote in place of the slices.
+fn tested(product: Reply, library: &dyn Library) -> Reply {
+    let Reply { mut numbers, slices, spilled } = product;
+    let written: Vec<Vec<u16>> =
+        slices.iter().zip(&numbers[5..]).map(|(slice, &length)| slice[..length as usize].to_vec()).collect();
+    let [counts, ends, inc] = <[Vec<u16>; 3]>::try_from(written).expect("a product has three slices");
+    if numbers[0] != 0 {
+        return Reply { numbers, slices: vec![], spilled };
+    }
+    let cell = Raw { counts, ends, inc };
+    for test in [Test::IsValid, Test::Closed] {
+        numbers.extend(answer_numbers(library.test(test, cell.slices())));
+    }
+    Reply { numbers, slices: vec![cell.counts], spilled }
+}
+
 /// 1 or -1 for these two signs, 0 for any other number.
 fn sign_number(sign: f64) -> i64 {
     match sign.to_bits() {
