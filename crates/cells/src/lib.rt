@@ -1,10 +1,6 @@
 // Cells by name, each a module with its three slices.
-pub mod digonal_15;
-pub mod digonal_7;
-pub mod digonal_8;
 pub mod dyad;
 pub mod hemicube;
-pub mod klein_grid;
 pub mod leaking_box;
 pub mod lidless_box;
 pub mod nullitope;

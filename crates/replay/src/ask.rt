@@ -1,85 +1,42 @@
-// Each question put to the function that it names.
-use crate::pair;
-use flag::Event;
-use flag::Orientation;
-use lines::room;
-use lines::say;
-use lines::text;
-use listing::Answer;
-use listing::Number;
-use search::Searched;
+// Each question read from its line and put to the function that it names. The functions are told apart by letters of
+// their names.
+use crate::room;
+use crate::text;
+use asking::cell;
+use asking::flags;
+use asking::pair;
 
-// The four counts: rank, vertex_count, facet_count, el_count.
-fn count(line: &[u8], counts: &[u16]) -> Number {
-    let name = text::letter(line, 0);
-    if name == b'r' {
-        return listing::rank(counts);
-    }
-    if name == b'v' {
-        return listing::vertex_count(counts);
-    }
-    if name == b'f' {
-        return listing::facet_count(counts);
-    }
-    listing::el_count(counts, text::plain(line, 0) as usize)
+// The class of a refusal's number.
+fn class(line: &[u8]) {
+    cell::class(text::narrow(text::plain(line, 0)));
 }
 
-// The tests: bounded, closed, check_incidences, is_dyadic, is_valid.
-fn test(line: &[u8], counts: &[u16], ends: &[u16], inc: &[u16]) -> Answer {
-    if text::letter(line, 0) == b'b' {
-        return valid::bounded(counts, ends, inc);
-    }
-    if text::letter(line, 1) == b'l' {
-        return valid::closed(counts, ends, inc);
-    }
-    if text::letter(line, 1) == b'h' {
-        return valid::check_incidences(counts, ends, inc);
-    }
-    if text::letter(line, 3) == b'd' {
-        return valid::is_dyadic(counts, ends, inc);
-    }
-    valid::is_valid(counts, ends, inc)
+// The sign of an orientation's byte.
+fn sign(line: &[u8]) {
+    flags::sign(text::byte(text::plain(line, 0)));
 }
 
-// A change.
-fn change(counts: &[u16], ends: &[u16], inc: &[u16], flag: &[u16], r: u16) {
-    let c = flag::change(counts, ends, inc, flag, r);
-    say::answer(c.answer);
-    let f = c.flag;
-    say::list(&f);
+// The next event for a cursor, a count and a place.
+fn next_event(line: &[u8]) {
+    let at = text::half(text::plain(line, 0));
+    let count = text::narrow(text::plain(line, 1));
+    let place = text::narrow(text::plain(line, 2));
+    flags::next_event(at, count, place);
 }
 
-// What a search answered.
-fn searched(s: Searched) {
-    say::answer(s.answer);
-    say::number(s.count as u64);
-    say::number(s.place as u64);
-    say::number(s.orientable as u64);
-}
-
-// A search, in the slices lent.
-fn search(
-    counts: &[u16],
-    ends: &[u16],
-    inc: &[u16],
-    first: &[u16],
-    mask: u16,
-    table: &mut [u16],
-    odd: &mut [u8],
-) {
-    searched(search::search(counts, ends, inc, first, mask, &mut *table, &mut *odd));
-    say::list(table);
-    say::bytes(odd);
+// A count: rank, vertex_count, facet_count, el_count.
+fn count(line: &[u8], counts: &[u16]) {
+    cell::count(text::letter(line, 3), counts, text::plain(line, 0) as usize);
 }
 
 // A search with room of the lengths that the line asks for.
-fn search_in_room(line: &[u8], counts: &[u16], ends: &[u16], inc: &[u16], first: &[u16]) {
+fn search(line: &[u8], counts: &[u16], ends: &[u16], inc: &[u16], first: &[u16]) {
     let mask = text::narrow(text::plain(line, 0));
     let mut table = room::table();
     let mut odd = room::orientations();
     let t = room::words(text::plain(line, 1), &table);
     let o = room::bytes(text::plain(line, 2), &odd);
-    search(
+    flags::search(
         counts,
         ends,
         inc,
@@ -90,62 +47,131 @@ fn search_in_room(line: &[u8], counts: &[u16], ends: &[u16], inc: &[u16], first:
     );
 }
 
-// An event of a search whose flags have w numbers each.
-fn event(e: Event, table: &[u16], odd: &[u8], w: usize) {
-    match e {
-        Event::Flag(i) => say::flag(table, odd, i, w),
-        Event::NonOrientable => say::not_orientable(),
-        Event::Nothing => (),
-    }
-}
-
-// The events of a search with this count and place, in order.
-fn told(count: u16, place: u16, table: &[u16], odd: &[u8], w: usize) {
-    let mut at = 0;
-    let end = flag::events_in(count, place);
-    while at < end {
-        event(flag::event_at(at, count, place), table, odd, w);
-        at += 1;
-    }
-}
-
 // A search with all room, and its events.
 fn events(line: &[u8], counts: &[u16], ends: &[u16], inc: &[u16], first: &[u16]) {
     let mask = text::narrow(text::plain(line, 0));
     let mut table = room::table();
     let mut odd = room::orientations();
-    let s = search::search(counts, ends, inc, first, mask, &mut table, &mut odd);
-    say::answer(s.answer);
-    told(s.count, s.place, &table, &odd, counts.len());
+    flags::events(counts, ends, inc, first, mask, &mut table, &mut odd);
 }
 
 // A question on a flag: change, search, events.
-fn flags(line: &[u8], counts: &[u16], ends: &[u16], inc: &[u16], flag: &[u16]) {
-    let name = text::letter(line, 0);
-    if name == b'c' {
-        change(counts, ends, inc, flag, text::narrow(text::plain(line, 0)));
-        return;
+fn on_flag(line: &[u8], counts: &[u16], ends: &[u16], inc: &[u16], flag: &[u16]) {
+    match text::letter(line, 0) {
+        b'c' => flags::change(counts, ends, inc, flag, text::narrow(text::plain(line, 0))),
+        b's' => search(line, counts, ends, inc, flag),
+        _ => events(line, counts, ends, inc, flag),
     }
-    if name == b's' {
-        search_in_room(line, counts, ends, inc, flag);
-        return;
-    }
-    events(line, counts, ends, inc, flag);
 }
 
-// A question on one cell.
-fn cell(line: &[u8]) {
+// Whether the line asks for a product and what the tests say of it: it begins with the word 'tested'.
+fn is_tested(line: &[u8]) -> bool {
+    text::letter(line, 0) == b't'
+}
+
+// The fifth letter of a product's name.
+fn product_letter(line: &[u8]) -> u8 {
+    if is_tested(line) {
+        return text::letter(line, 11);
+    }
+    text::letter(line, 4)
+}
+
+// A product with room of the lengths that the line asks for.
+fn in_room(
+    line: &[u8],
+    pcounts: &[u16],
+    pends: &[u16],
+    pinc: &[u16],
+    qcounts: &[u16],
+    qends: &[u16],
+    qinc: &[u16],
+) {
     let mut counts = room::few();
     let mut ends = room::some();
     let mut inc = room::many();
-    let c = text::list(line, 0, &mut counts);
-    let e = text::list(line, 1, &mut ends);
-    let i = text::list(line, 2, &mut inc);
-    say::answer(test(line, &counts[..c], &ends[..e], &inc[..i]));
+    let c = room::words(text::plain(line, 0), &counts);
+    let e = room::words(text::plain(line, 1), &ends);
+    let i = room::words(text::plain(line, 2), &inc);
+    pair::product(
+        product_letter(line),
+        is_tested(line),
+        pcounts,
+        pends,
+        pinc,
+        qcounts,
+        qends,
+        qinc,
+        &mut counts[..c],
+        &mut ends[..e],
+        &mut inc[..i],
+    );
 }
 
-// A question on one cell and a flag.
-fn cell_and_flag(line: &[u8]) {
+// A question on two factors: the second one is read.
+fn on_factors(line: &[u8], pcounts: &[u16], pends: &[u16], pinc: &[u16]) {
+    let mut counts = room::few();
+    let mut ends = room::some();
+    let mut inc = room::many();
+    let c = text::list(line, 3, &mut counts);
+    let e = text::list(line, 4, &mut ends);
+    let i = text::list(line, 5, &mut inc);
+    in_room(
+        line,
+        pcounts,
+        pends,
+        pinc,
+        &counts[..c],
+        &ends[..e],
+        &inc[..i],
+    );
+}
+
+// Whether the line asks for a product.
+fn is_product(line: &[u8]) -> bool {
+    match text::letter(line, 0) {
+        b'd' | b't' => true,
+        _ => false,
+    }
+}
+
+// Whether the line asks for a count: rank, vertex_count, facet_count, el_count.
+fn is_count(line: &[u8]) -> bool {
+    match text::letter(line, 1) {
+        b'a' => true,
+        b'e' => text::letter(line, 0) == b'v',
+        b'l' => text::letter(line, 0) == b'e',
+        _ => false,
+    }
+}
+
+// Whether the line asks about a flag: change, search, events.
+fn is_on_flag(line: &[u8]) -> bool {
+    match text::letter(line, 4) {
+        b'g' | b'c' | b't' => true,
+        _ => false,
+    }
+}
+
+// A question with lists: a cell, and then a flag or the second factor.
+fn on_lists(line: &[u8], counts: &[u16], ends: &[u16], inc: &[u16], flag: &[u16]) {
+    if is_product(line) {
+        on_factors(line, counts, ends, inc);
+        return;
+    }
+    if is_count(line) {
+        count(line, counts);
+        return;
+    }
+    if is_on_flag(line) {
+        on_flag(line, counts, ends, inc, flag);
+        return;
+    }
+    cell::test(text::letter(line, 3), counts, ends, inc);
+}
+
+// The lists of a line; those that it lacks are empty.
+fn lists(line: &[u8]) {
     let mut counts = room::few();
     let mut ends = room::some();
     let mut inc = room::many();
@@ -154,80 +180,18 @@ fn cell_and_flag(line: &[u8]) {
     let e = text::list(line, 1, &mut ends);
     let i = text::list(line, 2, &mut inc);
     let f = text::list(line, 3, &mut flag);
-    flags(line, &counts[..c], &ends[..e], &inc[..i], &flag[..f]);
+    on_lists(line, &counts[..c], &ends[..e], &inc[..i], &flag[..f]);
 }
 
-// A question on counts.
-fn counts(line: &[u8]) {
-    let mut list = room::few();
-    let n = text::list(line, 0, &mut list);
-    say::count(count(line, &list[..n]));
-}
-
-// The class of a refusal's number.
-fn class(line: &[u8]) {
-    let no = text::narrow(text::plain(line, 0));
-    say::number(listing::band_number(listing::class(no)) as u64);
-}
-
-// The sign of an orientation's byte.
-fn sign(line: &[u8]) {
-    let b = text::byte(text::plain(line, 0));
-    say::sign(Orientation::of_byte(b).sign());
-}
-
-// The next event for a cursor, a count and a place, and the cursor afterwards.
-fn next_event(line: &[u8]) {
-    let at = text::half(text::plain(line, 0));
-    let count = text::narrow(text::plain(line, 1));
-    let place = text::narrow(text::plain(line, 2));
-    let s = flag::numbers(flag::event_at(at, count, place));
-    say::number(s.kind as u64);
-    say::number(s.flag as u64);
-    say::number(flag::next_at(at, count, place) as u64);
-}
-
-// Any question. The functions are told apart by letters of their names.
+// Any question: class, sign, next_event, or one with lists.
 pub fn ask(line: &[u8]) {
-    match text::letter(line, 0) {
-        b'd' => pair::pair(line),
-        b'b' | b'i' => cell(line),
-        b'c' => ask_c(line),
-        b'e' => ask_e(line),
-        b's' => ask_s(line),
-        b'n' => next_event(line),
-        _ => counts(line),
+    if text::letter(line, 4) == b's' {
+        class(line);
+        return;
     }
-}
-
-// change, check_incidences, class, closed.
-fn ask_c(line: &[u8]) {
     match text::letter(line, 2) {
-        b'a' => ask_ca(line),
-        _ => cell(line),
-    }
-}
-
-// change, class.
-fn ask_ca(line: &[u8]) {
-    match text::letter(line, 1) {
-        b'h' => cell_and_flag(line),
-        _ => class(line),
-    }
-}
-
-// el_count, events.
-fn ask_e(line: &[u8]) {
-    match text::letter(line, 1) {
-        b'l' => counts(line),
-        _ => cell_and_flag(line),
-    }
-}
-
-// search, sign.
-fn ask_s(line: &[u8]) {
-    match text::letter(line, 1) {
-        b'e' => cell_and_flag(line),
-        _ => sign(line),
+        b'g' => sign(line),
+        b'x' => next_event(line),
+        _ => lists(line),
     }
 }

@@ -2,11 +2,10 @@
 // are empty or begin with '#' come back as they are. The lines expected are answers of the Rust program, and answers
 // by the rules where the Rust has none.
 mod ask;
-mod pair;
+mod room;
+mod text;
 
 use libc::STDOUT_FILENO;
-use lines::room;
-use lines::text;
 ghost use Prim.Native.Nat.{_≤_, _<_};
 ghost use lib.ListN.{length};
 

@@ -1,0 +1,96 @@
+// Questions on products.
+use crate::say;
+use product::Built;
+
+// Whether minimal elements are left out, by the fifth letter: of the duoprism and the duocomb.
+fn leaves_min(letter: u8) -> bool {
+    match letter {
+        b'r' | b'o' => true,
+        _ => false,
+    }
+}
+
+// Whether maximal elements are left out, by the fifth letter: of the duotegum and the duocomb.
+fn leaves_max(letter: u8) -> bool {
+    match letter {
+        b'e' | b'o' => true,
+        _ => false,
+    }
+}
+
+// What a product answered.
+fn built(b: Built) {
+    say::answer(b.answer);
+    say::number(b.counts as u64);
+    say::number(b.ends as u64);
+    say::number(b.inc as u64);
+}
+
+// As many of a slice's numbers as a product says that it wrote.
+fn written<'a>(list: &'a [u16], n: u16) -> &'a [u16] {
+    let k = n as usize;
+    if list.len() < k {
+        return list;
+    }
+    &list[0..k]
+}
+
+// What is_valid and closed say of the listing that a product wrote, and its counts.
+fn tests(b: Built, counts: &[u16], ends: &[u16], inc: &[u16]) {
+    let c = written(counts, b.counts);
+    let e = written(ends, b.ends);
+    let i = written(inc, b.inc);
+    say::answer(valid::is_valid(c, e, i));
+    say::answer(valid::closed(c, e, i));
+    say::list(c);
+}
+
+// All that the three slices hold.
+fn lists(counts: &[u16], ends: &[u16], inc: &[u16]) {
+    say::list(counts);
+    say::list(ends);
+    say::list(inc);
+}
+
+// What a product left in its slices: all of it or, where it is to be tested, what the tests say; of a refused one
+// nothing then.
+fn left(tested: bool, b: Built, counts: &[u16], ends: &[u16], inc: &[u16]) {
+    if !tested {
+        lists(counts, ends, inc);
+        return;
+    }
+    if b.answer.no == 0 {
+        tests(b, counts, ends, inc);
+    }
+}
+
+// The product that the letter stands for, and what it left in the slices lent.
+pub fn product(
+    letter: u8,
+    tested: bool,
+    pcounts: &[u16],
+    pends: &[u16],
+    pinc: &[u16],
+    qcounts: &[u16],
+    qends: &[u16],
+    qinc: &[u16],
+    counts: &mut [u16],
+    ends: &mut [u16],
+    inc: &mut [u16],
+) {
+    let b = product::make::make(
+        leaves_min(letter),
+        leaves_max(letter),
+        pcounts,
+        pends,
+        pinc,
+        qcounts,
+        qends,
+        qinc,
+        &mut *counts,
+        &mut *ends,
+        &mut *inc,
+    );
+    built(b);
+    left(tested, b, counts, ends, inc);
+}

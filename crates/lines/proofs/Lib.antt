@@ -1,2 +1,0 @@
--- The laws of this program's proofs.
-pub mod Counting
