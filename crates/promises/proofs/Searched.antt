@@ -18,7 +18,7 @@ use Rattle.searching.specs.Search.{State, More}
 use Rattle.masks.specs.Masks.{maskFits}
 use Rattle.masks.proofs.Ranks.{fits-exact}
 use Rattle.search.specs.declared.Searched.{Searched}
-use Rattle.search.specs.Searched.{foundBy}
+use Rattle.walking.specs.Searched.{foundBy}
 use Rattle.search.specs.Outcome.{refusedAs, foundAs, searchTest, searchedOf, searchedBy, tableAfter, bytesAfter}
 use Rattle.search.specs.Exact.{Inside, Taken, Leads, Promised}
 use Rattle.search.proofs.Exact.{promised}

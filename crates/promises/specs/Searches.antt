@@ -14,7 +14,7 @@ use Rattle.listing.specs.Refusals.{moreFlags}
 use Rattle.listing.specs.Listing.{Listing, limits, rank}
 use Rattle.store.specs.Rows.{rows}
 use Rattle.search.specs.declared.Searched.{Searched}
-use Rattle.search.specs.Searched.{foundBy}
+use Rattle.walking.specs.Searched.{foundBy}
 use Rattle.search.specs.Outcome.{refusedAs, roomOf}
 use Rattle.search.specs.Exact.{Holds, Finds}
 use Rattle.promises.specs.Rules.{FirstBroken, searchRules}

@@ -29,7 +29,7 @@ use Rattle.searching.proofs.Alike.{came-alike, clash-alike}
 use Rattle.searching.proofs.Course.{search-came, search-clash}
 use Rattle.store.specs.Rows.{rowOf, rows, sameList, flatten}
 use Rattle.store.proofs.Rows.{same-decides, rows-length, rows-at}
-use Rattle.search.specs.Searched.{neighbours, foundBy}
+use Rattle.walking.specs.Searched.{neighbours, foundBy}
 use Rattle.search.specs.Outcome.{foundAs}
 use Rattle.search.specs.Exact.{Taken, Leads, FirstMet, Repeat, Holds, Finds}
 use Rattle.search.proofs.Flat.{flat-length, flat-row, flat-past}

@@ -26,7 +26,7 @@ use Rattle.store.proofs.Rows.{same-decides}
 use Rattle.masks.specs.Masks.{maskFits}
 use Rattle.masks.proofs.Ranks.{fits-exact}
 use Rattle.search.specs.declared.Searched.{Searched}
-use Rattle.search.specs.Searched.{neighbours, foundBy}
+use Rattle.walking.specs.Searched.{neighbours, foundBy}
 use Rattle.search.specs.Outcome.{refusedAs, foundAs, roomOf, tableAfter, bytesAfter}
 use Rattle.search.specs.Exact.{Inside, Taken, Leads, Holds, Finds, room, said, number, After, Promised}
 use Rattle.search.proofs.Leads.{more-leads}

@@ -8,7 +8,7 @@ use native.Mathlib.Omega.{arith}
 use lib.ListN.{length, getD, drop, length-append}
 use lib.Seq.{take-at, drop-at, drop-append-add}
 use Rattle.store.specs.Rows.{rowOf, flatten}
-use Rattle.search.proofs.Neighbours.{All}
+use Rattle.walking.proofs.Neighbours.{All}
 
 module _ (w : ℕ) where
   -- all have w numbers

@@ -14,9 +14,9 @@ use Rattle.searching.specs.Course.{Earlier, Stands, Agrees, Inside, nbr, Came, 
 use Rattle.searching.proofs.Once.{in-at, at-in}
 use Rattle.masks.specs.Masks.{ranksOf}
 use Rattle.masks.proofs.Ranks.{ranks-exact, ranks-ascend}
-use Rattle.search.specs.Searched.{neighbours}
+use Rattle.walking.specs.Searched.{neighbours}
 use Rattle.search.specs.Exact.{Asked, FirstMet, Repeat}
-use Rattle.search.proofs.Neighbours.{mem-in, in-mem}
+use Rattle.walking.proofs.Neighbours.{mem-in, in-mem}
 
 -- ---- places in lists
 

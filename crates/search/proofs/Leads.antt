@@ -13,10 +13,10 @@ use Rattle.changing.proofs.Changes.{changes}
 use Rattle.searching.specs.Search.{Neighbour, More, Colouring}
 use Rattle.masks.specs.Masks.{bit, ranksOf}
 use Rattle.masks.proofs.Ranks.{ranks-exact}
-use Rattle.search.specs.Searched.{neighbours}
-use Rattle.search.specs.Ready.{Within}
+use Rattle.walking.specs.Searched.{neighbours}
+use Rattle.walking.specs.Ready.{Within}
 use Rattle.search.specs.Exact.{Taken, Leads}
-use Rattle.search.proofs.Neighbours.{mem-in, in-mem}
+use Rattle.walking.proofs.Neighbours.{mem-in, in-mem}
 
 module _ {m : Limits} {L : Listing} {first : List ℕ} {mask : ℕ} (T : Taken m L first mask) where
   pub within : Within L mask

@@ -1,9 +1,3 @@
-pub mod Begins
-pub mod AtHand
-pub mod Neighbours
-pub mod Works
-pub mod Runs
-pub mod Starts
 pub mod Numbers
 pub mod Outcomes
 pub mod Leads

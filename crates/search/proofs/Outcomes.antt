@@ -21,10 +21,10 @@ use Rattle.store.specs.Held.{stateOf}
 use Rattle.store.proofs.Rows.{rows-length, rows-flat}
 use Rattle.masks.specs.Masks.{maskFits}
 use Rattle.search.specs.declared.Searched.{Searched}
-use Rattle.search.specs.Searched.{foundBy}
+use Rattle.walking.specs.Searched.{foundBy}
 use Rattle.search.specs.Outcome.{refusedAs, foundAs, roomOf, searchTest, searchedOf, after, searchedBy}
 use Rattle.search.specs.Outcome.{tableAfter, bytesAfter}
-use Rattle.search.specs.Ready.{Ended}
+use Rattle.walking.specs.Ready.{Ended}
 use Rattle.search.proofs.Numbers.{start-most}
 
 -- ---- room

@@ -31,7 +31,7 @@ use Rattle.searching.specs.Course.{Earlier, Stands, Agrees}
 use Rattle.store.specs.Rows.{rowOf, rows}
 use Rattle.masks.specs.Masks.{bit}
 use Rattle.search.specs.declared.Searched.{Searched}
-use Rattle.search.specs.Searched.{foundBy}
+use Rattle.walking.specs.Searched.{foundBy}
 use Rattle.search.specs.Outcome.{refusedAs, roomOf, searchedBy, tableAfter, bytesAfter}
 
 abbrev pub Inside : Listing → ℕ → Type 0

@@ -1,4 +1,2 @@
-pub mod Searched
 pub mod Outcome
-pub mod Ready
 pub mod Exact

@@ -24,7 +24,7 @@ use Rattle.searching.specs.Search.{State}
 use Rattle.store.specs.Rows.{flatten}
 use Rattle.masks.specs.Masks.{maskFits}
 use Rattle.search.specs.declared.Searched.{Searched}
-use Rattle.search.specs.Searched.{foundBy}
+use Rattle.walking.specs.Searched.{foundBy}
 
 abbrev pub refusedAs : Answer → Searched
 refusedAs a = record { answer = a; count = 0; place = 0; orientable = 0 }

@@ -1,6 +1,5 @@
 // The search for the flags of a cell that changes lead to from a first flag, and for an orientation of them.
 mod answer;
-mod walk;
 
 use changing::chain;
 use listing::Answer;
@@ -8,6 +7,7 @@ use listing::inner;
 use listing::refusal;
 use masks::mask;
 use store::row;
+use walking::walk;
 ghost use mathlib.Core.Path.{_≡_};
 ghost use Rattle.listing.specs.Listing.{listing, limits};
 ghost use Rattle.search.specs.Outcome.{searchedBy, tableAfter, bytesAfter};

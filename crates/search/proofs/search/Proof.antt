@@ -14,8 +14,8 @@ use Rattle.changing.proofs.StartExact.{start-exact}
 use Rattle.changing.specs.Flags.{startTest, IsFlag}
 use Rattle.masks.specs.Masks.{maskFits}
 use Rattle.masks.proofs.Ranks.{fits-ranks}
-use Rattle.search.specs.Ready.{Ended}
-use Rattle.search.specs.Searched.{foundBy}
+use Rattle.walking.specs.Ready.{Ended}
+use Rattle.walking.specs.Searched.{foundBy}
 use Rattle.search.specs.Outcome.{refusedAs, roomOf}
 use Rattle.search.proofs.Outcomes.{room-is, room-fits, outcome-start, outcome-mask, outcome-over, outcome-found}
 use Rattle.search.proofs.search.Statement.{statement}

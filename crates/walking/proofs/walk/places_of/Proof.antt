@@ -8,9 +8,9 @@ use borrow.Author.Needs.{needs}
 use lib.ListN.{length-set, length, getD}
 use Rattle.listing.proofs.Listing.{before-zero, before-next}
 use Rattle.listing.specs.Listing.{before}
-use Rattle.search.proofs.Begins.{places-next}
-use Rattle.search.proofs.walk.places_of.Statement.{statement}
-use Rattle.search.proofs.walk.places_of.Tie as tie
+use Rattle.walking.proofs.Begins.{places-next}
+use Rattle.walking.proofs.walk.places_of.Statement.{statement}
+use Rattle.walking.proofs.walk.places_of.Tie as tie
 
 abbrev Inv-loop : tie.InvT-loop
 Inv-loop counts a₀ here₀ r₀ a here r =

@@ -4,9 +4,9 @@
 use Prim.Native.Nat.{_-_}
 use native.Mathlib.Omega.{arith}
 use Rattle.listing.specs.Listing.{Listing, listing}
-use Rattle.search.proofs.Runs.{Running, running-start, running-next, running-stop, running-end}
-use Rattle.search.proofs.walk.run.Statement.{statement}
-use Rattle.search.proofs.walk.run.Tie as tie
+use Rattle.walking.proofs.Runs.{Running, running-start, running-next, running-stop, running-end}
+use Rattle.walking.proofs.walk.run.Statement.{statement}
+use Rattle.walking.proofs.walk.run.Tie as tie
 
 abbrev Inv-loop : tie.InvT-loop
 Inv-loop counts ends inc places weights table₀ bytes₀ heads₀ next₀ mask room s₀ k₀ table bytes heads next s k =

@@ -8,9 +8,9 @@ use borrow.Author.Needs.{needs}
 use lib.ListN.{length-set}
 use Rattle.listing.specs.Listing.{Listing, listing}
 use Rattle.store.proofs.Hash.{weights-small}
-use Rattle.search.proofs.AtHand.{hand-neighbours, hand-changed, hand-old, hand-hash, put-back}
-use Rattle.search.proofs.walk.try_next.Statement.{statement}
-use Rattle.search.proofs.walk.try_next.Tie as tie
+use Rattle.walking.proofs.AtHand.{hand-neighbours, hand-changed, hand-old, hand-hash, put-back}
+use Rattle.walking.proofs.walk.try_next.Statement.{statement}
+use Rattle.walking.proofs.walk.try_next.Tie as tie
 
 abbrev L : tie.Start → Listing
 L s = listing (s .args .counts .now) (s .args .ends .now) (s .args .inc .now)

@@ -21,8 +21,8 @@ ghost use Rattle.changing.specs.Change.{changeAt};
 ghost use Rattle.searching.specs.Search.{meet as meetIn, meetAll, run as runIn};
 ghost use Rattle.store.specs.Rows.{rowOf, sameList};
 ghost use Rattle.store.specs.Held.{stateOf, Held, Moved};
-ghost use Rattle.search.specs.Searched.{neighbours, foundBy};
-ghost use Rattle.search.specs.Ready.{Ended, AllFlags, Places, Within, Ready, AtHand};
+ghost use Rattle.walking.specs.Searched.{neighbours, foundBy};
+ghost use Rattle.walking.specs.Ready.{Ended, AllFlags, Places, Within, Ready, AtHand};
 
 // The byte of the other orientation.
 fn flipped(byte: u8) -> u8

@@ -17,10 +17,10 @@ use Rattle.store.specs.Rows.{rowOf, sameList}
 use Rattle.store.specs.Held.{stateOf, Held, Moved}
 use Rattle.store.proofs.Rows.{rows-at}
 use Rattle.store.proofs.Meets.{count-is, moved-none}
-use Rattle.search.specs.Searched.{neighbours}
-use Rattle.search.specs.Ready.{AllFlags, Within}
-use Rattle.search.proofs.Neighbours.{meets-all, neighbour-flag, rows-flags, flags-rows}
-use Rattle.search.proofs.Works.{moved-trans, moved-to}
+use Rattle.walking.specs.Searched.{neighbours}
+use Rattle.walking.specs.Ready.{AllFlags, Within}
+use Rattle.walking.proofs.Neighbours.{meets-all, neighbour-flag, rows-flags, flags-rows}
+use Rattle.walking.proofs.Works.{moved-trans, moved-to}
 
 -- on the way from s₀ the flags before the kth were worked: what is left leads to the same state
 pub record Running (L : Listing) (room mask : ℕ) (t₀ b₀ : List ℕ) (s₀ : Progress) (t b h x : List ℕ) (s : Progress)

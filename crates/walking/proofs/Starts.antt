@@ -17,10 +17,10 @@ use Rattle.store.specs.Rows.{rows, sameList}
 use Rattle.store.specs.Hash.{hashes}
 use Rattle.store.specs.Index.{Indexed}
 use Rattle.store.specs.Held.{stateOf, Held, Moved}
-use Rattle.search.specs.Searched.{neighbours, foundBy}
-use Rattle.search.specs.Ready.{Ended, AllFlags}
-use Rattle.search.proofs.Neighbours.{meet-all, rows-flags}
-use Rattle.search.proofs.Works.{rest-trans}
+use Rattle.walking.specs.Searched.{neighbours, foundBy}
+use Rattle.walking.specs.Ready.{Ended, AllFlags}
+use Rattle.walking.proofs.Neighbours.{meet-all, rows-flags}
+use Rattle.walking.proofs.Works.{rest-trans}
 
 abbrev pub none : Progress
 none = record { count = 0; place = 0; over = false }

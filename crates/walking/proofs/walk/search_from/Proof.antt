@@ -11,9 +11,9 @@ use Rattle.searching.specs.Search.{meet}
 use Rattle.store.specs.Held.{stateOf, Moved}
 use Rattle.store.specs.Rows.{sameList}
 use Rattle.store.specs.Hash.{hashes, hashOf}
-use Rattle.search.proofs.Starts.{none, held-none, take-padded, first-flags, all-found}
-use Rattle.search.proofs.walk.search_from.Statement.{statement}
-use Rattle.search.proofs.walk.search_from.Tie as tie
+use Rattle.walking.proofs.Starts.{none, held-none, take-padded, first-flags, all-found}
+use Rattle.walking.proofs.walk.search_from.Statement.{statement}
+use Rattle.walking.proofs.walk.search_from.Tie as tie
 
 abbrev L : tie.Start → Listing
 L s = listing (s .args .counts .now) (s .args .ends .now) (s .args .inc .now)

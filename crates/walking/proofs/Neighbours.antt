@@ -20,8 +20,8 @@ use Rattle.searching.proofs.Step.{meet-cases}
 use Rattle.store.specs.Rows.{rows}
 use Rattle.store.proofs.Rows.{rows-length, rows-at}
 use Rattle.masks.specs.Masks.{ranksOf}
-use Rattle.search.specs.Searched.{neighbours}
-use Rattle.search.specs.Ready.{Within, AllFlags}
+use Rattle.walking.specs.Searched.{neighbours}
+use Rattle.walking.specs.Ready.{Within, AllFlags}
 
 -- a member, as the lists of numbers have it
 pub mem-in : (x : ℕ) (l : List ℕ) → List·Memᴰ x l → In x l

@@ -21,8 +21,8 @@ use Rattle.store.specs.Held.{stateOf, Held, Rest, Moved}
 use Rattle.store.proofs.Meets.{moved-none}
 use Rattle.masks.specs.Masks.{ranksOf}
 use Rattle.masks.proofs.Ranks.{ranks-next, ranks-none}
-use Rattle.search.specs.Searched.{neighbours}
-use Rattle.search.specs.Ready.{Within}
+use Rattle.walking.specs.Searched.{neighbours}
+use Rattle.walking.specs.Ready.{Within}
 
 -- ---- one move after another
 

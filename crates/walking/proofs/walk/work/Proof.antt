@@ -15,11 +15,11 @@ use Rattle.store.specs.Held.{stateOf}
 use Rattle.store.specs.Rows.{sameList, rowOf}
 use Rattle.store.proofs.Rows.{row-end}
 use Rattle.masks.proofs.Low.{low-fits}
-use Rattle.search.specs.Ready.{AtHand}
-use Rattle.search.specs.Searched.{neighbours}
-use Rattle.search.proofs.Works.{Working, working-start, working-rank, working-next, working-stop, working-end}
-use Rattle.search.proofs.walk.work.Statement.{statement}
-use Rattle.search.proofs.walk.work.Tie as tie
+use Rattle.walking.specs.Ready.{AtHand}
+use Rattle.walking.specs.Searched.{neighbours}
+use Rattle.walking.proofs.Works.{Working, working-start, working-rank, working-next, working-stop, working-end}
+use Rattle.walking.proofs.walk.work.Statement.{statement}
+use Rattle.walking.proofs.walk.work.Tie as tie
 
 abbrev Inv-loop : tie.InvT-loop
 Inv-loop counts ends inc places weights table₀ bytes₀ heads₀ next₀ mask k room w at flag₀ sum byte left₀ s₀ table bytes

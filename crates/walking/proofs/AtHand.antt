@@ -11,7 +11,7 @@ use Rattle.valid.specs.Closed.{Closed}
 use Rattle.changing.specs.Change.{common, other, between, changeAt, Neighbours}
 use Rattle.store.specs.Hash.{hashes, weight, hashOf}
 use Rattle.store.proofs.Hash.{old-inside, hash-changed}
-use Rattle.search.specs.Ready.{AtHand}
+use Rattle.walking.specs.Ready.{AtHand}
 
 module _ (L : Listing) (C : Closed limits L) (flag : List ℕ) (sum : ℕ) (H : AtHand L flag sum) (r : ℕ) (p : 0 < r)
     (q : r < rank L) where

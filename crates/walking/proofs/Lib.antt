@@ -1,0 +1,6 @@
+pub mod Begins
+pub mod AtHand
+pub mod Neighbours
+pub mod Works
+pub mod Runs
+pub mod Starts

@@ -1,0 +1,2 @@
+// The walk over the flags of a closed listing.
+pub mod walk;
