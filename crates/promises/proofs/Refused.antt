@@ -77,7 +77,7 @@ module _ (m : Limits) (L : Listing) where
       (λ f. fills-exact (L .ends) (length (L .inc)) .1 (f .rising, f .full))
 
   -- The shape tests, and others after them.
-  pub shape-broken : (l : List Rule) (y : Answer) → (Shaped m L → FirstBroken l (y .no))
+  shape-broken : (l : List Rule) (y : Answer) → (Shaped m L → FirstBroken l (y .no))
       → FirstBroken (shapeRules m L ++ l) ((shapeTest m L orElse y) .no)
   unfolding shapeTest
   shape-broken l y r =
@@ -144,7 +144,7 @@ module _ (m : Limits) (L : Listing) where
       broken-step _ incident-tested _ (λ I. broken-last (twice-tested I))))
 
   -- the closed test, and others after it
-  pub closed-then : (l : List Rule) (y : Answer) → (Closed m L → FirstBroken l (y .no))
+  closed-then : (l : List Rule) (y : Answer) → (Closed m L → FirstBroken l (y .no))
       → FirstBroken (closedRules m L ++ l) ((closed m L orElse y) .no)
   unfolding closed
   closed-then l y r =
