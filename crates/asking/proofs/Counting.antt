@@ -6,7 +6,7 @@ use native.Mathlib.Nat.{mul-le-mul}
 use Prim.Native.Nat.{ℕ, _≤_, _<_, _*_}
 use mathlib.Core.List.{List}
 use mathlib.Core.Path.{_≡_, sym}
-use lib.ListN.{length, take, replicate, length-take, length-replicate}
+use lib.ListN.{length, replicate, length-take, length-replicate}
 use Rattle.io.specs.Counts.{Counts}
 
 pub counted : (n : ℕ) (xs : List ℕ) → n ≤ length xs → Counts n xs

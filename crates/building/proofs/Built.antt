@@ -30,7 +30,7 @@ zeros (suc n) zero = refl
 zeros (suc n) (suc k) = zeros n k
 
 -- what was written over the beginning stands there
-pub take-holds : (s d d′ : List ℕ) → length s ≤ length d → Holds 0 s d d′ → take (length s) d′ ≡ s
+take-holds : (s d d′ : List ℕ) → length s ≤ length d → Holds 0 s d d′ → take (length s) d′ ≡ s
 take-holds s d d′ h l = rw (holds-over s d d′ h l) (take-append-seam s (drop (length s) d))
 
 before-table : (f : ℕ → ℕ) (n : ℕ) → before (table f n) (length (table f n)) ≡ sum f n
@@ -65,16 +65,16 @@ module _ (P Q : Factor) (hp : 0 < length (P .counts)) (hq : 0 < length (Q .count
   abbrev N : ℕ
   N = sizeOf min max (P .counts) (Q .counts)
 
-  pub built-elements : before (written T (derived T) .counts) (length (written T (derived T) .counts)) ≡ N
+  built-elements : before (written T (derived T) .counts) (length (written T (derived T) .counts)) ≡ N
   unfolding written
   built-elements = before-table (T .size) (suc (T .top)) ∙ target-size P Q hp hq min max
 
-  pub built-ends : written T (derived T) .ends ≡ table (λ t. sum (lengths (listsOf min max P Q)) (suc t)) (2 * N)
+  built-ends : written T (derived T) .ends ≡ table (λ t. sum (lengths (listsOf min max P Q)) (suc t)) (2 * N)
   unfolding written listsOf
   built-ends =
       ap (λ (n : ℕ). table (λ t. sum (lengths (listsOf min max P Q)) (suc t)) (2 * n)) (target-size P Q hp hq min max)
 
-  pub built-inc : written T (derived T) .inc ≡ joined (listsOf min max P Q) (2 * N)
+  built-inc : written T (derived T) .inc ≡ joined (listsOf min max P Q) (2 * N)
   unfolding written listsOf
   built-inc = ap (λ (n : ℕ). joined (listsOf min max P Q) (2 * n)) (target-size P Q hp hq min max)
 

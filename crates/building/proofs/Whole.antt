@@ -23,7 +23,7 @@ use Rattle.gathering.proofs.SupsFilled.{gather-same}
 
 -- ---- one list over another
 
-pub over-is : (new old d : List ℕ) → length d ≡ length old → length new ≤ length old
+over-is : (new old d : List ℕ) → length d ≡ length old → length new ≤ length old
     → ((p : ℕ) → p < length new → getD d p 0 ≡ getD new p 0)
     → ((p : ℕ) → length new ≤ p → getD d p 0 ≡ getD old p 0) → d ≡ over new old
 over-is new old d e h first rest =

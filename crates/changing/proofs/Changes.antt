@@ -4,13 +4,13 @@
 use mathlib.Core.Path.{_≡_, refl, sym, ap, _∙_}
 use mathlib.Core.List.{List, [], _∷_}
 use mathlib.Core.Logic.{_↔_, _≢_, _⊎_, inl, inr}
-use Prim.Native.Nat.{ℕ, _+_, _-_, _≤_, _<_}
+use Prim.Native.Nat.{ℕ, _+_, _-_, _<_}
 use native.Mathlib.Omega.{arith}
 use native.Mathlib.Decide.{ℕ-discrete}
-use lib.ListN.{length, getD, set}
+use lib.ListN.{getD, set}
 use lib.Seq.{getD-set-same, set-set, set-getD}
 use Rattle.order.specs.Lists.{In}
-use Rattle.order.specs.Flags.{ChangedAt}
+use Rattle.order.specs.Steps.{ChangedAt}
 use Rattle.order.specs.Diamond.{OneOther}
 use Rattle.listing.specs.Listing.{Listing, Limits, count, rank, subs}
 use Rattle.diamond.specs.Dyadic.{Between, Two, DiamondAt, Diamond}
@@ -175,7 +175,3 @@ module _ {m : Limits} (L : Listing) (C : Closed m L) (r : ℕ) (p : 0 < r) (q : 
       back = changed-back f F;
       only = changed-only;
     }
-
--- A flag of a closed listing is never wider than the limit of the ranks.
-pub flag-width : {m : Limits} (L : Listing) → Closed m L → (f : List ℕ) → IsFlag L f → length f ≤ m .ranks
-flag-width L C f F = omega (arith, F .one-each, C .shaped)

@@ -10,7 +10,7 @@ use native.Mathlib.Omega.{arith}
 use lib.ListN.{length, getD, set, length-set}
 use lib.Seq.{getD-set-same, getD-set-other}
 use Rattle.order.specs.Lists.{In}
-use Rattle.order.specs.Flags.{ChangedAt, here, there}
+use Rattle.order.specs.Steps.{ChangedAt, here, there}
 use Rattle.listing.specs.Listing.{Listing, count, rank, subs}
 use Rattle.changing.specs.Flags.{IsFlag}
 use Rattle.changing.specs.Change.{between, Neighbours}

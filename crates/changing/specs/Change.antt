@@ -15,7 +15,7 @@ use Prim.Native.Nat.{ℕ, _+_, _-_, _<_}
 use lib.Dec.{eqb}
 use lib.ListN.{length, getD, set, replicate}
 use Rattle.order.specs.Lists.{In, has}
-use Rattle.order.specs.Flags.{ChangedAt}
+use Rattle.order.specs.Steps.{ChangedAt}
 use Rattle.listing.specs.Listing.{Listing, count, subs, sups}
 use Rattle.diamond.specs.Dyadic.{Two}
 use Rattle.changing.specs.Flags.{IsFlag}

@@ -1,18 +1,17 @@
 -- A closed listing is a closed cell in the sense of the order theory; and back, where the sups are the derived ones.
 -- Assumes nothing.
 use mathlib.Core.Path.{_≡_, refl, ap}
-use mathlib.Core.Logic.{_↔_}
 use mathlib.Core.Bool.{false}
 use Prim.Native.Nat.{ℕ, suc, _-_, _<_}
 use native.Mathlib.Decide.{decLt}
 use native.Mathlib.Numerals.{add-one, sub-one}
 use native.Mathlib.Omega.{arith}
-use Rattle.order.specs.Lists.{In, Ascending}
+use Rattle.order.specs.Lists.{Ascending}
 use Rattle.order.specs.Structure.{turned}
 use Rattle.order.specs.Diamond.{Rooted, OneLowest, Frame, Cell}
 use Rattle.order.proofs.Pairs.{pair-path}
-use Rattle.order.proofs.Lists.{ascending-once, ascending-same}
-use Rattle.listing.specs.Listing.{Listing, Limits, rank, count, side, subs, sups}
+use Rattle.order.proofs.Lists.{ascending-once}
+use Rattle.listing.specs.Listing.{Listing, Limits, rank, count, side, subs}
 use Rattle.listing.specs.Shape.{Shaped}
 use Rattle.listing.specs.Layers.{layers, order, derived}
 use Rattle.listing.proofs.Layers.{layers-topped, in-range, derived-in, derived-ascending}
@@ -42,7 +41,7 @@ module _ (L : Listing) where
   unfolding Sorted
   sups-ascend o r i = derived-ascending (layers L) r i (λ b h. ascending-once i (subs L (suc r) b) (o (suc r) b h))
 
-  pub sorted-ascends : Sorted (layers L) → Derived L → Ascends L
+  sorted-ascends : Sorted (layers L) → Derived L → Ascends L
   unfolding Ascends Sorted Derived
   sorted-ascends o d s r i k h =
       at-sides (λ t. Ascending (side L t r i)) (o r i h) (rw (d r i h) (sups-ascend o r i)) s k
@@ -141,26 +140,10 @@ module _ (L : Listing) where
         (rw add-one (t .0), rw add-one (t .1));
   }
 
-  -- the sups are the derived ones wherever the lists ascend: both lists hold the same, in the same order
-  incident-derived : Incident L → Ascends L → Derived L
-  unfolding Derived Ascends
-  incident-derived I a r i h =
-      ascending-same (sups L r i) (derived (layers L) r i) to back (a 1 r i (omega arith) h)
-      (sups-ascend (ascends-sorted a) r i)
-    where
-      to : (x : ℕ) → In x (sups L r i) → In x (derived (layers L) r i)
-      to x m = derived-in (layers L) r i x .1 (rw add-one at (I .sup-back r i x h m))
-
-      back : (x : ℕ) → In x (derived (layers L) r i) → In x (sups L r i)
-      back x m =
-          let t = derived-in (layers L) r i x .0 m in
-          let e : suc r - 1 ≡ r = omega arith in
-          rw e at (I .sub-back (suc r) x i (t .0) (t .1) .2)
-
 -- ---- closed listings and closed cells
 
 module _ (L : Listing) where
-  pub cell-diamond : Cell false false (order (layers L)) → Sound (layers L) → Diamond L (rank L)
+  cell-diamond : Cell false false (order (layers L)) → Sound (layers L) → Diamond L (rank L)
   cell-diamond g s = diamond-same L s .1 (g .diamond)
 
   module _ {m : Limits} where
@@ -172,9 +155,6 @@ module _ (L : Listing) where
       high-diamond = λ t. absurd t;
     }
 
-    pub closed-derived : Closed m L → Derived L
-    closed-derived c = incident-derived L (c .incident) (c .ascends)
-
     pub cell-closed : Shaped m L → Cell false false (order (layers L)) → Sound (layers L) → Sorted (layers L)
         → Derived L → Closed m L
     cell-closed h g s o d = record {
@@ -184,18 +164,3 @@ module _ (L : Listing) where
       ascends = sorted-ascends L o d;
       diamond = cell-diamond g s;
     }
-
--- A closed listing is a listing of a good shape that is a closed cell, whose subs are one rank lower and ascend, and
--- whose sups are the derived ones.
-pub closed-is-cell : (m : Limits) (L : Listing) → Closed m L
-    ↔ (Shaped m L × Cell false false (order (layers L)) × Sound (layers L) × Sorted (layers L) × Derived L)
-closed-is-cell m L = (
-  λ c. (
-    c .shaped,
-    closed-cell L c,
-    incident-sound L (c .incident),
-    ascends-sorted L (c .ascends),
-    closed-derived L c,
-  ),
-  λ p. cell-closed L (p .0) (p .1) (p .2) (p .3) (p .4),
-)

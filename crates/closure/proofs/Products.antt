@@ -1,6 +1,5 @@
 -- The four products of closed listings are closed.
 -- Assumes nothing.
-use mathlib.Core.Path.{_≡_}
 use mathlib.Core.Bool.{Bool, true, false}
 use Prim.Native.Nat.{ℕ, _+_, _≤_}
 use native.Mathlib.Omega.{arith}
@@ -10,10 +9,10 @@ use Rattle.listing.specs.Shape.{Shaped}
 use Rattle.valid.specs.Closed.{Closed}
 use Rattle.pairing.specs.Product.{productOf}
 use Rattle.pairing.proofs.Listings.{productOf-sound, productOf-sorted, productOf-cell}
-use Rattle.closure.specs.Result.{first, second, nullCase, resultOf, HighEnough}
+use Rattle.closure.specs.Result.{first, second, resultOf, HighEnough}
 use Rattle.closure.proofs.Cells.{incident-sound, ascends-sorted, closed-cell, cell-closed}
 use Rattle.closure.proofs.Alike.{productOf-derived}
-use Rattle.closure.proofs.Results.{result-product, result-null, nullitope-closed, not-null, both, both-ranks}
+use Rattle.closure.proofs.Results.{result-product, not-null, both, both-ranks}
 
 productOf-closed : (min max : Bool) {m : Limits} (A B : Listing) → Closed m A → Closed m B → need min max ≤ rank A
     → need min max ≤ rank B → together min max ≤ rank A + rank B → Shaped m (productOf min max A B)
@@ -27,7 +26,7 @@ productOf-closed min max A B cA cB p q t h =
     (productOf-sorted min max A B sA sB (ascends-sorted A (cA .ascends)) (ascends-sorted B (cB .ascends)))
     (productOf-derived min max A B)
 
-pub product-closed : (min max : Bool) (m : Limits) (A B : Listing) → Closed m A → Closed m B → need min max ≤ rank A
+product-closed : (min max : Bool) (m : Limits) (A B : Listing) → Closed m A → Closed m B → need min max ≤ rank A
     → need min max ≤ rank B → together min max ≤ rank A + rank B → Shaped m (resultOf min max A B)
     → Closed m (resultOf min max A B)
 product-closed min max m A B cA cB p q t h =
@@ -37,19 +36,6 @@ product-closed min max m A B cA cB p q t h =
     rw e
     (productOf-closed min max (first min A B) (second min A B) (c .0) (c .1) (r .0) (r .1)
     (rw (both-ranks min A B) t) (rw e at h))
-
--- in the null case it is the nullitope, and closed as well
-pub null-closed : (min max : Bool) (m : Limits) (A B : Listing) → nullCase min max A B ≡ true
-    → Shaped m (resultOf min max A B) → Closed m (resultOf min max A B)
-null-closed min max m A B e h =
-    let z = result-null min max A B e in
-    rw z (record {
-      shaped = rw z at h;
-      bounded = nullitope-closed .bounded;
-      incident = nullitope-closed .incident;
-      ascends = nullitope-closed .ascends;
-      diamond = nullitope-closed .diamond;
-    })
 
 -- The ranks from which that holds, as the table of HighEnough has them.
 high-enough : (min max : Bool) (p q : ℕ) → HighEnough min max p q

@@ -55,7 +55,7 @@ result-framed min max A B gA gB c = go (nullCase min max A B) refl
 
 -- Whatever two listings is_valid accepts, and whichever product, unless it is a duocomb that is refused: the result has
 -- one minimal and one maximal element, and its incidences are right.
-pub product-framed : (min max : Bool) (m : Limits) (A B : Listing) → isValid m A .no ≡ 0 → isValid m B .no ≡ 0
+product-framed : (min max : Bool) (m : Limits) (A B : Listing) → isValid m A .no ≡ 0 → isValid m B .no ≡ 0
     → combCase min max A B ≡ false → Bounded (resultOf min max A B) × Incident (resultOf min max A B)
 product-framed min max m A B vA vB c =
     let a = valid-exact m A .0 vA in

@@ -96,7 +96,7 @@ module _ {n : ℕ} (f : ℕ → Answer) {t : List ℕ} (seen : List ℕ) where
   }
 
   module _ {done : List ℕ} (w : Walked n f t seen done) where
-    pub walked-more : {u : List ℕ} (more : List ℕ) → Walked n f u (seenAfter seen done) more
+    walked-more : {u : List ℕ} (more : List ℕ) → Walked n f u (seenAfter seen done) more
         → Walked n f u seen (done ++ more)
     walked-more more v = record {
       clear = ap (λ (a : Answer). a .no) (third-append f seen done more ∙ or-fine _ _ (w .clear)) ∙ v .clear;
@@ -104,7 +104,7 @@ module _ {n : ℕ} (f : ℕ → Answer) {t : List ℕ} (seen : List ℕ) where
     }
 
     -- a refusal decides, whatever would come after
-    pub walked-stop : {u : List ℕ} {a : Answer} (more rest : List ℕ) → a ≡ thirdTest f (seenAfter seen done) more
+    walked-stop : {u : List ℕ} {a : Answer} (more rest : List ℕ) → a ≡ thirdTest f (seenAfter seen done) more
         → (a .no ≡ 0 → ⊥) → Tallied n u f seen (done ++ (more ++ rest)) a
     walked-stop more rest e h = record {
       answer = sym (
@@ -116,7 +116,7 @@ module _ {n : ℕ} (f : ℕ → Answer) {t : List ℕ} (seen : List ℕ) where
       tally = λ z. absurd (h z);
     }
 
-    pub walked-all : {a : Answer} → a ≡ fine → Tallied n t f seen done a
+    walked-all : {a : Answer} → a ≡ fine → Tallied n t f seen done a
     walked-all e = record { answer = e ∙ sym (third-fine f seen done (w .clear)); tally = λ z. w .tally }
 
 -- what a callee tallied without refusal has been walked

@@ -8,7 +8,7 @@ use Prim.Native.Nat.{ℕ, zero, suc, _≤_, _<_}
 use native.Mathlib.Omega.{arith}
 use borrow.Author.Tests.{lt-ltb, le-ltb, ltb-true, not-false}
 use lib.Dec.{ltb}
-use lib.ListN.{length, replicate}
+use lib.ListN.{replicate}
 use Rattle.listing.specs.declared.Answer.{Answer}
 use Rattle.listing.specs.Refusals.{outsideRanks}
 use Rattle.listing.specs.Answers.{plain, fine, ifZero}
@@ -19,8 +19,7 @@ use Rattle.valid.specs.Closed.{Closed}
 use Rattle.changing.specs.Flags.{startTest, IsFlag}
 use Rattle.changing.specs.Change.{changeAt, padded, Changes}
 use Rattle.changing.proofs.StartExact.{start-exact}
-use Rattle.changing.proofs.Padding.{padded-length}
-use Rattle.changing.proofs.Changes.{changes, flag-width}
+use Rattle.changing.proofs.Changes.{changes}
 use Rattle.flag.specs.declared.Changed.{Changed}
 use Rattle.flag.specs.Changed.{changeTest, changedOf}
 
@@ -80,18 +79,6 @@ module _ (m : Limits) (L : Listing) (f : List ℕ) (r : ℕ) where
         go : (n : ℕ) → n ≡ 0 → answered a l ≡ answered a (ifZero n (padded (changeAt L r f)) (replicate 16 0))
         go zero g = ap (answered a) k
         go (suc n) g = absurd (omega arith)
-
-  -- Its record always holds 16 numbers, since a flag of a closed listing is no wider.
-  pub changed-length : m .ranks ≤ 16 → length (changedOf m L f r .flag) ≡ 16
-  unfolding changedOf
-  changed-length w = go (changeTest m L f r .no) refl
-    where
-      go : (n : ℕ) → changeTest m L f r .no ≡ n → length (ifZero n (padded (changeAt L r f)) (replicate 16 0)) ≡ 16
-      go zero e =
-          let p = change-exact m L f r .0 e in
-          let k = flag-width L (p .0) _ (changes L (p .0) r (p .2) (p .3) f (p .1) .is-flag) in
-          padded-length (changeAt L r f) (omega arith)
-      go (suc n) e = refl
 
   -- Where a change is not refused, its flag is the one and only change there.
   pub change-changes : changedOf m L f r .answer .no ≡ 0

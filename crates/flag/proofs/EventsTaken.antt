@@ -70,7 +70,7 @@ module _ (n p : ℕ) where
 
   -- The events at the places of the row are the flags in order, with NonOrientable after the first p flags where p is
   -- from 1 to n.
-  pub events-are : upFrom at 0 (events n p) ≡ eventsOf n p
+  events-are : upFrom at 0 (events n p) ≡ eventsOf n p
   unfolding events eventsOf
   events-are = go (within n p) refl
     where

@@ -1,4 +1,4 @@
 pub mod ChangeAnswers
 pub mod EventRow
 pub mod EventsTaken
-pub mod ChangeCases
+pub mod ChangeTwice

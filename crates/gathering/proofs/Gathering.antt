@@ -20,7 +20,7 @@ use Rattle.gathering.specs.Sups.{Raised, Strewn, Apart, between}
 use Rattle.gathering.proofs.Raising.{occurs-take, occurs-this, raised-then}
 use Rattle.gathering.proofs.Strewing.{strewn-then}
 
-pub occurs-some : (x : ℕ) (l : List ℕ) (d : ℕ) → occurs x (take d l) ≤ occurs x l
+occurs-some : (x : ℕ) (l : List ℕ) (d : ℕ) → occurs x (take d l) ≤ occurs x l
 occurs-some x l d =
     omega (arith, occurs-append x (take d l) (drop d l), ap (occurs x) (take-append-drop d l))
 
@@ -160,7 +160,7 @@ module _ (first n here m k : ℕ) (ends inc next inc′ next′ : List ℕ) (goo
   rise = start-le ends inc good (2 * here) (2 * (here + k)) (omega arith) (omega arith)
 
   -- the list that is read is that of the rank as it was
-  pub rank-list : between inc′ from′ to′ ≡ f k
+  rank-list : between inc′ from′ to′ ≡ f k
   unfolding entries
   rank-list =
       let z : 2 * (here + k) + 0 ≡ 2 * (here + k) = omega arith in

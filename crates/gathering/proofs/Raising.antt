@@ -19,7 +19,7 @@ use Rattle.placing.proofs.Numbers.{sum-next}
 
 -- ---- occurrences
 
-pub occurs-le : (x : ℕ) (l : List ℕ) → occurs x l ≤ length l
+occurs-le : (x : ℕ) (l : List ℕ) → occurs x l ≤ length l
 unfolding occurs
 occurs-le x [] = omega arith
 occurs-le x (y ∷ l) = go (eqb y x) (occurs-le x l)
@@ -99,7 +99,7 @@ module _ (first n : ℕ) where
   raised-past x up h = raised-none _ up (λ y l. occurs-not x y (omega arith))
 
   -- no count has grown by more than b
-  pub raised-most : (g : ℕ → ℕ) (b : ℕ) (up up′ : List ℕ) → Raised first n g up up′ → ((x : ℕ) → g x ≤ b)
+  raised-most : (g : ℕ → ℕ) (b : ℕ) (up up′ : List ℕ) → Raised first n g up up′ → ((x : ℕ) → g x ≤ b)
       → (k : ℕ) → getD up′ k 0 ≤ getD up k 0 + b
   raised-most g b up up′ r h k = go (decLt k first) (decLt k (first + n))
     where
@@ -122,7 +122,7 @@ list-few first n t list up up′ few r h x l =
 -- ---- the lists of a rank, one after another
 
 module _ (ends inc : List ℕ) (good : Ends ends inc) where
-  pub entries-length : (k : ℕ) → k < length ends → length (entries ends inc k) ≡ getD ends k 0 - start ends k
+  entries-length : (k : ℕ) → k < length ends → length (entries ends inc k) ≡ getD ends k 0 - start ends k
   unfolding entries
   entries-length k h =
       omega (

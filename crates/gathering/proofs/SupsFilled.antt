@@ -59,7 +59,7 @@ module _ (counts ends inc : List ℕ) (ready : Fillable counts ends inc) where
         not-subs (before counts i + x) e p j (before-lt counts i x hx) h a b q (omega (arith, ready .room i x hx)))))
 
     -- so the same sups are gathered
-    pub gathers : (x : ℕ)
+    gathers : (x : ℕ)
         → gather (λ k. entries ends inc′ (2 * (before counts (r + 1) + k) + 0)) x (getD counts (r + 1) 0)
         ≡ gathered counts ends inc r x
     unfolding gathered

@@ -54,7 +54,7 @@ module _ (f : ℕ → List ℕ) (x : ℕ) where
       omega (arith, gather-next n k, gather-none n k (omega arith))
 
   -- a number is gathered as often as x occurs in its list
-  pub gather-occurs : (n k : ℕ) → k < n → occurs k (gather f x n) ≡ occurs x (f k)
+  gather-occurs : (n k : ℕ) → k < n → occurs k (gather f x n) ≡ occurs x (f k)
   gather-occurs zero k h = absurd (omega arith)
   gather-occurs (suc n) k h = gather-next n k ∙ go (λ l. gather-occurs n k l) (decLt k n)
     where
@@ -65,10 +65,10 @@ module _ (f : ℕ → List ℕ) (x : ℕ) where
           let e : k ≡ n = omega arith in
           rw e (omega (arith, gather-none n n (omega arith), occurs-same (occurs x (f n)) n))
 
-  pub in-gather : (n k : ℕ) → k < n → In x (f k) → In k (gather f x n)
+  in-gather : (n k : ℕ) → k < n → In x (f k) → In k (gather f x n)
   in-gather n k h m = occurs-some k _ .0 (omega (arith, gather-occurs n k h, occurs-some x (f k) .1 m))
 
-  pub gather-in : (n k : ℕ) → In k (gather f x n) → (k < n) × In x (f k)
+  gather-in : (n k : ℕ) → In k (gather f x n) → (k < n) × In x (f k)
   gather-in n k m = go (decLt k n) (occurs-some k _ .1 m)
     where
       go : Dec (k < n) → 0 < occurs k (gather f x n) → (k < n) × In x (f k)
@@ -76,7 +76,7 @@ module _ (f : ℕ → List ℕ) (x : ℕ) where
       go (no l) h = absurd (omega (arith, gather-none n k (omega arith)))
 
   -- enough for it to ascend: x occurs at most once in each list
-  pub gather-ascending : (n : ℕ) → ((k : ℕ) → k < n → occurs x (f k) ≤ 1) → Ascending (gather f x n)
+  gather-ascending : (n : ℕ) → ((k : ℕ) → k < n → occurs x (f k) ≤ 1) → Ascending (gather f x n)
   unfolding gather Ascending
   gather-ascending zero h = tt
   gather-ascending (suc n) h =

@@ -6,4 +6,3 @@ pub mod ShapeExact
 pub mod Sequences
 pub mod Layers
 pub mod Written
-pub mod Rewritten

@@ -1,4 +1,5 @@
--- Lists and numbers one after another; layers written out: the listing says what they say, and has a good shape.
+-- Lists and numbers one after another; layers written out: the listing says what they say, and has a good shape; layers
+-- that say the same are written alike.
 -- Assumes nothing.
 use mathlib.Core.Path.{_≡_, refl, sym, ap, _∙_}
 use mathlib.Core.List.{List, [], _∷_, _++_, append-assoc, append-nil}
@@ -6,9 +7,9 @@ use Prim.Native.Nat.{ℕ, zero, suc, _+_, _-_, _*_, _/_, _%_, _≤_, _<_}
 use native.Mathlib.Decide.{decLt}
 use native.Mathlib.Omega.{arith}
 use lib.ListN.{length, getD, take, drop, length-append, List·getD-eq-default}
-use lib.Seq.{take-at, drop-at, getD-at, ext-getD}
-use Rattle.order.specs.Sums.{sum}
-use Rattle.order.proofs.Sums.{sum-lt, sum-same, place-at}
+use lib.Seq.{take-at, drop-at, getD-at}
+use Rattle.order.specs.Sums.{sum, place}
+use Rattle.order.proofs.Sums.{sum-lt, sum-same, place-ok, place-at}
 use Rattle.listing.specs.Listing.{Limits, rank, count, before, start, entries, side, subs, sups}
 use Rattle.listing.specs.Shape.{elements, Shaped}
 use Rattle.listing.specs.Layers.{Layers, Topped}
@@ -37,13 +38,13 @@ module _ (f : ℕ → List ℕ) where
           let e : i ≡ n = omega arith in
           ([], rw (e, append-nil))
 
-  pub joined-slice : (n i : ℕ) → i < n → take (length (f i)) (drop (sum (lengths f) i) (joined f n)) ≡ f i
+  joined-slice : (n i : ℕ) → i < n → take (length (f i)) (drop (sum (lengths f) i) (joined f n)) ≡ f i
   joined-slice n i h =
       let s = joined-split n i h in
       rw (s .1, drop-at (joined f i) (f i ++ s .0) (sum (lengths f) i) (joined-length i))
       (take-at (f i) (s .0) (length (f i)) refl)
 
-pub joined-same : (f g : ℕ → List ℕ) (n : ℕ) → ((i : ℕ) → i < n → f i ≡ g i) → joined f n ≡ joined g n
+joined-same : (f g : ℕ → List ℕ) (n : ℕ) → ((i : ℕ) → i < n → f i ≡ g i) → joined f n ≡ joined g n
 unfolding joined
 joined-same f g zero h = refl
 joined-same f g (suc n) h = rw (joined-same f g n (λ i l. h i (omega arith)), h n (omega arith))
@@ -61,12 +62,6 @@ module _ (f : ℕ → ℕ) where
   table-at n i h =
       let s = joined-split (λ k. f k ∷ []) n i h in
       rw (s .1) (getD-at (table f i) (f i) (s .0) 0 i (table-length i))
-
-  -- the table of what a list holds is the list
-  pub table-is : (l : List ℕ) → ((i : ℕ) → i < length l → f i ≡ getD l i 0) → table f (length l) ≡ l
-  table-is l h =
-      let n = table-length (length l) in
-      ext-getD 0 _ l n (λ i k. table-at (length l) i (omega arith) ∙ h i (omega arith))
 
 pub table-same : (f g : ℕ → ℕ) (n : ℕ) → ((i : ℕ) → i < n → f i ≡ g i) → table f n ≡ table g n
 unfolding table
@@ -95,12 +90,12 @@ module _ (M : Layers) (above : ℕ → ℕ → List ℕ) where
   written-rank = omega (arith, written-counts-length)
 
   -- a list begins where the lists before it end
-  pub written-start : (k : ℕ) → k ≤ lists M → start (written M above .ends) k ≡ sum (lengths (nth M above)) k
+  written-start : (k : ℕ) → k ≤ lists M → start (written M above .ends) k ≡ sum (lengths (nth M above)) k
   unfolding written sum
   written-start zero h = refl
   written-start (suc k) h = table-at (λ n. sum (lengths (nth M above)) (suc n)) (lists M) k h
 
-  pub written-entries : (k : ℕ) → k < lists M → entries (written M above .ends) (written M above .inc) k ≡ nth M above k
+  written-entries : (k : ℕ) → k < lists M → entries (written M above .ends) (written M above .inc) k ≡ nth M above k
   unfolding entries written sum
   written-entries k h =
       let n : ℕ → ℕ = lengths (nth M above) in
@@ -162,7 +157,7 @@ module _ (M : Layers) (above : ℕ → ℕ → List ℕ) (t : Topped M) where
   pub written-elements : elements (written M above) ≡ sum (M .size) (suc (M .top))
   written-elements = rw (written-counts-length M above) (written-before (suc (M .top)))
 
-  pub written-side : (s r i : ℕ) → s < 2 → i < M .size r → side (written M above) s r i ≡ listAt M above s (r, i)
+  written-side : (s r i : ℕ) → s < 2 → i < M .size r → side (written M above) s r i ≡ listAt M above s (r, i)
   written-side s r i hs hi =
       let hr = in-range M t r i hi in
       let l = sum-lt (M .size) r (suc (M .top)) i (omega arith) hi in
@@ -188,3 +183,33 @@ module _ (M : Layers) (above : ℕ → ℕ → List ℕ) (t : Topped M) where
     rising = λ k h. written-rising M above k (omega (arith, written-ends-length M above));
     full = written-full M above;
   }
+
+-- ---- layers that say the same are written alike
+
+module _ (M N : Layers) (a b : ℕ → ℕ → List ℕ) (p : M .top ≡ N .top) (q : (r : ℕ) → M .size r ≡ N .size r)
+    (u : (r i : ℕ) → i < M .size r → M .under r i ≡ N .under r i)
+    (v : (r i : ℕ) → i < M .size r → a r i ≡ b r i) where
+  same-list : (s : ℕ) (x : ℕ × ℕ) → x .1 < M .size (x .0) → listAt M a s x ≡ listAt N b s x
+  unfolding listAt
+  same-list s x h = rw (u (x .0) (x .1) h, v (x .0) (x .1) h)
+
+  same-nth : (n : ℕ) → n < lists M → nth M a n ≡ nth N b n
+  unfolding nth
+  same-nth n h =
+      same-list (n % 2) _ (place-ok (M .size) (suc (M .top)) (n / 2) (omega arith) .1)
+      ∙ (λ t. listAt N b (n % 2) (place (λ r. q r t) (suc (p t)) (n / 2)))
+
+  same-lists : lists M ≡ lists N
+  same-lists = λ t. 2 * sum (λ r. q r t) (suc (p t))
+
+  pub written-same : written M a ≡ written N b
+  unfolding written
+  written-same = λ t. record { counts = table (λ r. q r t) (suc (p t)); ends = ends t; inc = inc t }
+    where
+      ends : written M a .ends ≡ written N b .ends
+      ends =
+          table-same _ _ (lists M) (λ i h. sum-same _ _ (suc i) (λ k l. ap length (same-nth k (omega arith))))
+          ∙ ap (table (λ n. sum (lengths (nth N b)) (suc n))) same-lists
+
+      inc : written M a .inc ≡ written N b .inc
+      inc = joined-same _ _ _ same-nth ∙ ap (joined (nth N b)) same-lists

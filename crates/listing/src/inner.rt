@@ -2,7 +2,7 @@
 // caller; the entries, in lib.rt, ask nothing.
 use crate::Answer;
 ghost use mathlib.Core.Path.{_≡_};
-ghost use Prim.Native.Nat.{ℕ, _+_, _*_, _≤_, _<_, min};
+ghost use Prim.Native.Nat.{_+_, _*_, _≤_, _<_, min};
 ghost use lib.ListN.{length, getD};
 ghost use Rattle.listing.specs.Answers.{refusal};
 ghost use Rattle.listing.specs.Listing.{before, start, entries, Ends};

@@ -2,13 +2,12 @@
 -- Assumes nothing.
 use mathlib.Core.Path.{_≡_, refl, sym, ap, _∙_}
 use mathlib.Core.Bool.{not}
-use Prim.Native.Nat.{ℕ, zero, suc, _*_, _/_, _%_, _^_, _≤_, _<_}
-use native.Mathlib.Nat.{one-mul, pow-suc}
+use Prim.Native.Nat.{ℕ, zero, suc, _/_, _%_, _^_, _≤_, _<_}
+use native.Mathlib.Nat.{pow-suc}
 use native.Mathlib.Omega.{arith}
 use borrow.Author.Tests.{ne-eqb, lt-ltb}
 use lib.Count.{trailingZeros, under, ones, ones-step}
-use lib.Dec.{eqb, ltb, lit<}
-use lib.Pow.{shl-exact}
+use lib.Dec.{eqb, ltb}
 
 -- ---- where it stands
 
@@ -32,10 +31,6 @@ low-fits (suc k) n p h = go (n % 2) refl (low-fits k (n / 2))
     go zero e ih =
         omega (arith, ih (omega arith) (omega (arith, pow-suc 2 k)), pow-suc 2 (trailingZeros k (n / 2)))
     go (suc d) e ih = omega arith
-
--- 1 << r, as the machine has it
-pub one-shl : (r : ℕ) → r < 16 → 1 * 2 ^ r % 65536 ≡ 2 ^ r
-one-shl r h = shl-exact {a = 1} 1 r 16 (lit< tt) (omega arith) ∙ one-mul (2 ^ r)
 
 -- ---- whether there is one
 

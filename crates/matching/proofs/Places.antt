@@ -12,7 +12,7 @@ use Rattle.matching.specs.Ways.{down, up, Fits}
 
 module _ {m : Limits} (L : Listing) (S : Shaped m L) (r : ℕ) where
   -- a whole rank
-  pub rank-fits : 2 * (before (L .counts) r + count L r) ≤ length (L .ends)
+  rank-fits : 2 * (before (L .counts) r + count L r) ≤ length (L .ends)
   rank-fits = omega (arith, before-next (L .counts) r, before-all (L .counts) (r + 1), S .two-ends-each)
 
   -- the lists of an element

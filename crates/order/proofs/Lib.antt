@@ -7,4 +7,3 @@ pub mod Added
 pub mod Struck
 pub mod Trim
 pub mod Product
-pub mod Flags

@@ -1,10 +1,9 @@
 -- The pairs of two structures, exchanged, turned over, and with renumbered factors.
 -- Assumes nothing.
 use mathlib.Core.Path.{_≡_, refl, sym, ap}
-use mathlib.Core.Logic.{_↔_}
 use Prim.Native.Nat.{suc, _+_}
 use native.Mathlib.Omega.{arith}
-use Rattle.order.specs.Structure.{Order, Ranked, Lowest, Highest, turned, Renumbering}
+use Rattle.order.specs.Structure.{Order, Ranked, turned, Renumbering}
 use Rattle.order.specs.Pairs.{Step, left, right, Pairs, swap}
 
 pub pair-path : {E F : Type 0} {x y : E × F} → x .0 ≡ y .0 → x .1 ≡ y .1 → x ≡ y
@@ -91,17 +90,3 @@ Pairs·renumbered {A} {A′} {B} {B′} f g = record {
 
     from-exists : (x : A′ .Elem × B′ .Elem) → Pairs A′ B′ .Exists x → Pairs A B .Exists (f .from (x .0), g .from (x .1))
     from-exists x e = (f .from-exists _ (e .0), g .from-exists _ (e .1))
-
-pub Pairs·lowest : (A B : Order) (x : A .Elem × B .Elem) → Lowest (Pairs A B) x ↔ (Lowest A (x .0) × Lowest B (x .1))
-Pairs·lowest A B x =
-    (λ r. ((r .0 .0, omega (arith, r .1)), (r .0 .1, omega (arith, r .1))), λ r. ((r .0 .0, r .1 .0), omega arith))
-
-pub Pairs·highest : {A B : Order} → Ranked A → Ranked B → (x : A .Elem × B .Elem)
-    → Highest (Pairs A B) x ↔ (Highest A (x .0) × Highest B (x .1))
-Pairs·highest {A} {B} rA rB x = (down, λ r. ((r .0 .0, r .1 .0), omega arith))
-  where
-    down : Highest (Pairs A B) x → Highest A (x .0) × Highest B (x .1)
-    down r =
-        let p = rA .cap _ (r .0 .0) in
-        let q = rB .cap _ (r .0 .1) in
-        ((r .0 .0, omega arith), (r .0 .1, omega arith))

@@ -83,7 +83,7 @@ module _ {A B : Order} (rA : Ranked A) (rB : Ranked B) where
       from v (left c f) = (v .0, c, pair-path refl f)
       from v (right f c) = absurd (omega (arith, rB .step _ _ c, ap (B .rank) e))
 
-  pub Pairs·rooted : Rooted A → Rooted B → Rooted (Pairs A B)
+  Pairs·rooted : Rooted A → Rooted B → Rooted (Pairs A B)
   unfolding Rooted
   Pairs·rooted dA dB y e h = go (decLt 0 (A .rank (y .0)))
     where
@@ -95,14 +95,14 @@ module _ {A B : Order} (rA : Ranked A) (rB : Ranked B) where
           let t = dB (y .1) (e .1) (omega arith) in
           ((y .0, t .0), ((e .0, rB .exist _ _ (t .1) .0), e, right refl (t .1)))
 
-pub Pairs·some-lowest : {A B : Order} → SomeLowest A → SomeLowest B → SomeLowest (Pairs A B)
+Pairs·some-lowest : {A B : Order} → SomeLowest A → SomeLowest B → SomeLowest (Pairs A B)
 Pairs·some-lowest s t = record {
   low = (s .low, t .low);
   low-exists = (s .low-exists, t .low-exists);
   low-rank = omega (arith, s .low-rank, t .low-rank);
 }
 
-pub Pairs·one-lowest : {A B : Order} → OneLowest A → OneLowest B → OneLowest (Pairs A B)
+Pairs·one-lowest : {A B : Order} → OneLowest A → OneLowest B → OneLowest (Pairs A B)
 Pairs·one-lowest s t = record {
   least = (s .least, t .least);
   least-exists = (s .least-exists, t .least-exists);
@@ -120,7 +120,7 @@ module _ {A B : Order} (rA : Ranked A) (rB : Ranked B) where
       go (right e b) = Renumbering·between (Pairs·ranked rB rA) (Pairs·ranked rA rB) (Pairs·swap B A) x y z r s
           (first rB rA dB (swap x) (swap y) (swap z) (swap (r .0)) (swap (r .1)) (swap (s .1)) b e (swap-step (s .2)))
 
-  pub Pairs·low-diamond : LowDiamond A → LowDiamond B → LowDiamond (Pairs A B)
+  Pairs·low-diamond : LowDiamond A → LowDiamond B → LowDiamond (Pairs A B)
   unfolding LowDiamond Pairs·swap
   Pairs·low-diamond dA dB x y r h = go (r .2)
     where

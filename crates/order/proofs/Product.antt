@@ -2,22 +2,20 @@
 -- exchanging the factors does.
 -- Assumes nothing.
 use mathlib.Core.Path.{_≡_}
-use mathlib.Core.Logic.{_↔_, Iff·trans}
 use mathlib.Core.Bool.{Bool, true, false}
 use Prim.Native.Nat.{ℕ, pred, _+_, _≤_, _<_}
 use native.Mathlib.Omega.{arith}
 use lib.Dec.{T}
-use Rattle.order.specs.Structure.{Order, Ranked, Lowest, Highest, Renumbering}
+use Rattle.order.specs.Structure.{Order, Ranked, Renumbering}
 use Rattle.order.specs.Diamond.{Frame, Cell}
 use Rattle.order.specs.Pairs.{swap}
 use Rattle.order.specs.Ends.{trim, InUse, Product, need, together, kept, inside, addedMin, addedMax}
 use Rattle.order.proofs.Renumbering.{Renumbering·back}
-use Rattle.order.proofs.Pairs.{Pairs·ranked, Pairs·swap, Pairs·renumbered, Pairs·lowest, Pairs·highest}
+use Rattle.order.proofs.Pairs.{Pairs·ranked, Pairs·swap}
 use Rattle.order.proofs.PairsCell.{Pairs·frame, Pairs·cell}
 use Rattle.order.proofs.Trim.{trim·ranked, grow·ranked, trim·frame, grow·frame, trim·cell, grow·cell}
-use Rattle.order.proofs.Trim.{trim·renumbered, grow·renumbered}
+use Rattle.order.proofs.Trim.{grow·renumbered}
 use Rattle.order.proofs.Trim.{trim·grow, trim·grow-from, grow·inside, grow·addedMin, grow·addedMax}
-use Rattle.order.proofs.Trim.{addedMin·under, addedMax·over}
 
 pub InUse·ranked : (min max : Bool) {A B : Order} → Ranked A → Ranked B → Ranked (InUse min max A B)
 InUse·ranked min max rA rB = Pairs·ranked (trim·ranked min max rA) (trim·ranked min max rB)
@@ -54,11 +52,6 @@ Product·cell min max {A} {B} rA rB p q h gA gB =
     grow·cell min max (Pairs·ranked tA tB) (room min max A B h)
     (Pairs·cell tA tB (trim·cell min max rA p gA) (trim·cell min max rB q gB))
 
-unfoldable pub Product·renumbered : (min max : Bool) {A A′ B B′ : Order} → Ranked A → Ranked A′ → Ranked B → Ranked B′
-    → Renumbering A A′ → Renumbering B B′ → Renumbering (Product min max A B) (Product min max A′ B′)
-Product·renumbered min max rA rA′ rB rB′ f g =
-    grow·renumbered min max (Pairs·renumbered (trim·renumbered min max rA rA′ f) (trim·renumbered min max rB rB′ g))
-
 unfoldable pub Product·swap : (min max : Bool) (A B : Order) → Renumbering (Product min max A B) (Product min max B A)
 Product·swap min max A B = grow·renumbered min max (Pairs·swap (trim min max A) (trim min max B))
 
@@ -90,20 +83,3 @@ pub Product·swap-max : (min : Bool) (A B : Order)
     → Product·swap min true A B .to (addedMax min (InUse min true A B)) ≡ addedMax min (InUse min true B A)
 unfolding Product·swap
 Product·swap-max min A B = grow·addedMax (Pairs·swap (trim min true A) (trim min true B)) min
-
--- The added minimal element lies directly under the pairs of two lowest elements in use, and under no other pair; under
--- nothing but pairs, by addedMin·only.
-pub Product·min-under : (max : Bool) {A B : Order} → Ranked A → Ranked B → (x : InUse true max A B .Elem)
-    → Product true max A B .Under (addedMin max (InUse true max A B)) (inside true max (InUse true max A B) x)
-    ↔ (Lowest (trim true max A) (x .0) × Lowest (trim true max B) (x .1))
-Product·min-under max {A} {B} rA rB x =
-    Iff·trans (addedMin·under (InUse·ranked true max rA rB) max x) (Pairs·lowest (trim true max A) (trim true max B) x)
-
--- The added maximal element lies directly over the pairs of two highest elements in use, and over no other pair; over
--- nothing but pairs, by addedMax·only.
-pub Product·max-over : (min : Bool) {A B : Order} → Ranked A → Ranked B → (x : InUse min true A B .Elem)
-    → Product min true A B .Under (inside min true (InUse min true A B) x) (addedMax min (InUse min true A B))
-    ↔ (Highest (trim min true A) (x .0) × Highest (trim min true B) (x .1))
-Product·max-over min rA rB x =
-    Iff·trans (addedMax·over (InUse·ranked min true rA rB) min x)
-    (Pairs·highest (trim·ranked min true rA) (trim·ranked min true rB) x)

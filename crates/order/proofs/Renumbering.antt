@@ -170,7 +170,7 @@ module _ {A B : Order} (rA : Ranked A) (rB : Ranked B) (f : Renumbering A B) whe
       (λ w p. rA .exist _ _ p .0) (λ w q. rB .exist _ _ q .0) (λ w p. under-to f w y (e .1) p)
       (λ w q. f .from-under _ _ q) o
 
-  pub Renumbering·diamond : Diamond A → Diamond B
+  Renumbering·diamond : Diamond A → Diamond B
   unfolding Diamond
   Renumbering·diamond d x y z r s = Renumbering·between x y z r s (d _ _ _ (f .from-under _ _ r) (f .from-under _ _ s))
 
@@ -201,7 +201,7 @@ Renumbering·cell rA rB f g = record {
       Renumbering·low-diamond (turned·ranked rA) (turned·ranked rB) (Renumbering·turned f) (g .high-diamond t);
 }
 
-pub turned·diamond : (W : Order) → Diamond W → Diamond (turned W)
+turned·diamond : (W : Order) → Diamond W → Diamond (turned W)
 unfolding Diamond
 turned·diamond W d x y z r s =
     OneOther·same (Between W z x) (Between (turned W) x z) y (λ w p. (p .1, p .0)) (λ w p. (p .1, p .0)) (d z y x s r)

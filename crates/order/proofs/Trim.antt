@@ -1,14 +1,13 @@
 -- Structures trimmed and grown, as the two Booleans say: what becomes of closed cells, and trimming undoes growing.
 -- Assumes nothing.
 use mathlib.Core.Path.{_≡_, refl}
-use mathlib.Core.Logic.{_↔_}
 use mathlib.Core.Bool.{Bool, true, false}
 use Prim.Native.Nat.{ℕ, pred, _≤_, _<_}
 use native.Mathlib.Omega.{arith}
 use lib.Dec.{T}
-use Rattle.order.specs.Structure.{Order, Ranked, Lowest, Highest, turned, Renumbering}
+use Rattle.order.specs.Structure.{Order, Ranked, Renumbering}
 use Rattle.order.specs.Diamond.{Frame, Cell}
-use Rattle.order.specs.Ends.{end, old, withMax, trimMin, trim, growMax, grow}
+use Rattle.order.specs.Ends.{end, withMax, trimMin, trim, growMax, grow}
 use Rattle.order.specs.Ends.{need, kept, inside, addedMin, addedMax}
 use Rattle.order.proofs.Renumbering.{Renumbering·same, Renumbering·back, Renumbering·then}
 use Rattle.order.proofs.Renumbering.{Renumbering·turned, turned·turned}
@@ -125,35 +124,3 @@ module _ {A B : Order} (f : Renumbering A B) where
   unfolding grow·renumbered growMax·renumbered withMin·renumbered withMax·renumbered Renumbering·turned
   grow·addedMax true = refl
   grow·addedMax false = refl
-
--- The added minimal element lies directly under the whole lowest rank, the maximal one directly over the whole highest.
-module _ {W : Order} (rW : Ranked W) where
-  pub addedMin·under : (max : Bool) (x : W .Elem)
-      → grow true max W .Under (addedMin max W) (inside true max W x) ↔ Lowest W x
-  addedMin·under true x = (λ r. (r .0, omega (arith, rW .cap x (r .0))), λ r. (r .0, omega (arith, rW .cap x (r .0))))
-  addedMin·under false x = (λ r. r, λ r. r)
-
-  from-above : (x : W .Elem) → Lowest (turned W) x ↔ Highest W x
-  from-above x = (λ r. (r .0, omega (arith, rW .cap x (r .0))), λ r. (r .0, omega (arith, rW .cap x (r .0))))
-
-  pub addedMax·over : (min : Bool) (x : W .Elem)
-      → grow min true W .Under (inside min true W x) (addedMax min W) ↔ Highest W x
-  addedMax·over true x = from-above x
-  addedMax·over false x = from-above x
-
--- Nothing else lies directly over the added minimal element, or directly under the maximal one.
-pub addedMin·only : (max : Bool) (W : Order) (y : grow true max W .Elem) → grow true max W .Under (addedMin max W) y
-    → (x : W .Elem) × (y ≡ inside true max W x)
-addedMin·only true W end r = absurd r
-addedMin·only true W (old end) r = absurd (omega (arith, r .1))
-addedMin·only true W (old (old x)) r = (x, refl)
-addedMin·only false W end r = absurd r
-addedMin·only false W (old x) r = (x, refl)
-
-pub addedMax·only : (min : Bool) (W : Order) (y : grow min true W .Elem) → grow min true W .Under y (addedMax min W)
-    → (x : W .Elem) × (y ≡ inside min true W x)
-addedMax·only true W end r = absurd (omega (arith, r .1))
-addedMax·only true W (old end) r = absurd r
-addedMax·only true W (old (old x)) r = (x, refl)
-addedMax·only false W end r = absurd r
-addedMax·only false W (old x) r = (x, refl)

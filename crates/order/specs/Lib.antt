@@ -4,4 +4,4 @@ pub mod Structure
 pub mod Diamond
 pub mod Pairs
 pub mod Ends
-pub mod Flags
+pub mod Steps

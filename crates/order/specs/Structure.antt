@@ -2,8 +2,6 @@
 --
 -- Order         a structure, with nothing asked of it yet
 -- Ranked        what lies directly under what exists, one rank apart; nothing lies above the highest rank
--- Lowest        an element is there, and of the lowest rank
--- Highest       an element is there, and of the highest rank
 -- turned        the same structure upside down
 -- Renumbering   one to one on what exists, both ways; keeps the rank and what lies directly under what
 use mathlib.Core.Path.{_≡_}
@@ -20,12 +18,6 @@ pub record Ranked (W : Order) : Type 0 where
   pub exist : (x y : W .Elem) → W .Under x y → W .Exists x × W .Exists y
   pub step : (x y : W .Elem) → W .Under x y → W .rank y ≡ suc (W .rank x)
   pub cap : (x : W .Elem) → W .Exists x → W .rank x ≤ W .top
-
-abbrev pub Lowest : (W : Order) → W .Elem → Type 0
-Lowest W x = W .Exists x × (W .rank x ≡ 0)
-
-abbrev pub Highest : (W : Order) → W .Elem → Type 0
-Highest W x = W .Exists x × (W .rank x ≡ W .top)
 
 abbrev pub turned : Order → Order
 turned W = record {

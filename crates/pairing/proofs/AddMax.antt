@@ -19,7 +19,7 @@ use Rattle.pairing.specs.Grown.{upTo, maxSize, maxUnder, addMax}
 use Rattle.pairing.proofs.Sequences.{upTo-in, in-upTo, upTo-ascending}
 
 -- Where the elements stand then, and which element stands where, for layers of height t.
-abbrev pub maxTo : ℕ → Added (ℕ × ℕ) → ℕ × ℕ
+abbrev maxTo : ℕ → Added (ℕ × ℕ) → ℕ × ℕ
 maxTo t end = (suc t, 0)
 maxTo t (old x) = x
 

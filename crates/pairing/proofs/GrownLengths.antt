@@ -1,4 +1,4 @@
--- The lists of grown layers: the sups that the added elements have and give, and how many subs they add.
+-- The lists of grown layers: the sups of what was there, and how many subs the added elements bring.
 -- Assumes nothing.
 use mathlib.Core.Path.{_≡_, refl, ap, _∙_}
 use mathlib.Core.Bool.{Bool, true, false}
@@ -8,13 +8,12 @@ use native.Mathlib.Nat.{add-zero}
 use native.Mathlib.Numerals.{add-one}
 use native.Mathlib.Omega.{arith}
 use lib.ListN.{length}
-use Rattle.order.specs.Lists.{occurs}
 use Rattle.order.specs.Sums.{sum}
 use Rattle.order.proofs.Sums.{sum-same}
 use Rattle.listing.specs.Layers.{Layers, gather, derived}
 use Rattle.pairing.specs.Sound.{Sound}
 use Rattle.pairing.specs.Trimmed.{bit}
-use Rattle.pairing.specs.Grown.{upTo, minSize, minUnder, addMin, maxSize, addMax, grown}
+use Rattle.pairing.specs.Grown.{minSize, minUnder, addMin, maxSize, addMax, grown}
 use Rattle.pairing.specs.Lengths.{rankSubs, allSubs}
 use Rattle.pairing.proofs.Sequences.{upTo-length, upTo-occurs, sum-all, sum-first}
 use Rattle.pairing.proofs.AddMax.{max-size-low, max-size-top, max-under-low, max-under-top, addMax-sound}
@@ -27,19 +26,9 @@ unfolding gather
 gather-same f g x zero h = refl
 gather-same f g x (suc n) h = rw (gather-same f g x n (λ k l. h k (omega arith)), h n (omega arith))
 
--- each list holds x once
-gather-once : (f : ℕ → List ℕ) (x n : ℕ) → ((k : ℕ) → k < n → occurs x (f k) ≡ 1) → gather f x n ≡ upTo n
-unfolding gather upTo
-gather-once f x zero h = refl
-gather-once f x (suc n) h = rw (gather-once f x n (λ k l. h k (omega arith)), h n (omega arith))
-
 -- ---- an element more under all
 
 module _ (M : Layers) where
-  addMin-sups-end : derived (addMin M) 0 0 ≡ upTo (M .size 0)
-  unfolding derived minSize minUnder occurs
-  addMin-sups-end = gather-once _ 0 (M .size 0) (λ k l. refl)
-
   addMin-sups : (r a : ℕ) → derived (addMin M) (suc r) a ≡ derived M r a
   unfolding derived minSize minUnder
   addMin-sups r a = refl
@@ -109,11 +98,6 @@ grown-sups true true M r a h = rw add-one (addMin-sups (addMax M) r a ∙ addMax
 grown-sups true false M r a h = rw add-one (addMin-sups M r a)
 grown-sups false true M r a h = rw add-zero (addMax-sups M r a (omega arith))
 grown-sups false false M r a h = rw add-zero
-
--- the added minimal element has all of rank 1 for sups
-pub grown-min-sups : (max : Bool) (M : Layers) → derived (grown true max M) 0 0 ≡ upTo (M .size 0)
-grown-min-sups true M = addMin-sups-end (addMax M) ∙ ap upTo (max-size-low M 0 (omega arith))
-grown-min-sups false M = addMin-sups-end M
 
 -- the added maximal element is the one sup of the rank below
 pub grown-max-sups : (min : Bool) (M : Layers) (a : ℕ) → a < M .size (M .top)

@@ -28,7 +28,7 @@ module _ (M : Layers) (s : Sound M) where
   rankSubs-lowest = sum-zero _ (M .size 0) (λ b h. no-member _ (λ a m. absurd (not-suc-le-zero (s 0 b a h m .0))))
 
   -- each sub has its sup
-  pub rank-sups : (r : ℕ) → sum (λ a. length (derived M r a)) (M .size r) ≡ rankSubs M (suc r)
+  rank-sups : (r : ℕ) → sum (λ a. length (derived M r a)) (M .size r) ≡ rankSubs M (suc r)
   unfolding rankSubs Sound
   rank-sups r =
       sum-same _ _ (M .size r) (λ a h. derived-length M r a)
@@ -40,7 +40,7 @@ unfolding rankSubs Topped sum
 rankSubs-above M t r h = rw (t r h)
 
 module _ (M : Layers) (t : Topped M) (s : Sound M) where
-  pub all-sups : sum (λ r. sum (λ a. length (derived M r a)) (M .size r)) (suc (M .top)) ≡ allSubs M
+  all-sups : sum (λ r. sum (λ a. length (derived M r a)) (M .size r)) (suc (M .top)) ≡ allSubs M
   unfolding allSubs sum
   all-sups =
       sum-same _ (λ r. rankSubs M (suc r)) (suc (M .top)) (λ r h. rank-sups M s r)

@@ -31,7 +31,7 @@ module _ (M : Layers) (above : ℕ → ℕ → List ℕ) (t : Topped M) where
   exists-written r i h = rw (written-count M above t r) at h
 
   -- the same elements, and the same order
-  pub written-order : Renumbering (order M) (order (layers (written M above)))
+  written-order : Renumbering (order M) (order (layers (written M above)))
   written-order = record {
     to = λ x. x;
     from = λ x. x;
@@ -52,14 +52,14 @@ module _ (M : Layers) (above : ℕ → ℕ → List ℕ) (t : Topped M) where
     same-top = written-rank M above;
   }
 
-  pub written-sound : Sound M → Sound (layers (written M above))
+  written-sound : Sound M → Sound (layers (written M above))
   unfolding Sound
   written-sound s r b a h m =
       let k = exists-written r b h in
       let z = s r b a k (rw (written-subs M above t r b k) at m) in
       (z .0, written-exists _ a (z .1))
 
-  pub written-sorted : Sorted M → Sorted (layers (written M above))
+  written-sorted : Sorted M → Sorted (layers (written M above))
   unfolding Sorted
   written-sorted s r b h = let k = exists-written r b h in rw (written-subs M above t r b k) (s r b k)
 
@@ -103,7 +103,7 @@ module _ (min max : Bool) (A B : Listing) where
   unfolding productOf
   productOf-shaped m = written-shaped _ _ topped m
 
-  pub productOf-order : Renumbering (order (productLayers min max A B)) (order (layers (productOf min max A B)))
+  productOf-order : Renumbering (order (productLayers min max A B)) (order (layers (productOf min max A B)))
   unfolding productOf
   productOf-order = written-order _ _ topped
 

@@ -27,7 +27,7 @@ module _ (A B : Layers) where
 
   -- ---- subs
 
-  pub pairSubs-length : (x : El × El)
+  pairSubs-length : (x : El × El)
       → length (pairSubs A B x) ≡ length (A .under (x .0 .0) (x .0 .1)) + length (B .under (x .1 .0) (x .1 .1))
   unfolding leftSubs rightSubs
   pairSubs-length x = simp (length-append, length-map)

@@ -6,7 +6,7 @@ use native.Mathlib.Nat.{mod-lt, div-lt-iff-lt-mul, div-add-mod', mul-zero, zero-
 use native.Mathlib.Decide.{decLt}
 use native.Mathlib.Omega.{arith}
 use lib.Arith.{digits-lt, digits-div, digits-mod}
-use Rattle.order.specs.Sums.{sum, place}
+use Rattle.order.specs.Sums.{place}
 use Rattle.order.specs.Pairs.{Pairs}
 use Rattle.order.proofs.Sums.{sum-lt, sum-zero, place-ok, place-at, part-pos}
 use Rattle.order.proofs.Pairs.{pair-path}
@@ -14,11 +14,6 @@ use Rattle.listing.specs.Layers.{Layers, Topped, order}
 use Rattle.pairing.specs.Paired.{El, block, offset, position, pairOf, pairAt, pairSubs, paired}
 
 module _ (A B : Layers) where
-  -- the pairs whose first member is of rank i follow those before them
-  pub block-next : (R i : ℕ) → sum (block A B R) (suc i) ≡ sum (block A B R) i + A .size i * B .size (R - i)
-  unfolding sum block
-  block-next R i = refl
-
   -- the place of a pair in its block
   pub in-block : (i a j b : ℕ) → a < A .size i → b < B .size j → a * B .size j + b < block A B (i + j) i
   unfolding block

@@ -30,7 +30,7 @@ abbrev pub keptPair : (min max : Bool) (A B : Layers) → El × El → InUse min
 keptPair min max A B x = (kept min max (order A) (x .0), kept min max (order B) (x .1))
 
 module _ (min max : Bool) (A B : Layers) where
-  pub usedPairs-topped : Topped (usedPairs min max A B)
+  usedPairs-topped : Topped (usedPairs min max A B)
   usedPairs-topped = paired-topped _ _ (trimmed-topped min max A) (trimmed-topped min max B)
 
   pub product-topped : Topped (product min max A B)

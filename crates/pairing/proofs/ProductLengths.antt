@@ -26,11 +26,11 @@ use Rattle.pairing.proofs.GrownLengths.{grown-subs, grown-count}
 
 -- ---- the lowest and the highest pairs
 
-pub paired-lowest : (A B : Layers) → paired A B .size 0 ≡ A .size 0 * B .size 0
+paired-lowest : (A B : Layers) → paired A B .size 0 ≡ A .size 0 * B .size 0
 unfolding sum block
 paired-lowest A B = omega arith
 
-pub paired-highest : (A B : Layers) → Topped A → Topped B
+paired-highest : (A B : Layers) → Topped A → Topped B
     → paired A B .size (A .top + B .top) ≡ A .size (A .top) * B .size (B .top)
 unfolding block Topped
 paired-highest A B tA tB =
@@ -51,7 +51,7 @@ product-count min max A B = grown-count min max (usedPairs min max A B)
 
 -- ---- incidences
 
-pub paired-allSubs : (A B : Layers) → allSubs (paired A B) ≡ sum (pairedSubs A B) (suc (A .top + B .top))
+paired-allSubs : (A B : Layers) → allSubs (paired A B) ≡ sum (pairedSubs A B) (suc (A .top + B .top))
 unfolding allSubs
 paired-allSubs A B = sum-same _ _ (suc (A .top + B .top)) (λ R h. paired-rankSubs A B R)
 

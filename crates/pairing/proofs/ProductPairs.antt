@@ -22,7 +22,7 @@ use Rattle.pairing.proofs.Trimmed.{used-exists, used-under}
 use Rattle.pairing.proofs.Product.{keptPair, product-topped, product-order, product-order-to}
 
 -- Where a pair stands, as an element of what is left of the product.
-abbrev pub placed : (min max : Bool) (A B : Layers) → El × El → trim min max (order (product min max A B)) .Elem
+abbrev placed : (min max : Bool) (A B : Layers) → El × El → trim min max (order (product min max A B)) .Elem
 placed min max A B x = kept min max (order (product min max A B)) (at min max A B x)
 
 -- A step between two pairs, as pairs of what is left.
@@ -37,7 +37,7 @@ kept-same min max M x y e =
     sym (whole-kept min max (order M) x) ∙ ap (whole min max (order M)) e ∙ whole-kept min max (order M) y
 
 module _ (min max : Bool) (A B : Layers) (tA : Topped A) (tB : Topped B) (sA : Sound A) (sB : Sound B) where
-  pub product-pairs : Renumbering (InUse min max (order A) (order B)) (trim min max (order (product min max A B)))
+  product-pairs : Renumbering (InUse min max (order A) (order B)) (trim min max (order (product min max A B)))
   product-pairs =
       let rA = order-ranked A tA in
       let rB = order-ranked B tB in
@@ -46,7 +46,7 @@ module _ (min max : Bool) (A B : Layers) (tA : Topped A) (tB : Topped B) (sA : S
       (product-order min max A B tA tB sA sB))
 
   -- its map is `at`
-  pub product-pairs-to : (x : El × El) → product-pairs .to (keptPair min max A B x) ≡ placed min max A B x
+  product-pairs-to : (x : El × El) → product-pairs .to (keptPair min max A B x) ≡ placed min max A B x
   unfolding product-pairs Renumbering·then
   product-pairs-to x = rw (Product·pairs-to, kept-to, product-order-to)
 

@@ -41,7 +41,7 @@ module _ (m : Limits) (min max : Bool) (A B : Listing) (c e i : ℕ) where
   unfolding restTest _orElse_
   comb-decides h = rw h
 
-  pub sizes-decide : combCase min max A B ≡ false
+  sizes-decide : combCase min max A B ≡ false
       → sizeTest m (resultOf min max A B) c e i ≡ restTest m min max A B c e i
   unfolding restTest _orElse_
   sizes-decide h = rw h

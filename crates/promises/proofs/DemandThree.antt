@@ -3,49 +3,23 @@
 -- a pair is directly under another exactly when one member is equal and the other directly under; added ends lie under
 -- or over just the outermost pairs; exchanging the factors only swaps the pairs.
 -- Assumes nothing.
-use mathlib.Core.Path.{_≡_}
 use mathlib.Core.Bool.{true, false}
-use Rattle.product.proofs.duopyramid.Reads as duopyramid
-use Rattle.product.proofs.duoprism.Reads as duoprism
-use Rattle.product.proofs.duotegum.Reads as duotegum
-use Rattle.product.proofs.duocomb.Reads as duocomb
-use Rattle.promises.specs.Entries.{Says, SaysOfTwo, lent, right, outputs}
-use Rattle.promises.specs.Products.{prefix, Kept, Exchange}
+use Rattle.listing.specs.Listing.{limits}
+use Rattle.valid.proofs.ClosedExact.{closed-is-valid-and}
+use Rattle.promises.specs.Entries.{lent}
+use Rattle.promises.specs.Demands.{DemandThree}
 use Rattle.promises.proofs.Produced.{outcome-kept, outcomes-swapped}
 
-pub duopyramid-keeps : Says duopyramid.Post
-    (λ a r x. r .answer .no ≡ 0 → Kept false false (lent a) (right a) (prefix (outputs x) r))
-duopyramid-keeps k a r x = outcome-kept false false
-
-pub duoprism-keeps : Says duoprism.Post
-    (λ a r x. r .answer .no ≡ 0 → Kept true false (lent a) (right a) (prefix (outputs x) r))
-duoprism-keeps k a r x = outcome-kept true false
-
-pub duotegum-keeps : Says duotegum.Post
-    (λ a r x. r .answer .no ≡ 0 → Kept false true (lent a) (right a) (prefix (outputs x) r))
-duotegum-keeps k a r x = outcome-kept false true
-
-pub duocomb-keeps : Says duocomb.Post
-    (λ a r x. r .answer .no ≡ 0 → Kept true true (lent a) (right a) (prefix (outputs x) r))
-duocomb-keeps k a r x = outcome-kept true true
-
--- Exchanging the factors.
-pub duopyramid-swaps : SaysOfTwo duopyramid.Post (λ a r x c s y. r .answer .no ≡ 0 → s .answer .no ≡ 0
-    → Exchange false false (lent a) (right a) (lent c) (right c) (prefix (outputs x) r) (prefix (outputs y) s))
-duopyramid-swaps k l a c r s x y p q z w =
-    record { swapped = λ e f n. outcomes-swapped false false p q e f z w n }
-
-pub duoprism-swaps : SaysOfTwo duoprism.Post (λ a r x c s y. r .answer .no ≡ 0 → s .answer .no ≡ 0
-    → Exchange true false (lent a) (right a) (lent c) (right c) (prefix (outputs x) r) (prefix (outputs y) s))
-duoprism-swaps k l a c r s x y p q z w =
-    record { swapped = λ e f n. outcomes-swapped true false p q e f z w n }
-
-pub duotegum-swaps : SaysOfTwo duotegum.Post (λ a r x c s y. r .answer .no ≡ 0 → s .answer .no ≡ 0
-    → Exchange false true (lent a) (right a) (lent c) (right c) (prefix (outputs x) r) (prefix (outputs y) s))
-duotegum-swaps k l a c r s x y p q z w =
-    record { swapped = λ e f n. outcomes-swapped false true p q e f z w n }
-
-pub duocomb-swaps : SaysOfTwo duocomb.Post (λ a r x c s y. r .answer .no ≡ 0 → s .answer .no ≡ 0
-    → Exchange true true (lent a) (right a) (lent c) (right c) (prefix (outputs x) r) (prefix (outputs y) s))
-duocomb-swaps k l a c r s x y p q z w =
-    record { swapped = λ e f n. outcomes-swapped true true p q e f z w n }
+-- The whole of demand 3, a field for each promise.
+pub demand-three : DemandThree
+demand-three = record {
+  closed-is-valid-and = λ k l a c r s x y p q e. rw (p, q, e) (closed-is-valid-and limits (lent a));
+  duopyramid-keeps = λ k a r x. outcome-kept false false;
+  duoprism-keeps = λ k a r x. outcome-kept true false;
+  duotegum-keeps = λ k a r x. outcome-kept false true;
+  duocomb-keeps = λ k a r x. outcome-kept true true;
+  duopyramid-swaps = λ k l a c r s x y. outcomes-swapped false false;
+  duoprism-swaps = λ k l a c r s x y. outcomes-swapped true false;
+  duotegum-swaps = λ k l a c r s x y. outcomes-swapped false true;
+  duocomb-swaps = λ k l a c r s x y. outcomes-swapped true true;
+}

@@ -42,6 +42,7 @@ use Rattle.product.proofs.duopyramid.Reads as duopyramid
 use Rattle.product.proofs.duoprism.Reads as duoprism
 use Rattle.product.proofs.duotegum.Reads as duotegum
 use Rattle.product.proofs.duocomb.Reads as duocomb
+use Rattle.product.proofs.make.make.Reads as make
 use Rattle.flumedrac.proofs.fd_rank.Reads as fd-rank
 use Rattle.flumedrac.proofs.fd_el_count.Reads as fd-el-count
 use Rattle.flumedrac.proofs.fd_vertex_count.Reads as fd-vertex-count
@@ -172,6 +173,9 @@ one-duotegum k a b c x y = same-outcome false true
 
 pub one-duocomb : OneOutcome duocomb.Post outputs
 one-duocomb k a b c x y = same-outcome true true
+
+pub one-make : OneOutcome make.Post (λ x. outputs (x .1 .1))
+one-make k a b c x y = same-outcome (a .0) (a .1 .0)
 
 -- The C boundary.
 

@@ -9,8 +9,7 @@ use Rattle.listing.specs.Listing.{Listing, listing, limits}
 use Rattle.listing.proofs.Answers.{no-or, no-of}
 use Rattle.listing.proofs.ShapeExact.{shape-exact}
 use Rattle.valid.specs.Tests.{bounded, checkIncidences, isValid}
-use Rattle.closure.specs.Result.{first, second, nullCase, combCase, resultOf}
-use Rattle.closure.specs.Pairs.{Swapped}
+use Rattle.closure.specs.Result.{combCase, resultOf}
 use Rattle.closure.proofs.Results.{result-null, result-rank, nullitope-closed, needed}
 use Rattle.closure.proofs.Valid.{valid-sound, product-tests}
 use Rattle.closure.proofs.Pairs.{result-matched, result-low, result-high, result-swapped}
@@ -20,7 +19,7 @@ use Rattle.product.proofs.Made.{built-full, after-full}
 use Rattle.product.proofs.Chain.{chain-passed}
 use Rattle.product.proofs.Answered.{answers, refused-untouched, answered-result, answered-shaped, answered-closed}
 use Rattle.promises.specs.Rules.{FirstBroken}
-use Rattle.promises.specs.Products.{roomRules, prefix, Untouched, Written, Produces, Kept}
+use Rattle.promises.specs.Products.{roomRules, prefix, Untouched, Written, Produces, Kept, Exchange}
 use Rattle.promises.proofs.Refused.{product-broken}
 
 module _ (min max : Bool) {A B : Listing} {counts ends inc counts′ ends′ inc′ : List ℕ} {r : Built}
@@ -103,10 +102,12 @@ produces min max o = record {
 
 -- Exchanging the factors only swaps the pairs.
 pub outcomes-swapped : (min max : Bool) {A B C D : Listing} {c e i c′ e′ i′ d f j d′ f′ j′ : List ℕ} {r s : Built}
-    → Outcome min max A B c e i c′ e′ i′ r → Outcome min max C D d f j d′ f′ j′ s → C ≡ B → D ≡ A
-    → r .answer .no ≡ 0 → s .answer .no ≡ 0 → nullCase min max A B ≡ false
-    → Swapped min max (first min A B) (second min A B) (prefix (listing c′ e′ i′) r) (prefix (listing d′ f′ j′) s)
-outcomes-swapped min max {A} {B} o p eC eD y z n =
+    → Outcome min max A B c e i c′ e′ i′ r → Outcome min max C D d f j d′ f′ j′ s
+    → r .answer .no ≡ 0 → s .answer .no ≡ 0
+    → Exchange min max A B C D (prefix (listing c′ e′ i′) r) (prefix (listing d′ f′ j′) s)
+outcomes-swapped min max {A} {B} o p y z =
     let v = valid min max o y in
-    rw (is-result min max o y, is-result min max p z, eC, eD)
-    (result-swapped min max A B (valid-sound limits A (v .0)) (valid-sound limits B (v .1)) n)
+    record {
+      swapped = λ eC eD n. rw (is-result min max o y, is-result min max p z, eC, eD)
+          (result-swapped min max A B (valid-sound limits A (v .0)) (valid-sound limits B (v .1)) n);
+    }

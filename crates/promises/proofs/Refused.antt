@@ -1,6 +1,7 @@
 -- Which refusal comes when: each test answers the number of the first rule that is broken.
 -- Assumes nothing.
 use mathlib.Core.Path.{_≡_, refl, sym}
+use mathlib.Core.Logic.{inl, inr}
 use mathlib.Core.Bool.{Bool, not, _&&_, _||_}
 use mathlib.Core.List.{List, [], _∷_, _++_}
 use Prim.Native.Nat.{ℕ, zero, suc, _-_, _*_, _≤_, _<_}
@@ -11,6 +12,7 @@ use lib.ListN.{length}
 use Rattle.listing.specs.declared.Answer.{Answer}
 use Rattle.listing.specs.Answers.{plain, fine, on, ifZero, _orElse_}
 use Rattle.listing.specs.Listing.{Listing, Limits, rank}
+use Rattle.listing.specs.Counts.{counted}
 use Rattle.listing.specs.Shape.{fills, elements, shapeTest, Shaped}
 use Rattle.listing.proofs.Answers.{or-assoc}
 use Rattle.listing.proofs.ShapeExact.{fills-exact}
@@ -31,12 +33,19 @@ use Rattle.product.specs.Outcome.{productTest}
 use Rattle.changing.specs.Flags.{flagTest, startTest, IsFlag}
 use Rattle.changing.proofs.FlagExact.{flag-exact}
 use Rattle.flag.specs.Changed.{changeTest}
-use Rattle.promises.specs.Rules.{Rule, FirstBroken, Filled, shapeRules}
+use Rattle.promises.specs.Rules.{Rule, FirstBroken, Filled, countRules, shapeRules}
 use Rattle.promises.specs.Rules.{flagRule, changeRules, productRules}
 use Rattle.promises.specs.Rules.{boundedRules, incidentRules, dyadicRules, validRules, closedRules}
 use Rattle.promises.proofs.Broken.{Tests, broken-last, broken-step, broken-inner}
 use Rattle.promises.proofs.Broken.{tests-on, tests-not, tests-over}
 use Rattle.promises.proofs.Numbers.{bounded-numbers, incidence-numbers, ascent-numbers, dyadic-numbers}
+
+-- ---- the counts
+
+pub counted-broken : (counts : List ℕ) (n : ℕ) → FirstBroken (countRules counts) (counted counts n .no)
+unfolding counted FirstBroken
+counted-broken [] n = inl (λ h. omega arith, omega arith, omega arith)
+counted-broken (c ∷ counts) n = inr (omega arith, rw (ne-eqb (length (c ∷ counts)) 0 (λ e. omega arith)))
 
 -- ---- the shape
 
@@ -68,7 +77,7 @@ module _ (m : Limits) (L : Listing) where
       (λ f. fills-exact (L .ends) (length (L .inc)) .1 (f .rising, f .full))
 
   -- The shape tests, and others after them.
-  pub shape-broken : (l : List Rule) (y : Answer) → (Shaped m L → FirstBroken l (y .no))
+  shape-broken : (l : List Rule) (y : Answer) → (Shaped m L → FirstBroken l (y .no))
       → FirstBroken (shapeRules m L ++ l) ((shapeTest m L orElse y) .no)
   unfolding shapeTest
   shape-broken l y r =
@@ -135,7 +144,7 @@ module _ (m : Limits) (L : Listing) where
       broken-step _ incident-tested _ (λ I. broken-last (twice-tested I))))
 
   -- the closed test, and others after it
-  pub closed-then : (l : List Rule) (y : Answer) → (Closed m L → FirstBroken l (y .no))
+  closed-then : (l : List Rule) (y : Answer) → (Closed m L → FirstBroken l (y .no))
       → FirstBroken (closedRules m L ++ l) ((closed m L orElse y) .no)
   unfolding closed
   closed-then l y r =

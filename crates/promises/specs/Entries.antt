@@ -3,10 +3,11 @@
 -- the lifetimes.
 --
 -- Says        whatever the contract admits has a property of arguments, answer and exit
--- SaysOfTwo   the same of two calls
 -- OneAnswer   two answers that the contract admits for the same arguments are equal
 -- OneOutcome  and so is what is left of the parameters that are lent to be written
+-- SaysOfTwo   whatever two contracts admit has a property of both calls
 -- Slice       a lent slice of numbers
+-- Three       three slices, and the parameters after them
 -- lent        the listing in the first three parameters
 -- right       the right factor of a product, in the next three; the left one is in the first three
 -- outputs     the three output slices of a product
@@ -23,35 +24,38 @@ module _ {K A B X : Type 0} (P : K → A → B → X → Type 0) where
   abbrev pub Says : (A → B → X → Type 0) → Type 0
   Says Q = (k : K) (a : A) (b : B) (x : X) → P k a b x → Q a b x
 
-  abbrev pub SaysOfTwo : (A → B → X → A → B → X → Type 0) → Type 0
-  SaysOfTwo Q =
-      (k l : K) (a c : A) (b d : B) (x y : X) → P k a b x → P l c d y → Q a b x c d y
-
   abbrev pub OneAnswer : Type 0
   OneAnswer = (k : K) (a : A) (b c : B) (x y : X) → P k a b x → P k a c y → b ≡ c
 
   abbrev pub OneOutcome : {Y : Type 0} → (X → Y) → Type 0
   OneOutcome left = (k : K) (a : A) (b c : B) (x y : X) → P k a b x → P k a c y → (b ≡ c) × (left x ≡ left y)
 
+module _ {K A B X : Type 0} (P : K → A → B → X → Type 0) {L C D Y : Type 0} (Q : L → C → D → Y → Type 0) where
+  abbrev pub SaysOfTwo : (A → B → X → C → D → Y → Type 0) → Type 0
+  SaysOfTwo R =
+      (k : K) (l : L) (a : A) (c : C) (b : B) (d : D) (x : X) (y : Y) → P k a b x → Q l c d y → R a b x c d y
+
 abbrev pub Slice : Type 0
 Slice = RefT (List ℕ)
 
+abbrev pub Three : Type 0 → Type 0
+Three A = Slice × (Slice × (Slice × A))
+
 module _ {A : Type 0} where
-  abbrev pub lent : Slice × (Slice × (Slice × A)) → Listing
+  abbrev pub lent : Three A → Listing
   lent a = listing (now (a .0)) (now (a .1 .0)) (now (a .1 .1 .0))
 
-  abbrev pub right : Slice × (Slice × (Slice × (Slice × (Slice × (Slice × A))))) → Listing
+  abbrev pub right : Three (Three A) → Listing
   right a = lent (a .1 .1 .1)
 
-  abbrev pub outputs : Slice × (Slice × (Slice × (Slice × (Slice × (Slice × (Slice × (Slice × (Slice × A))))))))
-      → Listing
+  abbrev pub outputs : Three (Three (Three A)) → Listing
   outputs a = right (a .1 .1 .1)
 
-  abbrev pub flag : Slice × (Slice × (Slice × (Slice × A))) → List ℕ
+  abbrev pub flag : Three (Slice × A) → List ℕ
   flag a = now (a .1 .1 .1 .0)
 
-  abbrev pub mask : Slice × (Slice × (Slice × (Slice × (ℕ × A)))) → ℕ
+  abbrev pub mask : Three (Slice × (ℕ × A)) → ℕ
   mask a = a .1 .1 .1 .1 .0
 
-  abbrev pub tables : Slice × (Slice × (Slice × (Slice × (ℕ × (Slice × (Slice × A)))))) → List ℕ × List ℕ
+  abbrev pub tables : Three (Slice × (ℕ × (Slice × (Slice × A)))) → List ℕ × List ℕ
   tables a = (now (a .1 .1 .1 .1 .1 .0), now (a .1 .1 .1 .1 .1 .1 .0))

@@ -2,4 +2,5 @@ pub mod Entries
 pub mod Rules
 pub mod Products
 pub mod Searches
+pub mod Demands
 pub mod Starred

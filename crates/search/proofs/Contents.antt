@@ -13,7 +13,7 @@ use borrow.Author.Tests.{ne-eqb}
 use lib.Dec.{eqb}
 use lib.ListN.{length, getD, drop, length-append, length-drop, List·getD-append}
 use lib.Seq.{drop-at, ext-getD}
-use Rattle.order.specs.Flags.{Reach}
+use Rattle.order.specs.Steps.{Reach}
 use Rattle.listing.specs.Answers.{fine}
 use Rattle.listing.specs.Listing.{Listing, Limits, rank}
 use Rattle.changing.specs.Flags.{IsFlag}

@@ -5,7 +5,7 @@ use mathlib.Core.Bool.{Bool, not}
 use mathlib.Core.Logic.{_↔_}
 use mathlib.Core.List.{List, Memᴰ·map, Memᴰ·of-map, Memᴰ·cast}
 use Prim.Native.Nat.{ℕ, _<_}
-use Rattle.order.specs.Flags.{Reach, start, next}
+use Rattle.order.specs.Steps.{Reach, start, next}
 use Rattle.listing.specs.Listing.{Listing, Limits}
 use Rattle.changing.specs.Flags.{IsFlag}
 use Rattle.changing.specs.Change.{changeAt, Changes}
@@ -14,14 +14,10 @@ use Rattle.searching.specs.Search.{Neighbour, More, Colouring}
 use Rattle.masks.specs.Masks.{bit, ranksOf}
 use Rattle.masks.proofs.Ranks.{ranks-exact}
 use Rattle.walking.specs.Searched.{neighbours}
-use Rattle.walking.specs.Ready.{Within}
 use Rattle.search.specs.Exact.{Taken, Leads}
 use Rattle.walking.proofs.Neighbours.{mem-in, in-mem}
 
 module _ {m : Limits} {L : Listing} {first : List ℕ} {mask : ℕ} (T : Taken m L first mask) where
-  pub within : Within L mask
-  within r h = let p = ranks-exact mask r .0 h in T .within r (p .0) (p .1)
-
   -- the change at a rank that is asked for
   change-of : (f : List ℕ) → IsFlag L f → (r : ℕ) → r < 16 → bit mask r ≡ 1 → Changes L f r
   change-of f F r h e = let b = T .within r h e in changes L (T .closed) r (b .0) (b .1) f F

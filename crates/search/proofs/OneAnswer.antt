@@ -102,7 +102,7 @@ module _ (L : Listing) (mask : ℕ) where
               c .turned ∙ ap (λ x. 1 - x) (i .1 ∙ ap byte′ (l .0)) ∙ sym (d .turned),
             )
 
-    pub same-course : Same 0 → (m : ℕ) → m ≤ n → (k : ℕ) → k < m → Same k
+    same-course : Same 0 → (m : ℕ) → m ≤ n → (k : ℕ) → k < m → Same k
     same-course s zero h k i = absurd (omega arith)
     same-course s (suc m) h k i = go (decLt k m) (ℕ-discrete k 0) (same-course s m (omega arith))
       where
@@ -137,7 +137,7 @@ module _ (L : Listing) (mask : ℕ) where
             apart-same n row o (s .index) q (omega (arith, s .below)) (omega arith) (s .is ∙ sym (t .4)) in
             absurd (omega (arith, i, s .below))
 
-    pub same-place : (p q : ℕ) → p ≤ n → q ≤ n → Repeat L mask row byte p → Repeat L mask row byte q → p ≡ q
+    same-place : (p q : ℕ) → p ≤ n → q ≤ n → Repeat L mask row byte p → Repeat L mask row byte q → p ≡ q
     same-place p q h k c d = go (compare (c .from) (c .at) (d .from) (d .at))
       where
         go : Compared (c .from) (c .at) (d .from) (d .at) → p ≡ q

@@ -117,7 +117,7 @@ module _ (m : Limits) (L : Listing) (first : List ℕ) (mask : ℕ) (table bytes
     -- ---- what was found is written
 
     module _ (f : maskFits (rank L) mask ≡ true) where
-      pub last : test ≡ on (foundBy L first mask room .over) (plain 22)
+      last : test ≡ on (foundBy L first mask room .over) (plain 22)
       unfolding searchTest
       last = or-fine (startTest m L first) _ z ∙ rw f (or-fine fine _ refl)
 

@@ -19,7 +19,7 @@ use mathlib.Core.Logic.{_≢_, _↔_}
 use mathlib.Core.List.{List, List·Memᴰ}
 use Prim.Native.Nat.{ℕ, suc, _+_, _-_, _*_, _≤_, _<_}
 use lib.ListN.{length, getD, take, drop}
-use Rattle.order.specs.Flags.{ChangedAt, Reach}
+use Rattle.order.specs.Steps.{ChangedAt, Reach}
 use Rattle.listing.specs.Answers.{plain, fine}
 use Rattle.listing.specs.Listing.{Listing, Limits, rank}
 use Rattle.valid.specs.Closed.{Closed}

@@ -9,7 +9,7 @@ use Prim.Native.Nat.{ℕ, suc, _≤_, _<_}
 use native.Mathlib.Nat.{eq-zero-or-pos}
 use native.Mathlib.Omega.{arith}
 use lib.ListN.{length}
-use Rattle.order.specs.Flags.{Reach, start, next}
+use Rattle.order.specs.Steps.{Reach, start, next}
 use Rattle.searching.specs.Search.{State, search, Neighbour, Decides, Once, More, Beyond, Kept}
 use Rattle.searching.proofs.Once.{in-at, at-in, once-fits}
 use Rattle.searching.proofs.Run.{search-full}

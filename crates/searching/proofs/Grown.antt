@@ -34,7 +34,7 @@ module _ {A : Type 0} where
     over = o;
   }
 
-  pub Grown·refl : (s : State A) → Grown s s
+  Grown·refl : (s : State A) → Grown s s
   Grown·refl s = grown-none s s refl refl (λ e. e) (λ e. e)
 
   pub Grown·trans : {s t u : State A} → Grown s t → Grown t u → Grown s u
@@ -88,7 +88,7 @@ module _ {A : Type 0} (same : A → A → Bool) (room : ℕ) where
     unfolding work
     work-grown k s = meets-grown _ s _
 
-    pub run-grown : (k : ℕ) (s : State A) → length (s .found) ≤ room → Grown s (run same room nbrs a k s)
+    run-grown : (k : ℕ) (s : State A) → length (s .found) ≤ room → Grown s (run same room nbrs a k s)
     run-grown k s h =
         run-ends same room nbrs a (λ j. Grown s) (λ j t o i g. Grown·trans g (work-grown j t)) k s h (Grown·refl s) .1
 

@@ -10,7 +10,7 @@ use Prim.Native.Nat.{ℕ, zero, suc, _≤_, _<_}
 use native.Mathlib.Decide.{ℕ-discrete}
 use native.Mathlib.Omega.{arith}
 use lib.ListN.{length, getD}
-use Rattle.order.specs.Flags.{Reach, start, next}
+use Rattle.order.specs.Steps.{Reach, start, next}
 use Rattle.searching.specs.Search.{State, nothing, add, overfull, placeAfter, again, indexIn, meet, meetAll, work}
 use Rattle.searching.specs.Search.{search, Neighbour, Decides, Once, Kept}
 use Rattle.searching.proofs.Once.{length-snoc, once-snoc, in-at}
@@ -88,7 +88,7 @@ module _ {A : Type 0} (room : ℕ) (R : A → A → Type 0) (a : A) where
   }
 
 -- the neighbours of the kth are reachable
-pub neighbours-reached : {A : Type 0} (room : ℕ) (nbrs : A → List A) (a : A) (k : ℕ) (s : State A)
+neighbours-reached : {A : Type 0} (room : ℕ) (nbrs : A → List A) (a : A) (k : ℕ) (s : State A)
     → k < length (s .found) → Kept room (Neighbour nbrs) a s → (y : A) → Neighbour nbrs (getD (s .found) k a) y
     → Reach (Neighbour nbrs) a y
 neighbours-reached room nbrs a k s i h y n = next (h .reached (getD (s .found) k a) (in-at (s .found) a k i)) n
@@ -99,14 +99,14 @@ module _ {A : Type 0} (same : A → A → Bool) (decides : Decides same) (room :
   not-in l y h m = omega (arith, index-in same decides l y m)
 
   module _ (R : A → A → Type 0) (a : A) (b : ℕ) (p : b ≤ 1) where
-    pub meet-kept : (s : State A) (y : A) → Reach R a y → Kept room R a s → Kept room R a (meet same room b s y)
+    meet-kept : (s : State A) (y : A) → Reach R a y → Kept room R a s → Kept room R a (meet same room b s y)
     meet-kept s y q h =
         meet-cases same room b s y (Kept room R a) (λ o. h)
         (λ o i. again-kept room R a b s (indexIn same (s .found) y) h)
         (λ o i r. add-kept room R a b s y h p q o (not-in (s .found) y i) r)
         (λ o i r. overfull-kept room R a s y h q (not-in (s .found) y i) r)
 
-    pub meets-kept : (s : State A) (l : List A) → ((y : A) → List·Memᴰ y l → Reach R a y) → Kept room R a s
+    meets-kept : (s : State A) (l : List A) → ((y : A) → List·Memᴰ y l → Reach R a y) → Kept room R a s
         → Kept room R a (meetAll same room b s l)
     unfolding meetAll
     meets-kept s [] q h = h

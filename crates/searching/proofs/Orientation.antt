@@ -9,7 +9,7 @@ use Prim.Native.Nat.{ℕ, zero, suc, _-_, _≤_, _<_}
 use native.Mathlib.Omega.{arith}
 use lib.Dec.{eqb}
 use lib.ListN.{length, getD}
-use Rattle.order.specs.Flags.{Reach}
+use Rattle.order.specs.Steps.{Reach}
 use Rattle.searching.specs.Search.{State, indexIn, search, Neighbour, Decides, Kept, Colouring}
 use Rattle.searching.proofs.Once.{at-in}
 use Rattle.searching.proofs.Lookup.{index-only}

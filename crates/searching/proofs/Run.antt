@@ -52,27 +52,6 @@ module _ {A : Type 0} (same : A → A → Bool) (room : ℕ) (nbrs : A → List 
   for-no zero k s e = refl
   for-no (suc d) k s e = rw (e, runFor)
 
-  -- two numbers that are both enough, being no less than what there is room for after the first k
-  for-same : (d e k : ℕ) (s : State A) → length (s .found) ≤ room → room ≤ k + d → room ≤ k + e
-      → runFor same room nbrs a d k s ≡ runFor same room nbrs a e k s
-  for-same zero e k s h p q =
-      let w = waits-past k s (omega arith) in
-      for-no zero k s w ∙ sym (for-no e k s w)
-  for-same (suc d) zero k s h p q =
-      let w = waits-past k s (omega arith) in
-      for-no (suc d) k s w ∙ sym (for-no zero k s w)
-  for-same (suc d) (suc e) k s h p q =
-      go (waits k s) refl
-      (for-same d e (suc k) (work same room nbrs a k s) (work-fits k s h) (omega arith) (omega arith))
-    where
-      T : State A
-      T = work same room nbrs a k s
-
-      go : (b : Bool) → waits k s ≡ b → runFor same room nbrs a d (suc k) T ≡ runFor same room nbrs a e (suc k) T
-          → runFor same room nbrs a (suc d) k s ≡ runFor same room nbrs a (suc e) k s
-      go true w ih = for-yes d k s w ∙ ih ∙ sym (for-yes e k s w)
-      go false w ih = for-no (suc d) k s w ∙ sym (for-no (suc e) k s w)
-
   -- ---- to the end
 
   module _ (W : State A) (k : ℕ) (s : State A) (e : W ≡ run same room nbrs a k s) where

@@ -1,17 +1,14 @@
--- A thing is met, and all of a list. A loop keeps `W ≡ the state after what is left`: -next is a turn, -stop its end
--- once it is over, -end its end at the last.
+-- A thing is met, and all of a list.
 -- Assumes nothing.
-use mathlib.Core.Path.{_≡_, refl, ap, _∙_}
+use mathlib.Core.Path.{_≡_, refl, _∙_}
 use mathlib.Core.Bool.{Bool, true, false, cond, and-false}
 use mathlib.Core.Logic.{_≢_}
 use mathlib.Core.List.{List, [], _∷_}
-use Prim.Native.Nat.{ℕ, _+_, _≤_, _<_}
-use native.Mathlib.Numerals.{add-one}
+use Prim.Native.Nat.{ℕ, _≤_, _<_}
 use native.Mathlib.Omega.{arith}
 use borrow.Author.Tests.{lt-ltb, le-ltb, ltb-true, ltb-false, eq-eqb, ne-eqb}
 use lib.Dec.{ltb, eqb}
-use lib.ListN.{length, getD, drop, drop-of-length-le}
-use lib.Seq.{drop-cons}
+use lib.ListN.{length, getD}
 use Rattle.searching.specs.Search.{State, add, overfull, placeAfter, again, indexIn, meet, meetAll}
 use Rattle.searching.proofs.Once.{length-snoc}
 
@@ -91,18 +88,6 @@ module _ {A : Type 0} (same : A → A → Bool) (room : ℕ) where
   unfolding meetAll
   meets-over b s [] o = refl
   meets-over b s (y ∷ l) o = rw (meet-stop b s y o) (meets-over b s l o)
-
-  module _ (W : State A) (b : ℕ) (s : State A) (l : List A) (k : ℕ) (e : W ≡ meetAll same room b s (drop k l)) where
-    pub meets-next : (d : A) → k < length l → W ≡ meetAll same room b (meet same room b s (getD l k d)) (drop (k + 1) l)
-    unfolding meetAll
-    meets-next d h = e ∙ rw (add-one, drop-cons l k d h)
-
-    pub meets-stop : s .over ≡ true → W ≡ s
-    meets-stop o = e ∙ meets-over b s (drop k l) o
-
-    pub meets-end : length l ≤ k → W ≡ s
-    unfolding meetAll
-    meets-end h = e ∙ ap (meetAll same room b s) (drop-of-length-le l h)
 
   -- ---- there is a byte for each, and no more is found than there is room for
 

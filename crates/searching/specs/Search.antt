@@ -31,7 +31,7 @@ use mathlib.Core.List.{List, [], _∷_, _++_, List·Memᴰ}
 use Prim.Native.Nat.{ℕ, zero, suc, _-_, _≤_}
 use lib.Dec.{ltb, eqb}
 use lib.ListN.{length, getD}
-use Rattle.order.specs.Flags.{Reach}
+use Rattle.order.specs.Steps.{Reach}
 
 pub record State (A : Type 0) : Type 0 where
   pub found : List A

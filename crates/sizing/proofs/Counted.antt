@@ -58,7 +58,7 @@ module _ (ends inc : List ℕ) where
 
 -- ---- a factor
 
-pub count-few : (counts : List ℕ) (i : ℕ) → getD counts i 0 ≤ before counts (length counts)
+count-few : (counts : List ℕ) (i : ℕ) → getD counts i 0 ≤ before counts (length counts)
 count-few counts i = omega (arith, before-next counts i, before-all counts (i + 1))
 
 module _ (min max : Bool) (L : Listing) (u : Usable min max L) where
@@ -72,7 +72,7 @@ module _ (min max : Bool) (L : Listing) (u : Usable min max L) where
   abbrev g : ℕ → ℕ
   g k = length (entries (L .ends) (L .inc) (2 * (bit min + k)))
 
-  pub elements-in-use : before p (length p) ≡ allElements M
+  elements-in-use : before p (length p) ≡ allElements M
   unfolding before allElements
   elements-in-use = rw (in-use-length min max L u) (sum-same _ _ (suc (M .top)) (λ i h. in-use-size min max L u i))
 
@@ -113,7 +113,7 @@ module _ (min max : Bool) (L : Listing) (u : Usable min max L) where
       let e : before p (length p) ≡ getD p 0 0 + (before p (length p) - getD p 0 0) = omega (arith, count-few p 0) in
       ap (sum g) e ∙ sum-add g (getD p 0 0) (before p (length p) - getD p 0 0)
 
-  pub subs-in-use : sum (λ k. length (entries (L .ends) (L .inc) (2 * (bit min + getD p 0 0 + k))))
+  subs-in-use : sum (λ k. length (entries (L .ends) (L .inc) (2 * (bit min + getD p 0 0 + k))))
       (bit min + before p (length p) - (bit min + getD p 0 0)) ≡ allSubs M
   unfolding allSubs
   subs-in-use =

@@ -34,7 +34,7 @@ use Rattle.writing.specs.Pairs.{factorLayers, target, listsOf, underPair, overP
 use Rattle.gathering.specs.Sups.{upCount, UpCounts}
 use Rattle.placing.proofs.Numbers.{some-rank}
 
-pub factor-topped : (P : Factor) → Topped (factorLayers P)
+factor-topped : (P : Factor) → Topped (factorLayers P)
 unfolding Topped
 factor-topped P r h = List·getD-eq-default (P .counts) 0 (omega arith)
 

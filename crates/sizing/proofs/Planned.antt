@@ -79,7 +79,7 @@ module _ (min max : Bool) (A B : Listing) (uA : Usable min max A) (uB : Usable m
 
   -- ---- the plan
 
-  pub planned-derives : Derives (written T (derived T) .counts) (listsOf min max P Q)
+  planned-derives : Derives (written T (derived T) .counts) (listsOf min max P Q)
   unfolding listsOf
   planned-derives = written-derives T (target-topped min max A B uA uB)
 
@@ -91,7 +91,7 @@ module _ (min max : Bool) (A B : Listing) (uA : Usable min max A) (uB : Usable m
         let h : sum (T .size) (suc (T .top)) ≤ 4096 = omega (arith, size-T, size-R) in
         all-few T t (target-sound min max A B uA uB) 4096 h (highest-past min max A B uA uB t h)
 
-    pub planned : length (R .inc) ≤ limits .incidences → (re ri : ℕ) → length (R .ends) ≤ re → length (R .inc) ≤ ri
+    planned : length (R .inc) ≤ limits .incidences → (re ri : ℕ) → length (R .ends) ≤ re → length (R .inc) ≤ ri
         → (upP upQ : List ℕ) → UpCounts P upP → UpCounts Q upQ → Plan min max P Q upP upQ re ri
     planned few-inc re ri room-ends room-inc upP upQ cP cQ =
         let a = usable-shaped min max A uA in

@@ -11,7 +11,7 @@ use Rattle.order.specs.Pairs.{Pairs}
 use Rattle.listing.specs.Listing.{Listing, limits}
 use Rattle.listing.specs.Layers.{Layers, Topped, layers, order, derived}
 use Rattle.listing.specs.Written.{written}
-use Rattle.listing.proofs.Rewritten.{written-same}
+use Rattle.listing.proofs.Written.{written-same}
 use Rattle.pairing.specs.Sound.{Sound}
 use Rattle.pairing.specs.Paired.{El, block, offset, position, pairOf, pairAt, leftSubs, rightSubs, pairSubs, paired}
 use Rattle.pairing.specs.Grown.{upTo, minSize, minUnder, maxSize, maxUnder, addMin, addMax, grown}
@@ -124,7 +124,7 @@ module _ (min max : Bool) (A B : Listing) (uA : Usable min max A) (uB : Usable m
   abbrev T : Layers
   T = target min max (partOf min max A) (partOf min max B)
 
-  pub target-alike : Alike (product min max (layers A) (layers B)) T
+  target-alike : Alike (product min max (layers A) (layers B)) T
   unfolding product target
   target-alike = grown-alike min max (paired-alike (part-alike min max A uA) (part-alike min max B uB))
 

@@ -5,7 +5,7 @@ use listing::limit;
 use listing::refusal;
 use placing::block;
 ghost use mathlib.Core.Path.{_≡_};
-ghost use Prim.Native.Nat.{ℕ, _+_, _-_, _*_, _≤_};
+ghost use Prim.Native.Nat.{_+_, _-_, _*_, _≤_};
 ghost use lib.ListN.{length};
 ghost use Rattle.order.specs.Sums.{sum};
 ghost use Rattle.listing.specs.Listing.{Listing, listing, limits, Ends, entries};

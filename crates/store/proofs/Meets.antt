@@ -76,7 +76,7 @@ module _ (w room : ℕ) (table bytes : List ℕ) (s : Progress) (o : s .over ≡
         sym (meet-full sameList room b (stateOf w table bytes s) y o unknown
         (omega (arith, rows-length w table (s .count))))
 
-    pub new-added : (table′ bytes′ : List ℕ) → rows w table′ (s .count + 1) ≡ rows w table (s .count) ++ (y ∷ [])
+    new-added : (table′ bytes′ : List ℕ) → rows w table′ (s .count + 1) ≡ rows w table (s .count) ++ (y ∷ [])
         → take (s .count + 1) bytes′ ≡ take (s .count) bytes ++ (b ∷ []) → s .count < room
         → stateOf w table′ bytes′ (record { count = s .count + 1; place = s .place; over = false })
         ≡ meet sameList room b (stateOf w table bytes s) y

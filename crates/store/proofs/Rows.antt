@@ -43,11 +43,11 @@ pub row-end : (k n w : ℕ) → k < n → k * w + w ≤ n * w
 row-end k n w h = omega (arith, mul-le-mul-right w h, suc-mul k w)
 
 module _ (w : ℕ) (table : List ℕ) (k : ℕ) where
-  pub row-length : k * w + w ≤ length table → length (rowOf w table k) ≡ w
+  row-length : k * w + w ≤ length table → length (rowOf w table k) ≡ w
   unfolding rowOf
   row-length h = length-take-le w (drop (k * w) table) (omega (arith, length-drop (k * w) table))
 
-  pub row-at : (j : ℕ) → j < w → getD (rowOf w table k) j 0 ≡ getD table (k * w + j) 0
+  row-at : (j : ℕ) → j < w → getD (rowOf w table k) j 0 ≡ getD table (k * w + j) 0
   unfolding rowOf
   row-at j h = getD-take w (drop (k * w) table) j 0 h ∙ getD-drop (k * w) table j 0
 
@@ -120,7 +120,7 @@ module _ (w : ℕ) (table : List ℕ) where
   rows-length zero = refl
   rows-length (suc n) = length-snoc (rows w table n) (rowOf w table n) ∙ ap suc (rows-length n)
 
-  pub rows-next : (n : ℕ) → rows w table (n + 1) ≡ rows w table n ++ (rowOf w table n ∷ [])
+  rows-next : (n : ℕ) → rows w table (n + 1) ≡ rows w table n ++ (rowOf w table n ∷ [])
   unfolding rows
   rows-next n = rw add-one
 

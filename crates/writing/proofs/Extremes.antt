@@ -23,7 +23,7 @@ use Rattle.writing.proofs.Target.{lists-low, lists-over-low, lists-high
 
 -- ---- the numbers below n
 
-pub up-to-length : (n : ℕ) → length (upTo n) ≡ n
+up-to-length : (n : ℕ) → length (upTo n) ≡ n
 unfolding upTo
 up-to-length zero = refl
 up-to-length (suc n) = omega (arith, length-append (upTo n) (n ∷ []), up-to-length n)

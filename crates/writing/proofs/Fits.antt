@@ -96,7 +96,7 @@ module _ (min max : Bool) (P Q : Factor) (upP upQ : List ℕ) (re ri : ℕ) (pla
     in-range : suc (i + j) < length p + length q
     in-range = omega (arith, some-rank p i a ha, some-rank q j b hb)
 
-    pub pair-lt : e < sizeOf min max p q
+    pair-lt : e < sizeOf min max p q
     unfolding sizeOf
     pair-lt = omega (arith, number-lt min p q i a j b ha hb)
 

@@ -23,7 +23,7 @@ module _ (lists : ℕ → List ℕ) where
   pub starts-le : (t u : ℕ) → t ≤ u → starts lists t ≤ starts lists u
   starts-le t u h = sum-le _ t u h
 
-  pub starts-two : (e : ℕ)
+  starts-two : (e : ℕ)
       → starts lists (2 * (e + 1)) ≡ starts lists (2 * e) + length (lists (2 * e)) + length (lists (2 * e + 1))
   starts-two e =
       let t : 2 * (e + 1) ≡ 2 * e + 1 + 1 = omega arith in

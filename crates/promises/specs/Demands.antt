@@ -1,0 +1,153 @@
+-- The three demands, each as one record with a field for each promise. A field speaks of an entry through `Post`, the
+-- reading of its contract, and so of any slices that the entry is lent.
+--
+-- CountRefuses  a count refuses with the number of the first rule that is broken, 0 if none is
+-- Refuses       the same of a test
+-- Makes         a product, told by min and max, refuses and writes as Produces says
+-- Keeps         what it wrote, where it is answered, is as Kept says: closed if its factors are, and all the rest
+-- Swaps         two calls of it that are answered are as Exchange says
+-- DemandOne     any slices are answered: which refusal comes exactly when, and what is written
+-- DemandTwo     the tests accept, and the changes and searches give, exactly what the book asks
+-- DemandThree   what the four products keep, said of the slices that were written, up to the lengths answered
+use mathlib.Core.Path.{_≡_}
+use mathlib.Core.Logic.{_≢_, _↔_}
+use mathlib.Core.Bool.{Bool, true, false}
+use mathlib.Core.List.{List, _++_}
+use Prim.Native.Nat.{ℕ, _+_, _-_}
+use lib.ListN.{replicate}
+use denote.Ref.{now}
+use Rattle.listing.specs.declared.Answer.{Answer}
+use Rattle.listing.specs.declared.Number.{Number}
+use Rattle.listing.specs.Listing.{Listing, Limits, limits, rank}
+use Rattle.listing.specs.Shape.{Shaped}
+use Rattle.matching.specs.Incidence.{Incident}
+use Rattle.diamond.specs.Dyadic.{Diamond, DiamondAt, Distinct}
+use Rattle.valid.specs.Bounds.{Bounded}
+use Rattle.valid.specs.Ascent.{Ascends}
+use Rattle.valid.specs.Closed.{Closed}
+use Rattle.product.specs.declared.Built.{Built}
+use Rattle.changing.specs.Change.{Changes, changeAt, padded}
+use Rattle.flag.specs.declared.Event.the-variants.{Nothing}
+use Rattle.flag.specs.Events.{events, eventsOf, taken}
+use Rattle.listing.proofs.rank.Reads as rank-count
+use Rattle.listing.proofs.el_count.Reads as el-count
+use Rattle.listing.proofs.vertex_count.Reads as vertex-count
+use Rattle.listing.proofs.facet_count.Reads as facet-count
+use Rattle.listing.proofs.shape.Reads as shape
+use Rattle.valid.proofs.bounded.Reads as bounded
+use Rattle.valid.proofs.check_incidences.Reads as check-incidences
+use Rattle.valid.proofs.is_dyadic.Reads as is-dyadic
+use Rattle.valid.proofs.is_valid.Reads as is-valid
+use Rattle.valid.proofs.closed.Reads as closed
+use Rattle.flag.proofs.change.Reads as change
+use Rattle.search.proofs.search.Reads as search
+use Rattle.product.proofs.duopyramid.Reads as duopyramid
+use Rattle.product.proofs.duoprism.Reads as duoprism
+use Rattle.product.proofs.duotegum.Reads as duotegum
+use Rattle.product.proofs.duocomb.Reads as duocomb
+use Rattle.promises.specs.Entries.{Says, SaysOfTwo, Slice, Three, lent, right, outputs, flag, mask, tables}
+use Rattle.promises.specs.Rules.{Rule, FirstBroken, countRules, shapeRules, boundedRules, incidentRules}
+use Rattle.promises.specs.Rules.{dyadicRules, validRules, closedRules, changeRules}
+use Rattle.promises.specs.Products.{prefix, Produces, Kept, Exchange}
+use Rattle.promises.specs.Searches.{Searches, Found}
+
+module _ {K A X : Type 0} where
+  abbrev pub CountRefuses : (K → Slice × A → Number → X → Type 0) → Type 0
+  CountRefuses P = Says P (λ a r x. FirstBroken (countRules (now (a .0))) (r .no))
+
+  abbrev pub Refuses : (K → Three A → Answer → X → Type 0) → (Limits → Listing → List Rule) → Type 0
+  Refuses P rules = Says P (λ a r x. FirstBroken (rules limits (lent a)) (r .no))
+
+module _ {K A X : Type 0} (min max : Bool)
+    (P : K → Three (Three (Three A)) → Built → Three (Three (Three X)) → Type 0) where
+  abbrev pub Makes : Type 0
+  Makes = Says P (λ a r x. Produces min max (lent a) (right a) (outputs a) (outputs x) r)
+
+  abbrev pub Keeps : Type 0
+  Keeps = Says P (λ a r x. r .answer .no ≡ 0 → Kept min max (lent a) (right a) (prefix (outputs x) r))
+
+  abbrev pub Swaps : Type 0
+  Swaps = SaysOfTwo P P (λ a r x c s y. r .answer .no ≡ 0 → s .answer .no ≡ 0
+      → Exchange min max (lent a) (right a) (lent c) (right c) (prefix (outputs x) r) (prefix (outputs y) s))
+
+pub record DemandOne : Type 0 where
+  -- the rank is refused for an empty slice, and for nothing else
+  pub rank-refuses : CountRefuses rank-count.Post
+  -- so is the number of elements of a rank
+  pub el-count-refuses : CountRefuses el-count.Post
+  -- so is the number of vertices
+  pub vertex-count-refuses : CountRefuses vertex-count.Post
+  -- so is the number of facets
+  pub facet-count-refuses : CountRefuses facet-count.Post
+  -- the shape test refuses in the order 1 to 6
+  pub shape-refuses : Refuses shape.Post shapeRules
+  -- bounded refuses as the shape test does, then with 10
+  pub bounded-refuses : Refuses bounded.Post boundedRules
+  -- check_incidences refuses as the shape test does, then with 11 to 16
+  pub incidences-refuse : Refuses check-incidences.Post incidentRules
+  -- is_dyadic refuses as check_incidences does, then with 17 and 18 below the top
+  pub dyadic-refuses : Refuses is-dyadic.Post dyadicRules
+  -- is_valid refuses as bounded does, then with 11 to 16, then with 17 and 18 below the top
+  pub valid-refuses : Refuses is-valid.Post validRules
+  -- closed refuses as bounded does, then with 11 to 16, then with 19, then with 17 and 18 up to the top
+  pub closed-refuses : Refuses closed.Post closedRules
+  -- a change refuses as closed does, then with 20 and 21; where it is refused, the flag that it gives is all 0
+  pub change-refuses : Says change.Post
+      (λ a r x. FirstBroken (changeRules limits (lent a) (flag a) (mask a)) (r .answer .no)
+      × (r .answer .no ≢ 0 → r .flag ≡ replicate 16 0))
+  -- a search refuses as closed does, then with 20, 21 and 22; nothing is then written, but the first flags at 22
+  pub search-searches : Says search.Post (λ a r x. Searches (lent a) (flag a) (mask a) (tables a .0) (tables a .1) r
+      (tables x .0) (tables x .1))
+  -- the duopyramid refuses in the order 30 to 36 and then changes no number; else it writes its result, and no more
+  pub duopyramid-produces : Makes false false duopyramid.Post
+  -- so does the duoprism, which leaves minimal elements out of the pairs and adds one
+  pub duoprism-produces : Makes true false duoprism.Post
+  -- so does the duotegum, which leaves maximal elements out of the pairs and adds one
+  pub duotegum-produces : Makes false true duotegum.Post
+  -- so does the duocomb, which does both
+  pub duocomb-produces : Makes true true duocomb.Post
+
+pub record DemandTwo : Type 0 where
+  -- bounded accepts what is laid out well and has one element at rank 0, and one at the top
+  pub bounded-by-the-book : Says bounded.Post (λ a r x. r .no ≡ 0 ↔ (Shaped limits (lent a) × Bounded (lent a)))
+  -- check_incidences: subs above rank 0, sups below the top, and each one listed exists and lists the element back
+  pub incident-by-the-book : Says check-incidences.Post
+      (λ a r x. r .no ≡ 0 ↔ (Shaped limits (lent a) × Incident (lent a)))
+  -- is_dyadic, of lists without repeats: between two elements two ranks apart, below the top, lie two things or none
+  pub dyadic-by-the-book : Says is-dyadic.Post (λ a r x. Distinct (lent a)
+      → r .no ≡ 0 ↔ (Shaped limits (lent a) × Incident (lent a) × Diamond (lent a) (rank (lent a) - 1)))
+  -- is_valid: the three of them
+  pub valid-by-the-book : Says is-valid.Post (λ a r x. Distinct (lent a) → r .no ≡ 0
+      ↔ (Shaped limits (lent a) × Bounded (lent a) × Incident (lent a) × Diamond (lent a) (rank (lent a) - 1)))
+  -- closed: bounded, incident, all lists ascending, and the diamond up to the maximal element
+  pub closed-by-the-book : Says closed.Post (λ a r x. r .no ≡ 0 ↔ Closed limits (lent a))
+  -- a change puts in the other of exactly two elements: the only flag that differs there; the same change leads back
+  pub change-by-the-book : Says change.Post (λ a r x. r .answer .no ≡ 0
+      → Changes (lent a) (flag a) (mask a) × (r .flag ≡ padded (changeAt (lent a) (mask a) (flag a))))
+  -- a search finds all flags that changes lead to, each once, counts them, and two-colours them where that can be done
+  pub search-by-the-book : Says search.Post (λ a r x. r .answer .no ≡ 0
+      → Found (lent a) (flag a) (mask a) (tables a .0) (tables a .1) r (tables x .0) (tables x .1))
+  -- a new cursor says the flags in order, NonOrientable after the first `place` of them, and Nothing from then on
+  pub events-in-order : (count place n : ℕ)
+      → taken 0 count place (events count place + n) ≡ eventsOf count place ++ replicate n Nothing
+
+pub record DemandThree : Type 0 where
+  -- closed is is_valid, with lists that ascend and the diamond at the maximal element
+  pub closed-is-valid-and : SaysOfTwo closed.Post is-valid.Post (λ a r x c s y. lent c ≡ lent a
+      → r .no ≡ 0 ↔ ((s .no ≡ 0) × Ascends (lent a) × DiamondAt (lent a) (rank (lent a))))
+  -- the duopyramid of closed factors is closed; it is all pairs, a step in one member being a step of the pair
+  pub duopyramid-keeps : Keeps false false duopyramid.Post
+  -- so is the duoprism, of ranks from 1; the added minimal element is under exactly the pairs of two vertices
+  pub duoprism-keeps : Keeps true false duoprism.Post
+  -- so is the duotegum, of ranks from 1; the added maximal element is over exactly the pairs of two facets
+  pub duotegum-keeps : Keeps false true duotegum.Post
+  -- so is the duocomb, of ranks from 2 that together make at least 5, with both of them
+  pub duocomb-keeps : Keeps true true duocomb.Post
+  -- exchanging the factors of a duopyramid only swaps the pairs
+  pub duopyramid-swaps : Swaps false false duopyramid.Post
+  -- so with the duoprism
+  pub duoprism-swaps : Swaps true false duoprism.Post
+  -- so with the duotegum
+  pub duotegum-swaps : Swaps false true duotegum.Post
+  -- so with the duocomb
+  pub duocomb-swaps : Swaps true true duocomb.Post
