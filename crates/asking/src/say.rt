@@ -38,18 +38,7 @@ pub fn sign(x: f64) {
         io::write_all(STDOUT_FILENO, b" 1");
         return;
     }
-    if x == -1.0 {
-        io::write_all(STDOUT_FILENO, b" -1");
-        return;
-    }
-    io::write_all(STDOUT_FILENO, b" 0");
-}
-
-// What stands before the number at a place of a list.
-fn before(i: usize) {
-    if 0 < i {
-        io::write_all(STDOUT_FILENO, b" ");
-    }
+    io::write_all(STDOUT_FILENO, b" -1");
 }
 
 // A number of 16 bits as a wider one.
@@ -83,12 +72,21 @@ fn digest(list: &[u16]) {
     io::write_all(STDOUT_FILENO, b"}");
 }
 
+// The numbers of a list from a place on, each after a space.
+fn rest(list: &[u16], from: usize) {
+    let mut i = from;
+    while i < list.len() {
+        number(wide(list[i]));
+        i += 1;
+    }
+}
+
 // The numbers of a list, one after another.
 fn whole(list: &[u16]) {
     io::write_all(STDOUT_FILENO, b" [");
-    for i in 0..list.len() {
-        before(i);
-        io::print_decimal(STDOUT_FILENO, wide(list[i]));
+    if 0 < list.len() {
+        io::print_decimal(STDOUT_FILENO, wide(list[0]));
+        rest(list, 1);
     }
     io::write_all(STDOUT_FILENO, b"]");
 }
@@ -131,11 +129,6 @@ pub fn bytes(bytes: &[u8]) {
     list(&wide[..n]);
 }
 
-// The number at a place of a list, 0 past its end.
-fn at(list: &[u16], i: usize) -> u64 {
-    if i < list.len() { wide(list[i]) } else { 0 }
-}
-
 // The byte at a place of a list, 0 past its end.
 fn byte_at(list: &[u8], i: usize) -> u64 {
     if i < list.len() {
@@ -145,24 +138,23 @@ fn byte_at(list: &[u8], i: usize) -> u64 {
     }
 }
 
-// The place in a table of a flag's number at rank k, where each flag has w numbers, at most 16.
-fn place(i: u16, w: usize, k: usize) -> usize {
+// The numbers of flag i of a table, where each flag has w numbers, at most 16; none where the table has no such flag.
+fn row<'a>(table: &'a [u16], i: u16, w: usize) -> &'a [u16] {
     if 16 < w {
-        return 0;
+        return &table[0..0];
     }
-    if 16 < k {
-        return 0;
+    let from = (i as usize) * w;
+    if table.len() < from + w {
+        return &table[0..0];
     }
-    (i as usize) * w + k
+    &table[from..from + w]
 }
 
 // A flag of a table, its orientation first, where each flag has w numbers.
 pub fn flag(table: &[u16], odd: &[u8], i: u16, w: usize) {
     io::write_all(STDOUT_FILENO, b" [");
     io::print_decimal(STDOUT_FILENO, byte_at(odd, i as usize));
-    for k in 0..w {
-        number(at(table, place(i, w, k)));
-    }
+    rest(row(table, i, w), 0);
     io::write_all(STDOUT_FILENO, b"]");
 }
 
