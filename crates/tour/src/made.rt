@@ -1,102 +1,29 @@
 // Cells that are made as products of others.
 use crate::flags;
 use crate::row;
-use listing::inner;
 use product::Built;
-
-// Which product.
-pub enum Kind {
-    Duopyramid,
-    Duoprism,
-    Duotegum,
-    Duocomb,
-}
-
-// The product, into slices that are lent.
-fn make(
-    kind: Kind,
-    pcounts: &[u16],
-    pends: &[u16],
-    pinc: &[u16],
-    qcounts: &[u16],
-    qends: &[u16],
-    qinc: &[u16],
-    counts: &mut [u16],
-    ends: &mut [u16],
-    inc: &mut [u16],
-) -> Built {
-    match kind {
-        Kind::Duopyramid => {
-            return product::duopyramid(
-                pcounts,
-                pends,
-                pinc,
-                qcounts,
-                qends,
-                qinc,
-                &mut *counts,
-                &mut *ends,
-                &mut *inc,
-            );
-        }
-        Kind::Duoprism => {
-            return product::duoprism(
-                pcounts,
-                pends,
-                pinc,
-                qcounts,
-                qends,
-                qinc,
-                &mut *counts,
-                &mut *ends,
-                &mut *inc,
-            );
-        }
-        Kind::Duotegum => {
-            return product::duotegum(
-                pcounts,
-                pends,
-                pinc,
-                qcounts,
-                qends,
-                qinc,
-                &mut *counts,
-                &mut *ends,
-                &mut *inc,
-            );
-        }
-        Kind::Duocomb => {
-            return product::duocomb(
-                pcounts,
-                pends,
-                pinc,
-                qcounts,
-                qends,
-                qinc,
-                &mut *counts,
-                &mut *ends,
-                &mut *inc,
-            );
-        }
-    }
-}
+use product::make;
+use words::table;
 
 // What a product left in its slices, as a row.
-fn written(name: &[u8], b: Built, counts: &[u16], ends: &[u16], inc: &[u16]) {
+fn written(name: [u8; 30], b: Built, counts: &[u16], ends: &[u16], inc: &[u16]) {
     if b.answer.no != 0 {
-        row::refused(name, b.answer);
+        table::refused(name, b.answer);
         return;
     }
-    let c = flags::front(counts, inner::wide(b.counts));
-    let e = flags::front(ends, inner::wide(b.ends));
-    let i = flags::front(inc, inner::wide(b.inc));
-    row::show(name, c, e, i);
+    row::show(
+        name,
+        flags::front(counts, b.counts as usize),
+        flags::front(ends, b.ends as usize),
+        flags::front(inc, b.inc as usize),
+    );
 }
 
-// The product of two cells.
+// The product of two cells: the duopyramid, or with min the duoprism, with max the duotegum, with both the duocomb.
 pub fn show(
-    name: &[u8],
-    kind: Kind,
+    name: [u8; 30],
+    min: bool,
+    max: bool,
     pcounts: &[u16],
     pends: &[u16],
     pinc: &[u16],
@@ -107,8 +34,9 @@ pub fn show(
     let mut counts = [0u16; 16];
     let mut ends = [0u16; 128];
     let mut inc = [0u16; 256];
-    let b = make(
-        kind,
+    let b = make::make(
+        min,
+        max,
         pcounts,
         pends,
         pinc,

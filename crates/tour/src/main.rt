@@ -1,104 +1,105 @@
 // A tour: the tests, the products and the search on cells by name, a row of a table for each.
 mod flags;
-mod line;
 mod made;
+mod names;
 mod row;
-mod words;
 
-use made::Kind;
+use words::print;
 
-// Cells up to a polygon.
-fn small() {
-    row::show(
-        b"nullitope N",
-        &cells::nullitope::COUNTS,
-        &cells::nullitope::ENDS,
-        &cells::nullitope::INC,
-    );
-    row::show(
-        b"point P",
-        &cells::point::COUNTS,
-        &cells::point::ENDS,
-        &cells::point::INC,
-    );
-    row::show(
-        b"dyad D",
-        &cells::dyad::COUNTS,
-        &cells::dyad::ENDS,
-        &cells::dyad::INC,
-    );
-    row::show(
-        b"triangle T",
-        &cells::triangle::COUNTS,
-        &cells::triangle::ENDS,
-        &cells::triangle::INC,
-    );
-}
+// Each cell has a function of its own: a function with many constants is slow to check.
 
-// Boxes: whole, damaged, and half of one.
-fn boxes() {
+// A box.
+fn whole_box() {
     row::show(
-        b"box",
+        names::BOX,
         &cells::whole_box::COUNTS,
         &cells::whole_box::ENDS,
         &cells::whole_box::INC,
     );
+}
+
+// The insurer's cell: a box with an edge too many, which lies in one face only.
+fn leaking_box() {
     row::show(
-        b"insurer's cell, edge 0 doubled",
+        names::INSURERS_CELL,
         &cells::leaking_box::COUNTS,
         &cells::leaking_box::ENDS,
         &cells::leaking_box::INC,
     );
+}
+
+// A box with a face too few.
+fn lidless_box() {
     row::show(
-        b"box without a lid",
+        names::NO_LID,
         &cells::lidless_box::COUNTS,
         &cells::lidless_box::ENDS,
         &cells::lidless_box::INC,
     );
+}
+
+// Half of a box, its opposite elements taken for one.
+fn hemicube() {
     row::show(
-        b"hemicube",
+        names::HEMICUBE,
         &cells::hemicube::COUNTS,
         &cells::hemicube::ENDS,
         &cells::hemicube::INC,
     );
 }
 
-// Listings with a fault.
-fn faults() {
+// A listing with two smallest elements.
+fn two_minimal() {
     row::show(
-        b"two smallest elements",
+        names::TWO_SMALLEST,
         &cells::two_minimal::COUNTS,
         &cells::two_minimal::ENDS,
         &cells::two_minimal::INC,
     );
+}
+
+// A triangle, with an entry of one of its lists struck out.
+fn struck() {
     row::show(
-        b"T, edge 1 struck at vertex 0",
+        names::STRUCK,
         &cells::struck::COUNTS,
         &cells::struck::ENDS,
         &cells::struck::INC,
     );
+}
+
+// Three vertices under one edge.
+fn three_on_top() {
     row::show(
-        b"edge with three vertices",
+        names::THREE_VERTICES,
         &cells::three_on_top::COUNTS,
         &cells::three_on_top::ENDS,
         &cells::three_on_top::INC,
     );
+}
+
+// One vertex under one edge.
+fn one_on_top() {
     row::show(
-        b"edge with one vertex",
+        names::ONE_VERTEX,
         &cells::one_on_top::COUNTS,
         &cells::one_on_top::ENDS,
         &cells::one_on_top::INC,
     );
+}
+
+// An edge with the same vertex twice in its list.
+fn twice_listed() {
     row::show(
-        b"edge that lists a vertex twice",
+        names::VERTEX_TWICE,
         &cells::twice_listed::COUNTS,
         &cells::twice_listed::ENDS,
         &cells::twice_listed::INC,
     );
 }
 
-// Products of the nullitope n, the point p, the dyad d and the triangle t.
-fn products(
+// The nullitope n, the point p, the dyad d and the triangle t, and products of these.
+fn small_and_made(
     nc: &[u16],
     ne: &[u16],
     ni: &[u16],
@@ -112,37 +113,23 @@ fn products(
     te: &[u16],
     ti: &[u16],
 ) {
-    made::show(
-        b"prism: duoprism(T, D)",
-        Kind::Duoprism,
-        tc,
-        te,
-        ti,
-        dc,
-        de,
-        di,
-    );
-    made::show(b"duoprism(D, D)", Kind::Duoprism, dc, de, di, dc, de, di);
-    made::show(
-        b"duopyramid(D, P)",
-        Kind::Duopyramid,
-        dc,
-        de,
-        di,
-        pc,
-        pe,
-        pi,
-    );
-    made::show(b"duoprism(N, T)", Kind::Duoprism, nc, ne, ni, tc, te, ti);
-    made::show(b"duotegum(D, D)", Kind::Duotegum, dc, de, di, dc, de, di);
-    made::show(b"duocomb(D, D)", Kind::Duocomb, dc, de, di, dc, de, di);
-    made::show(b"duocomb(P, P)", Kind::Duocomb, pc, pe, pi, pc, pe, pi);
-    made::show(b"duocomb(T, T)", Kind::Duocomb, tc, te, ti, tc, te, ti);
+    row::show(names::NULLITOPE, nc, ne, ni);
+    row::show(names::POINT, pc, pe, pi);
+    row::show(names::DYAD, dc, de, di);
+    row::show(names::TRIANGLE, tc, te, ti);
+    made::show(names::PRISM_T_D, true, false, tc, te, ti, dc, de, di);
+    made::show(names::PRISM_D_D, true, false, dc, de, di, dc, de, di);
+    made::show(names::PYRAMID_D_P, false, false, dc, de, di, pc, pe, pi);
+    made::show(names::PRISM_N_T, true, false, nc, ne, ni, tc, te, ti);
+    made::show(names::TEGUM_D_D, false, true, dc, de, di, dc, de, di);
+    made::show(names::COMB_D_D, true, true, dc, de, di, dc, de, di);
+    made::show(names::COMB_P_P, true, true, pc, pe, pi, pc, pe, pi);
+    made::show(names::COMB_T_T, true, true, tc, te, ti, tc, te, ti);
 }
 
-// Products of small cells.
-fn built() {
-    products(
+// The small cells, lent for their own rows and for those of their products.
+fn small() {
+    small_and_made(
         &cells::nullitope::COUNTS,
         &cells::nullitope::ENDS,
         &cells::nullitope::INC,
@@ -158,42 +145,42 @@ fn built() {
     );
 }
 
-// What comes before the table.
+// What comes before the table, with the heads of its columns.
 fn headline() {
-    line::print(
-        b"Is the cell closed? is_valid is the old test; closed also looks at the cell as a whole.",
+    print::text(
+        b"Is the cell closed? is_valid is the old test; closed also looks at the cell as a whole.
+Elements are counted by rank, from the smallest element to the whole. Refusals: docs/REFUSALS.md.
+
+cell                            elements       is_valid  flags  orientable  closed
+",
     );
-    line::print(
-        b"Elements are counted by rank, from the smallest element to the whole. Refusals: docs/REFUSALS.md.\n",
-    );
-    line::text(
-        0,
-        b"cell                            elements      is_valid  ",
-    );
-    line::print(b"closed                                   flags  orientable");
 }
 
 // What the table shows.
 fn last_words() {
-    line::print(
-        b"\nWhat let the insurer's cell through: is_valid asks for two elements in between only below the cell",
+    print::text(
+        b"
+What let the insurer's cell through: is_valid asks for two elements in between only below the cell
+itself, so an edge that lies in only one of its faces goes unseen; closed asks up to the cell itself.
+Products keep cells closed: a product of two closed cells is closed again, which is proved once for
+all four, and the one exception is the duocomb of two dyads.
+",
     );
-    line::print(
-        b"itself, so an edge that lies in only one of its faces goes unseen; closed asks up to the cell itself.",
-    );
-    line::print(
-        b"Products keep cells closed: a product of two closed cells is closed again, which is proved once for",
-    );
-    line::print(b"all four, and the one exception is the duocomb of two dyads.");
 }
 
 fn main() {
     headline();
+    whole_box();
+    leaking_box();
+    lidless_box();
+    hemicube();
+    print::end();
     small();
-    boxes();
-    line::print(b"");
-    built();
-    line::print(b"");
-    faults();
+    print::end();
+    two_minimal();
+    struck();
+    three_on_top();
+    one_on_top();
+    twice_listed();
     last_words();
 }
