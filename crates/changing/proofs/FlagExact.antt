@@ -1,46 +1,20 @@
 -- The flag test: its answer at each rank, and its exactness: it is true exactly for the flags.
 -- Assumes nothing.
-use mathlib.Core.Path.{_≡_, refl, sym, ap, _∙_}
-use mathlib.Core.Bool.{Bool, true, false, true≢false}
+use mathlib.Core.Path.{_≡_, refl, sym, _∙_}
+use mathlib.Core.Bool.{true, false}
 use mathlib.Core.List.{List}
-use mathlib.Core.Logic.{_↔_, ⊎-elim}
+use mathlib.Core.Logic.{_↔_}
 use Prim.Native.Nat.{ℕ, zero, suc, _+_, _-_, _≤_, _<_}
-use native.Mathlib.Nat.{eq-or-lt-of-le, le-of-suc-le-suc}
 use native.Mathlib.Numerals.{add-one}
 use native.Mathlib.Omega.{arith}
 use borrow.Author.Tests.{eq-eqb, ne-eqb, lt-ltb, le-ltb, eqb-true, ltb-true}
 use lib.ListN.{length, getD}
 use Rattle.order.specs.Lists.{has}
 use Rattle.order.proofs.Lists.{has-yes}
+use Rattle.order.specs.Tests.{every}
+use Rattle.order.proofs.Tests.{and-true, every-each, every-all}
 use Rattle.listing.specs.Listing.{Listing, count, subs}
-use Rattle.matching.proofs.Sequences.{and-true}
-use Rattle.changing.specs.Flags.{every, flagAt, flagTest, IsFlag}
-
--- ---- a test of all numbers below n
-
-module _ (t : ℕ → Bool) where
-  pub every-next : (n : ℕ) → every t n ≡ true → t n ≡ true → every t (n + 1) ≡ true
-  unfolding every
-  every-next n e h = rw (add-one, e, h)
-
-  every-each : (n : ℕ) → every t n ≡ true → (r : ℕ) → r < n → t r ≡ true
-  unfolding every
-  every-each zero e r h = absurd (omega arith)
-  every-each (suc n) e r h =
-      let p = and-true (every t n) (t n) e in
-      ⊎-elim (λ q. ap t q ∙ p .1) (λ l. every-each n (p .0) r l) (eq-or-lt-of-le (le-of-suc-le-suc h))
-
-  every-all : (n : ℕ) → ((r : ℕ) → r < n → t r ≡ true) → every t n ≡ true
-  unfolding every
-  every-all zero a = refl
-  every-all (suc n) a = rw (every-all n (λ r h. a r (omega arith)), a n (omega arith))
-
-  pub every-stop : (n r : ℕ) → r < n → t r ≡ false → every t n ≡ false
-  every-stop n r h e = go (every t n) refl
-    where
-      go : (b : Bool) → every t n ≡ b → every t n ≡ false
-      go true q = absurd (true≢false (sym (every-each n q r h) ∙ e))
-      go false q = q
+use Rattle.changing.specs.Flags.{flagAt, flagTest, IsFlag}
 
 -- ---- the test at one rank, and as a whole
 

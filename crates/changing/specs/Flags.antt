@@ -1,26 +1,22 @@
 -- Flags of a listing.
 --
--- every      a test holds of all numbers below n
 -- flagAt     at rank r stands an index that exists, and what stands below it is one of its subs
 -- flagTest   whether a list of numbers is a flag, by looking
 -- startTest  what a change or a search asks before all else: the closed test, then 20
 -- IsFlag     a flag: one existing index per rank, no fewer and no more, each a sub of the next
 use mathlib.Core.Path.{_≡_}
-use mathlib.Core.Bool.{Bool, true, not, _&&_, _||_}
+use mathlib.Core.Bool.{Bool, not, _&&_, _||_}
 use mathlib.Core.List.{List}
-use Prim.Native.Nat.{ℕ, zero, suc, _+_, _-_, _<_}
+use Prim.Native.Nat.{ℕ, _+_, _-_, _<_}
 use lib.Dec.{ltb, eqb}
 use lib.ListN.{length, getD}
 use Rattle.order.specs.Lists.{In, has}
+use Rattle.order.specs.Tests.{every}
 use Rattle.listing.specs.declared.Answer.{Answer}
 use Rattle.listing.specs.Refusals.{notAFlag}
 use Rattle.listing.specs.Answers.{plain, on, _orElse_}
 use Rattle.listing.specs.Listing.{Listing, Limits, count, subs}
 use Rattle.valid.specs.Tests.{closed}
-
-unfoldable pub every : (ℕ → Bool) → ℕ → Bool
-every t zero = true
-every t (suc n) = every t n && t n
 
 unfoldable pub flagAt : Listing → List ℕ → ℕ → Bool
 flagAt L f r = ltb (getD f r 0) (count L r) && (eqb r 0 || has (subs L r (getD f r 0)) (getD f (r - 1) 0))

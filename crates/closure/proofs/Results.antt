@@ -14,7 +14,7 @@ use Rattle.listing.specs.Listing.{Listing, limits, rank, before, entries}
 use Rattle.listing.specs.Shape.{fills, shapeTest}
 use Rattle.listing.specs.Cells.{nullitope}
 use Rattle.matching.specs.Incidence.{alongTest, elementTest, incidencesTest}
-use Rattle.matching.proofs.Sequences.{or-none}
+use Rattle.order.proofs.Tests.{or-none}
 use Rattle.diamond.specs.Dyadic.{dyadicTest}
 use Rattle.valid.specs.Bounds.{boundedTest}
 use Rattle.valid.specs.Ascent.{climbs, elementAscent, ascentTest}

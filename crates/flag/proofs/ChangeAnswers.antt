@@ -14,7 +14,7 @@ use Rattle.listing.specs.Refusals.{outsideRanks}
 use Rattle.listing.specs.Answers.{plain, fine, ifZero}
 use Rattle.listing.specs.Listing.{Listing, Limits, rank}
 use Rattle.listing.proofs.Answers.{or-no, no-or, on-no, on-off, then-go}
-use Rattle.matching.proofs.Sequences.{and-true, and-off}
+use Rattle.order.proofs.Tests.{and-true, and-off}
 use Rattle.valid.specs.Closed.{Closed}
 use Rattle.changing.specs.Flags.{startTest, IsFlag}
 use Rattle.changing.specs.Change.{changeAt, padded, Changes}

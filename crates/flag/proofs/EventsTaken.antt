@@ -11,7 +11,7 @@ use native.Mathlib.Omega.{arith}
 use borrow.Author.Tests.{leb-true}
 use lib.Dec.{leb}
 use lib.ListN.{replicate}
-use Rattle.matching.proofs.Sequences.{and-true}
+use Rattle.order.proofs.Tests.{and-true}
 use Rattle.flag.specs.declared.Event.{Event}
 use Rattle.flag.specs.declared.Event.the-variants.{Flag, NonOrientable, Nothing}
 use Rattle.flag.specs.Events.{within, eventAt, events, nextAt, upFrom, eventsOf, taken}

@@ -1,7 +1,7 @@
 -- The shape test's answer at each of its tests, and its exactness: it answers 0 exactly if the listing is Shaped.
 -- Assumes nothing.
-use mathlib.Core.Path.{_≡_, refl, ap}
-use mathlib.Core.Bool.{Bool, true, false, _&&_}
+use mathlib.Core.Path.{_≡_, ap}
+use mathlib.Core.Bool.{true, false, _&&_}
 use mathlib.Core.List.{List, [], _∷_}
 use mathlib.Core.Logic.{_↔_}
 use Prim.Native.Nat.{ℕ, zero, suc, _+_, _*_, _≤_, _<_}
@@ -12,6 +12,7 @@ use borrow.Author.Tests.{eq-eqb, ne-eqb, lt-ltb, le-ltb, le-leb, eqb-true, eqb-f
 use lib.Dec.{leb, eqb}
 use lib.ListN.{length, getD, drop, drop-of-length-le}
 use lib.Seq.{drop-cons}
+use Rattle.order.proofs.Tests.{and-true}
 use Rattle.listing.specs.declared.Answer.{Answer}
 use Rattle.listing.specs.Answers.{plain, fine, _orElse_}
 use Rattle.listing.specs.Refusals.{noRanks, overRanks, overElements, wrongEnds, overIncidences, fallingEnds}
@@ -67,10 +68,6 @@ module _ (m : Limits) (L : Listing) where
             shape-0 h = rw (ne-eqb _ _ h1, le-ltb _ _ h2, le-ltb _ _ h3, eq-eqb _ _ h4, le-ltb _ _ h5, h)
 
 -- ---- the ends, said of each
-
-and-true : (a b : Bool) → a && b ≡ true → (a ≡ true) × (b ≡ true)
-and-true true b e = (refl, e)
-and-true false b e = (e, let z : _≡_ {A = ℕ} 0 1 = cc in absurd (omega arith))
 
 fills-head : (from x : ℕ) (l : List ℕ) (n : ℕ) → fills from (x ∷ l) n ≡ true → (from ≤ x) × (fills x l n ≡ true)
 unfolding fills

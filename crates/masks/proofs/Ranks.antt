@@ -11,9 +11,9 @@ use borrow.Author.Tests.{eq-eqb, ne-eqb, eqb-true, ltb-true, lt-ltb}
 use lib.Dec.{eqb, ltb}
 use lib.Count.{trailingZeros, under}
 use Rattle.order.specs.Lists.{In, Ascending}
-use Rattle.matching.proofs.Sequences.{and-true}
-use Rattle.changing.specs.Flags.{every}
-use Rattle.changing.proofs.FlagExact.{every-stop}
+use Rattle.order.proofs.Tests.{and-true}
+use Rattle.order.specs.Tests.{every}
+use Rattle.order.proofs.Tests.{every-stop}
 use Rattle.masks.specs.Masks.{bit, bitsIn, ranksOf, maskFits}
 use Rattle.masks.proofs.Low.{low-fits}
 

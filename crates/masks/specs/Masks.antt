@@ -8,7 +8,7 @@ use mathlib.Core.Bool.{Bool, cond, _&&_, _||_}
 use mathlib.Core.List.{List, [], _∷_}
 use Prim.Native.Nat.{ℕ, zero, suc, _+_, _/_, _%_, _^_}
 use lib.Dec.{eqb, ltb}
-use Rattle.changing.specs.Flags.{every}
+use Rattle.order.specs.Tests.{every}
 
 abbrev pub bit : ℕ → ℕ → ℕ
 bit n r = n / 2 ^ r % 2

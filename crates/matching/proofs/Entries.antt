@@ -17,7 +17,8 @@ use Rattle.listing.proofs.Answers.{or-stop, or-fine, then-stop, then-go}
 use Rattle.matching.specs.declared.incidence.Way.{Way}
 use Rattle.matching.specs.Incidence.{entryTest, alongTest, elementTest}
 use Rattle.matching.specs.Ways.{down, up, listTest}
-use Rattle.matching.proofs.Sequences.{and-off, or-assoc}
+use Rattle.order.proofs.Tests.{and-off}
+use Rattle.matching.proofs.Sequences.{or-assoc}
 
 -- ---- an entry
 

@@ -2,7 +2,7 @@
 -- Assumes nothing.
 use mathlib.Core.Path.{_≡_, refl, sym, ap, _∙_}
 use mathlib.Core.Logic.{_↔_, inl, inr}
-use mathlib.Core.Bool.{Bool, true, false, true≢false, cond, _&&_, _||_}
+use mathlib.Core.Bool.{true, false, cond}
 use mathlib.Core.List.{List, [], _∷_}
 use Prim.Native.Nat.{ℕ, zero, suc, _+_, _-_, _≤_, _<_}
 use native.Mathlib.Nat.{not-suc-le-zero, le-of-suc-le-suc}
@@ -19,18 +19,6 @@ use Rattle.listing.specs.Listing.{Listing, count}
 use Rattle.listing.proofs.Answers.{or-fine, or-stop, of-each, of-all}
 
 -- ---- tests
-
-pub and-true : (a b : Bool) → a && b ≡ true → (a ≡ true) × (b ≡ true)
-and-true true b e = (refl, e)
-and-true false b e = absurd (true≢false (sym e))
-
-pub or-none : (a b : Bool) → a || b ≡ false → (a ≡ false) × (b ≡ false)
-or-none true b e = absurd (true≢false e)
-or-none false b e = (refl, e)
-
-pub and-off : (a : Bool) {b : Bool} → b ≡ false → a && b ≡ false
-and-off true e = e
-and-off false e = refl
 
 -- what holds at both sides holds at each
 pub at-sides : (P : ℕ → Type 0) → P 0 → P 1 → (s : ℕ) → s < 2 → P s

@@ -1,4 +1,5 @@
 pub mod Lists
+pub mod Tests
 pub mod Sums
 pub mod Structure
 pub mod Diamond

@@ -18,7 +18,7 @@ use Rattle.listing.proofs.Answers.{or-assoc}
 use Rattle.listing.proofs.ShapeExact.{fills-exact}
 use Rattle.matching.specs.Incidence.{Incident, incidencesTest}
 use Rattle.matching.proofs.IncidenceExact.{incidences-exact}
-use Rattle.matching.proofs.Sequences.{and-true, or-none}
+use Rattle.order.proofs.Tests.{and-true, or-none}
 use Rattle.diamond.specs.Dyadic.{MetTwice, Diamond, dyadicTest}
 use Rattle.diamond.proofs.DyadicExact.{dyadic-counts, dyadic-exact}
 use Rattle.valid.specs.Bounds.{Bounded, boundedTest}

@@ -22,7 +22,8 @@ use Rattle.pairing.specs.Product.{product, productOf}
 use Rattle.closure.specs.Result.{nullCase, combCase, resultOf}
 use Rattle.sizing.specs.Sizing.{sizeTest}
 use Rattle.product.specs.Outcome.{productTest}
-use Rattle.changing.specs.Flags.{every, flagAt, flagTest, startTest}
+use Rattle.order.specs.Tests.{every}
+use Rattle.changing.specs.Flags.{flagAt, flagTest, startTest}
 use Rattle.changing.specs.Change.{common, other, between, changeAt, padded}
 use Rattle.flag.specs.Changed.{changeTest, changedOf}
 use Rattle.promises.specs.Starred.{answered, table}

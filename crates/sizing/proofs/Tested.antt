@@ -10,7 +10,7 @@ use Rattle.listing.specs.Answers.{plain, fine, _orElse_}
 use Rattle.listing.specs.Listing.{Listing, Limits}
 use Rattle.listing.specs.Shape.{elements}
 use Rattle.listing.proofs.Answers.{on-no, on-or-no}
-use Rattle.matching.proofs.Sequences.{or-none}
+use Rattle.order.proofs.Tests.{or-none}
 use Rattle.sizing.specs.Sizing.{sizeTest}
 
 module _ (m : Limits) (R : Listing) (c e i : ℕ) where

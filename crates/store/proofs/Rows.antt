@@ -13,7 +13,7 @@ use lib.ListN.{length, getD, take, drop, set, length-drop, drop-of-length-le, Li
 use lib.Seq.{length-take-le, take-all, take-suc, drop-cons, take-at, getD-at, getD-take, getD-drop, take-add}
 use lib.Seq.{take-suc-set, take-append-le, drop-append-le, drop-at, ext-getD, paste, length-paste-head, length-paste}
 use lib.Seq.{drop-paste, paste-suc}
-use Rattle.matching.proofs.Sequences.{and-true}
+use Rattle.order.proofs.Tests.{and-true}
 use Rattle.searching.specs.Search.{Decides}
 use Rattle.searching.proofs.Once.{length-snoc}
 use Rattle.store.specs.Rows.{rowOf, rows, sameList, flatten}

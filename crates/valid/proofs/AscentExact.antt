@@ -19,7 +19,8 @@ use Rattle.listing.specs.Listing.{Listing, side}
 use Rattle.listing.specs.Refusals.{notAscending}
 use Rattle.listing.proofs.Answers.{or-no, no-or, on-no, on-off}
 use Rattle.listing.proofs.Listing.{rank-there}
-use Rattle.matching.proofs.Sequences.{and-true, at-sides, elements-exact}
+use Rattle.order.proofs.Tests.{and-true}
+use Rattle.matching.proofs.Sequences.{at-sides, elements-exact}
 use Rattle.diamond.specs.Dyadic.{Distinct}
 use Rattle.valid.specs.Ascent.{climbs, sideAscent, elementAscent, ascentTest, Ascends}
 

@@ -9,7 +9,7 @@ use Rattle.listing.specs.Listing.{Listing, rank, count}
 use Rattle.listing.specs.Refusals.{notBounded}
 use Rattle.listing.specs.declared.Answer.{Answer}
 use Rattle.listing.proofs.Answers.{on-no}
-use Rattle.matching.proofs.Sequences.{and-true}
+use Rattle.order.proofs.Tests.{and-true}
 use Rattle.valid.specs.Bounds.{boundedTest, Bounded}
 
 module _ (L : Listing) where

@@ -11,8 +11,10 @@ use lib.ListN.{length}
 use Rattle.listing.specs.Listing.{Listing, listing, before}
 use Rattle.listing.proofs.Listing.{before-zero, before-next}
 use Rattle.matching.proofs.Places.{few-before}
-use Rattle.changing.specs.Flags.{every, flagAt}
-use Rattle.changing.proofs.FlagExact.{every-next, every-stop, other-length, same-length}
+use Rattle.order.specs.Tests.{every}
+use Rattle.changing.specs.Flags.{flagAt}
+use Rattle.order.proofs.Tests.{every-next, every-stop}
+use Rattle.changing.proofs.FlagExact.{other-length, same-length}
 use Rattle.changing.proofs.chain.is_flag.Statement.{statement}
 use Rattle.changing.proofs.chain.is_flag.Tie as tie
 

@@ -7,8 +7,8 @@ use Prim.Native.Nat.{_-_, _≤_}
 use native.Mathlib.Omega.{arith}
 use borrow.Author.Tests.{not-true, not-false}
 use borrow.Author.Needs.{needs}
-use Rattle.changing.proofs.FlagExact.{every-stop, every-next}
-use Rattle.changing.specs.Flags.{every}
+use Rattle.order.proofs.Tests.{every-stop, every-next}
+use Rattle.order.specs.Tests.{every}
 use Rattle.masks.specs.Masks.{maskFits}
 use Rattle.masks.proofs.Ranks.{test}
 use Rattle.masks.proofs.mask.fits.Statement.{statement}
