@@ -1,7 +1,7 @@
 // Questions on counts, on one cell, and on the number of a refusal.
-use crate::say;
 use listing::Answer;
 use listing::Number;
+use saying::say;
 
 // The four counts by the fourth letter: rank, vertex_count, facet_count, el_count.
 fn count_of(letter: u8, counts: &[u16], r: usize) -> Number {

@@ -1,7 +1,8 @@
 // Questions on flags: changes, searches, and their events.
-use crate::say;
+use crate::room;
 use flag::Event;
 use flag::Orientation;
+use saying::say;
 use search::Searched;
 
 // A change.
@@ -21,7 +22,7 @@ fn searched(s: Searched) {
 }
 
 // A search, and what it left in the slices lent.
-pub fn search(
+fn search_in(
     counts: &[u16],
     ends: &[u16],
     inc: &[u16],
@@ -33,6 +34,31 @@ pub fn search(
     searched(search::search(counts, ends, inc, first, mask, &mut *table, &mut *odd));
     say::list(table);
     say::bytes(odd);
+}
+
+// A search with room of these lengths, as far as there is so much, for the flags and for their orientations.
+pub fn search(
+    counts: &[u16],
+    ends: &[u16],
+    inc: &[u16],
+    first: &[u16],
+    mask: u16,
+    words: u64,
+    bytes: u64,
+) {
+    let mut table = room::table();
+    let mut odd = room::orientations();
+    let t = room::words(words, &table);
+    let o = room::bytes(bytes, &odd);
+    search_in(
+        counts,
+        ends,
+        inc,
+        first,
+        mask,
+        &mut table[..t],
+        &mut odd[..o],
+    );
 }
 
 // An event of a search whose flags have w numbers each.
@@ -54,19 +80,13 @@ fn told(count: u16, place: u16, table: &[u16], odd: &[u8], w: usize) {
     }
 }
 
-// A search and its events.
-pub fn events(
-    counts: &[u16],
-    ends: &[u16],
-    inc: &[u16],
-    first: &[u16],
-    mask: u16,
-    table: &mut [u16],
-    odd: &mut [u8],
-) {
-    let s = search::search(counts, ends, inc, first, mask, &mut *table, &mut *odd);
+// A search with all room, and its events.
+pub fn events(counts: &[u16], ends: &[u16], inc: &[u16], first: &[u16], mask: u16) {
+    let mut table = room::table();
+    let mut odd = room::orientations();
+    let s = search::search(counts, ends, inc, first, mask, &mut table, &mut odd);
     say::answer(s.answer);
-    told(s.count, s.place, table, odd, counts.len());
+    told(s.count, s.place, &table, &odd, counts.len());
 }
 
 // The sign of an orientation's byte.

@@ -1,6 +1,7 @@
 // Questions on products.
-use crate::say;
+use crate::room;
 use product::Built;
+use saying::say;
 
 // Whether minimal elements are left out, by the fifth letter: of the duoprism and the duocomb.
 fn leaves_min(letter: u8) -> bool {
@@ -65,7 +66,7 @@ fn left(tested: bool, b: Built, counts: &[u16], ends: &[u16], inc: &[u16]) {
 }
 
 // The product that the letter stands for, and what it left in the slices lent.
-pub fn product(
+fn product_in(
     letter: u8,
     tested: bool,
     pcounts: &[u16],
@@ -93,4 +94,39 @@ pub fn product(
     );
     built(b);
     left(tested, b, counts, ends, inc);
+}
+
+// The product that the letter stands for, with room of these lengths, as far as there is so much.
+pub fn product(
+    letter: u8,
+    tested: bool,
+    pcounts: &[u16],
+    pends: &[u16],
+    pinc: &[u16],
+    qcounts: &[u16],
+    qends: &[u16],
+    qinc: &[u16],
+    clength: u64,
+    elength: u64,
+    ilength: u64,
+) {
+    let mut counts = room::few();
+    let mut ends = room::some();
+    let mut inc = room::many();
+    let c = room::words(clength, &counts);
+    let e = room::words(elength, &ends);
+    let i = room::words(ilength, &inc);
+    product_in(
+        letter,
+        tested,
+        pcounts,
+        pends,
+        pinc,
+        qcounts,
+        qends,
+        qinc,
+        &mut counts[..c],
+        &mut ends[..e],
+        &mut inc[..i],
+    );
 }

@@ -1,10 +1,10 @@
 // Each question read from its line and put to the function that it names. The functions are told apart by letters of
 // their names.
-use crate::room;
 use crate::text;
 use asking::cell;
 use asking::flags;
 use asking::pair;
+use asking::room;
 
 // The class of a refusal's number.
 fn class(line: &[u8]) {
@@ -32,27 +32,14 @@ fn count(line: &[u8], counts: &[u16]) {
 // A search with room of the lengths that the line asks for.
 fn search(line: &[u8], counts: &[u16], ends: &[u16], inc: &[u16], first: &[u16]) {
     let mask = text::narrow(text::plain(line, 0));
-    let mut table = room::table();
-    let mut odd = room::orientations();
-    let t = room::words(text::plain(line, 1), &table);
-    let o = room::bytes(text::plain(line, 2), &odd);
-    flags::search(
-        counts,
-        ends,
-        inc,
-        first,
-        mask,
-        &mut table[..t],
-        &mut odd[..o],
-    );
+    let table = text::plain(line, 1);
+    let odd = text::plain(line, 2);
+    flags::search(counts, ends, inc, first, mask, table, odd);
 }
 
 // A search with all room, and its events.
 fn events(line: &[u8], counts: &[u16], ends: &[u16], inc: &[u16], first: &[u16]) {
-    let mask = text::narrow(text::plain(line, 0));
-    let mut table = room::table();
-    let mut odd = room::orientations();
-    flags::events(counts, ends, inc, first, mask, &mut table, &mut odd);
+    flags::events(counts, ends, inc, first, text::narrow(text::plain(line, 0)));
 }
 
 // A question on a flag: change, search, events.
@@ -77,38 +64,7 @@ fn product_letter(line: &[u8]) -> u8 {
     text::letter(line, 4)
 }
 
-// A product with room of the lengths that the line asks for.
-fn in_room(
-    line: &[u8],
-    pcounts: &[u16],
-    pends: &[u16],
-    pinc: &[u16],
-    qcounts: &[u16],
-    qends: &[u16],
-    qinc: &[u16],
-) {
-    let mut counts = room::few();
-    let mut ends = room::some();
-    let mut inc = room::many();
-    let c = room::words(text::plain(line, 0), &counts);
-    let e = room::words(text::plain(line, 1), &ends);
-    let i = room::words(text::plain(line, 2), &inc);
-    pair::product(
-        product_letter(line),
-        is_tested(line),
-        pcounts,
-        pends,
-        pinc,
-        qcounts,
-        qends,
-        qinc,
-        &mut counts[..c],
-        &mut ends[..e],
-        &mut inc[..i],
-    );
-}
-
-// A question on two factors: the second one is read.
+// A question on two factors, of which the first is read already, with room of the lengths that the line asks for.
 fn on_factors(line: &[u8], pcounts: &[u16], pends: &[u16], pinc: &[u16]) {
     let mut counts = room::few();
     let mut ends = room::some();
@@ -116,14 +72,18 @@ fn on_factors(line: &[u8], pcounts: &[u16], pends: &[u16], pinc: &[u16]) {
     let c = text::list(line, 3, &mut counts);
     let e = text::list(line, 4, &mut ends);
     let i = text::list(line, 5, &mut inc);
-    in_room(
-        line,
+    pair::product(
+        product_letter(line),
+        is_tested(line),
         pcounts,
         pends,
         pinc,
         &counts[..c],
         &ends[..e],
         &inc[..i],
+        text::plain(line, 0),
+        text::plain(line, 1),
+        text::plain(line, 2),
     );
 }
 

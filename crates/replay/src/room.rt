@@ -1,63 +1,10 @@
-// Arrays to read into and to lend, full of 65535 (bytes of 255), and how much of them is lent. The contracts give the
-// length, which lending an array needs.
+// Room for the text that is read.
 ghost use mathlib.Core.Path.{_≡_};
 ghost use lib.ListN.{length};
-ghost use Rattle.io.specs.Counts.{Counts};
 
-// Room for the text.
+// An array for the text; the contract gives the length, which lending an array needs.
 pub fn text() -> [u8; 524288]
     ensures { λ r. ⌜ 524288 ≡ length r ⌝ }
 {
     [0; 524288]
-}
-
-// Room for counts, or for a flag.
-pub fn few() -> [u16; 32]
-    ensures { λ r. ⌜ 32 ≡ length r ⌝ }
-{
-    [65535; 32]
-}
-
-// Room for ends: a few more than the limit.
-pub fn some() -> [u16; 8200]
-    ensures { λ r. ⌜ 8200 ≡ length r ⌝ }
-{
-    [65535; 8200]
-}
-
-// Room for incidences: a few more than the limit.
-pub fn many() -> [u16; 32800]
-    ensures { λ r. ⌜ 32800 ≡ length r ⌝ }
-{
-    [65535; 32800]
-}
-
-// Room for flags: a few more than the limit.
-pub fn table() -> [u16; 262400]
-    ensures { λ r. ⌜ 262400 ≡ length r ⌝ }
-{
-    [65535; 262400]
-}
-
-// Room for orientations: a few more than the limit.
-pub fn orientations() -> [u8; 16400]
-    ensures { λ r. ⌜ 16400 ≡ length r ⌝ }
-{
-    [255; 16400]
-}
-
-// So many numbers of a slice, or all if it has fewer.
-pub fn words(n: u64, out: &[u16]) -> usize
-    ensures { λ r. ⌜ Counts r (now (out .entry)) ⌝ }
-{
-    let n = n as usize;
-    if n < out.len() { n } else { out.len() }
-}
-
-// So many bytes of a slice, or all if it has fewer.
-pub fn bytes(n: u64, out: &[u8]) -> usize
-    ensures { λ r. ⌜ Counts r (now (out .entry)) ⌝ }
-{
-    let n = n as usize;
-    if n < out.len() { n } else { out.len() }
 }

@@ -4,8 +4,8 @@ use borrow.Author.Needs.{needs}
 use mathlib.Core.Path.{_≡_}
 use Prim.Native.Nat.{_-_, _≤_}
 use lib.ListN.{length}
-use Rattle.asking.proofs.say.digest.Statement.{statement}
-use Rattle.asking.proofs.say.digest.Tie as tie
+use Rattle.saying.proofs.say.digest.Statement.{statement}
+use Rattle.saying.proofs.say.digest.Tie as tie
 
 abbrev Inv-loop : tie.InvT-loop
 Inv-loop list sum₀ check₀ i₀ t6 t7 i-end sum check i = (i ≤ i-end) × (i-end ≡ length list)

@@ -1,9 +1,9 @@
 -- `row`. The number of a flag is small, and so is where it begins. Assumes nothing.
 use native.Mathlib.Omega.{arith}
 use borrow.Author.Needs.{needs}
-use Rattle.asking.proofs.Counting.{placed}
-use Rattle.asking.proofs.say.row.Statement.{statement}
-use Rattle.asking.proofs.say.row.Tie as tie
+use Rattle.saying.proofs.Counting.{placed}
+use Rattle.saying.proofs.say.row.Statement.{statement}
+use Rattle.saying.proofs.say.row.Tie as tie
 
 sub-result : tie.Need-sub-result
 sub-result c = search needs

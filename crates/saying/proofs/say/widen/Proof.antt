@@ -1,13 +1,13 @@
 -- `widen`. Invariant: i has not passed the slice, whose length is as it was. Measure: what is left of the slice.
 -- Assumes nothing.
-use Rattle.asking.proofs.Counting.{counted}
+use Rattle.saying.proofs.Counting.{counted}
 use lib.ListN.{length-set}
 use borrow.Author.Needs.{needs}
 use mathlib.Core.Path.{_≡_}
 use Prim.Native.Nat.{_-_, _≤_}
 use lib.ListN.{length}
-use Rattle.asking.proofs.say.widen.Statement.{statement}
-use Rattle.asking.proofs.say.widen.Tie as tie
+use Rattle.saying.proofs.say.widen.Statement.{statement}
+use Rattle.saying.proofs.say.widen.Tie as tie
 
 abbrev Inv-loop : tie.InvT-loop
 Inv-loop list out₀ i₀ out i = (i ≤ length out) × (length out ≡ length out₀)

@@ -1,7 +1,7 @@
 -- `room`. By the length of a list of one number repeated: nothing is computed. Assumes nothing.
-use Rattle.asking.proofs.Counting.{repeated}
-use Rattle.asking.proofs.say.room.Statement.{statement}
-use Rattle.asking.proofs.say.room.Tie as tie
+use Rattle.saying.proofs.Counting.{repeated}
+use Rattle.saying.proofs.say.room.Statement.{statement}
+use Rattle.saying.proofs.say.room.Tie as tie
 
 returns : tie.Need-returns
 returns c = repeated 16400 0

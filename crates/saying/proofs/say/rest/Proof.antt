@@ -3,8 +3,8 @@
 use borrow.Author.Needs.{needs}
 use Prim.Native.Nat.{_-_, _≤_}
 use lib.ListN.{length}
-use Rattle.asking.proofs.say.rest.Statement.{statement}
-use Rattle.asking.proofs.say.rest.Tie as tie
+use Rattle.saying.proofs.say.rest.Statement.{statement}
+use Rattle.saying.proofs.say.rest.Tie as tie
 
 abbrev Inv-loop : tie.InvT-loop
 Inv-loop list from i₀ i = from ≤ i

@@ -1,0 +1,2 @@
+// Answers as text: numbers, lists and flags, printed. These functions return nothing.
+pub mod say;
