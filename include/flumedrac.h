@@ -5,11 +5,11 @@
  * write exactly what is said here.
  *
  * A LISTING is three lent slices of 16-bit numbers.
- *   counts  The number of elements of each rank, rank 0 first. The rank of the listing is one less than the length:
- *           nullitope 0, point 1, dyad 2, polygon 3, cell 4.
- *   ends    For each element, by rank and then index, two numbers: where its subs end in inc and where its sups end.
- *           Each list begins where the one before ended; the first begins at 0.
- *   inc     The indices: an element's subs (one rank lower), then its sups (one rank higher), element after element.
+ *   counts  How many elements each rank has, from rank 0 upward. A listing of rank n has n + 1 counts: the nullitope
+ *           has one, a point two, a dyad three, a polygon four, a cell five.
+ *   ends    Two numbers for each element, rank by rank and in a rank by index: where in inc its subs stop, and where
+ *           its sups stop. A list starts where the list before it stops, the first at 0.
+ *   inc     The numbers listed: of each element the indices of its subs, one rank lower, then of its sups, one higher.
  * The triangle, for one: counts 1 3 3 1; its first edge has the vertices 0 and 1 as subs and the top, 0, as its sup.
  *
  * A SLICE is a pointer and the count of numbers it points to. It may be empty but its pointer may not be null. Slices
@@ -181,8 +181,8 @@ fd_answer fd_closed(const uint16_t *counts, size_t counts_len, const uint16_t *e
 
 /*
  * The flag with another element at rank r: of the two elements between flag[r - 1] and flag[r + 1] the other one.
- * A flag is one existing index for each rank, no fewer and no more numbers, each a sub of the next. Refusals:
- * fd_closed's, then FD_NOT_A_FLAG, then FD_OUTSIDE_RANKS.
+ * A flag has one number for each rank: the index of an element that is there and is listed as a sub by the next.
+ * Refusals: fd_closed's, then FD_NOT_A_FLAG, then FD_OUTSIDE_RANKS.
  */
 fd_changed fd_change(const uint16_t *counts, size_t counts_len, const uint16_t *ends, size_t ends_len,
                      const uint16_t *inc, size_t inc_len, const uint16_t *flag, size_t flag_len, uint16_t r);
@@ -197,7 +197,7 @@ fd_changed fd_change(const uint16_t *counts, size_t counts_len, const uint16_t *
  *
  * Room is the whole flags that fit into table, or orientations_len, or FD_MAX_FLAGS, whichever is the least. Refusals:
  * those of fd_closed, then FD_NOT_A_FLAG, FD_OUTSIDE_RANKS, and FD_MORE_FLAGS exactly if more flags can be reached than
- * there is room for. It alone writes: both slices then hold the first flags found, as many as there is room for.
+ * there is room for. It alone leaves something behind: the flags found until there was no more room.
  */
 fd_searched fd_search(const uint16_t *counts, size_t counts_len, const uint16_t *ends, size_t ends_len,
                       const uint16_t *inc, size_t inc_len, const uint16_t *first, size_t first_len, uint16_t mask,
@@ -225,10 +225,11 @@ fd_event fd_next_event(fd_cursor *cursor, uint16_t count, uint16_t place);
  *   duotegum    (q, p), of ranks below the top            maximal      the sum less 1
  *   duocomb     (p, q), of ranks from 1, below the top    both         the sum less 2
  *
- * In one rank pairs go by the first member's rank, then its index, then the second's index. Subs: the first member's
- * subs in their order with the second fixed, then the second's with the first fixed, only pairs in use; an element with
- * none in use has the added minimal one. The added maximal one has all facets. Sups are gathered from the product's own
- * subs, in order of the elements above, once for each time that one of these lists the element.
+ * The pairs of one rank are ordered by the rank of the first member, then by its index, then by the index of the
+ * second. A pair lists as subs the pairs with a sub of its first member in its place, in their order, and then those
+ * with a sub of its second member; pairs not in use are passed over. Where nothing is left it lists the added minimal
+ * element. The added maximal element lists all facets. Sups follow from these subs: each element lists those that
+ * list it, in order, each as often as it does.
  */
 fd_built fd_duopyramid(const uint16_t *p_counts, size_t p_counts_len, const uint16_t *p_ends, size_t p_ends_len,
                        const uint16_t *p_inc, size_t p_inc_len, const uint16_t *q_counts, size_t q_counts_len,

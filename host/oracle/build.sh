@@ -4,16 +4,16 @@
 #   host/oracle/build.sh [FOLDER]
 #
 # FOLDER holds the files: as miratope-core/src/.. in a copy of their repository, or flat, as
-# src--miratope-core--src--..txt. Without it $FLUMEDRAC_RUST is taken, then ../shared/docs/src beside the project.
+# src--miratope-core--src--..txt. Without it $FLUMEDRAC_RUST is taken.
 #
 # RUSTC names another compiler, and CARGO_BUILD_TARGET another target, as they do for cargo.
 #
-# Makes host/target/oracle/liboracle_checked.rlib (host/target/TARGET/oracle for another target) (overflow checks and debug assertions, for answers) and
-# liboracle_optimised.rlib (for times). The files are only linked to, never copied. Status 2: they were not found.
+# Makes host/target/oracle/liboracle_checked.rlib (overflow checks and debug assertions, for answers) and
+# liboracle_optimised.rlib (for times), in host/target/TARGET/oracle for another target. The files are only linked to, never copied. Status 2: they were not found.
 set -eu
 
 here=$(cd "$(dirname "$0")" && pwd)
-from=${1:-${FLUMEDRAC_RUST:-$here/../../../shared/docs/src}}
+from=${1:-${FLUMEDRAC_RUST:?says where the Rust files are}}
 rustc=${RUSTC:-rustc}
 target=${CARGO_BUILD_TARGET:-}
 out=$here/../target/${target:+$target/}oracle

@@ -7,7 +7,8 @@
 -- Apart      room for g x numbers at the cursor of each x of n: each part ends before the next begins, all before `top`
 -- between    the numbers from one place of a list up to another
 -- gathered   the sups of element x of rank r, gathered from the lists that stand one rank higher
--- Fillable   the lists are there, all subs are written, and there is room for the sups of each element
+-- Fillable   there are ranks, but no more than 64, so that their number cannot run over; the lists are there, all subs
+--            are written, and there is room for the sups of each element
 -- Filled     the sups of the ranks below r written, each where its element's subs end, and nothing else
 use mathlib.Core.Path.{_≡_}
 use mathlib.Core.List.{List}

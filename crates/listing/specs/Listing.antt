@@ -1,6 +1,7 @@
 -- A listing: three lists of numbers, and what they say of its elements.
 --
--- Listing   counts, ends and inc, as 01 lays them out
+-- Listing   counts: the elements of each rank; ends: where each element's subs and then its sups end; inc: the lists
+-- listing   a listing of three lists
 -- Limits    how much a listing, and a search over it, may hold
 -- limits    the limits in force
 -- rank      one less than the number of ranks

@@ -10,11 +10,12 @@
 -- noSubs, noSups                         an element without subs above rank 0, without sups below the top
 -- subNotBack, supNotBack                 a sub, a sup that does not list the element back
 -- subMissing, supMissing                 a sub, a sup that does not exist
--- thirdBetween, loneBetween              the diamond: a third element between; only one
+-- thirdBetween, loneBetween              the diamond: an element met a third time between; one met only once
 -- notAscending                           a list that does not strictly ascend
--- notAFlag, outsideRanks, moreFlags      not a flag; a change outside 1 to rank - 1; more flags than room
+-- notAFlag                               the numbers are no flag
+-- outsideRanks, moreFlags                a change, or a bit of a mask, outside 1 to rank - 1; more flags than room
 -- leftInvalid, rightInvalid              is_valid refuses the left, the right factor
--- combOfPoint                            duocomb with a factor of rank 1
+-- combOfPoint                            duocomb with a factor of rank 1, where none has rank 0
 -- productRanks, productElements          a product with too many ranks, elements
 -- productIncidences, outputShort         too many incidences; an output slice that is too short
 -- within                                 whether a number lies from one number to another, both counted in

@@ -1,5 +1,5 @@
-// What the crates above call once a listing is known to be shaped. Some of these functions ask something of their
-// caller; the entries, in lib.rt, ask nothing.
+// What the shape test is made of, and what the crates above call once a listing is known to be shaped. Some of these
+// functions ask something of their caller; the entries, in lib.rt, ask nothing.
 use crate::Answer;
 ghost use mathlib.Core.Path.{_≡_};
 ghost use Prim.Native.Nat.{_+_, _*_, _≤_, _<_, min};

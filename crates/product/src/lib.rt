@@ -16,7 +16,7 @@ pub struct Built {
     pub inc: u16,
 }
 
-// The duopyramid: all pairs, none left out.
+// The duopyramid: all pairs, none left out. The first members are of the right factor, q.
 pub fn duopyramid(
     pcounts: &[u16],
     pends: &[u16],
@@ -80,7 +80,7 @@ pub fn duoprism(
     )
 }
 
-// The duotegum: the pairs without maximal elements, and one added.
+// The duotegum: the pairs without maximal elements, and one added. The first members are of the right factor, q.
 pub fn duotegum(
     pcounts: &[u16],
     pends: &[u16],

@@ -1,4 +1,5 @@
--- What a search promises, said of flags and of the slices that it writes, and not of a walk over flags.
+-- What a search promises, said of flags and of the slices that it writes. Only `first-found` names the search itself,
+-- with more room.
 --
 -- Inside     the set bits of a mask are ranks from 1 to rank - 1
 -- Taken      what a search asks: a closed listing, a flag of it to begin with, and a mask whose bits are inside
@@ -13,6 +14,10 @@
 -- Finds      an answer that is no refusal: the flags held are all that are reachable, and it counts them; it says
 --            whether they can be given two colours so that each change exchanges these, and if so the bytes are these
 --            colours, and if not how many flags were known at the first repeat with another byte
+-- row, byte  flag k of a table, and its byte
+-- room       how many flags there is room for
+-- said       what a search answers, and number its number
+-- After      n flags are held by what the table and the bytes hold afterwards
 -- Promised   what a search answers and writes, in all cases
 use mathlib.Core.Path.{_≡_}
 use mathlib.Core.Logic.{_≢_, _↔_}
@@ -20,6 +25,7 @@ use mathlib.Core.List.{List, List·Memᴰ}
 use Prim.Native.Nat.{ℕ, suc, _+_, _-_, _*_, _≤_, _<_}
 use lib.ListN.{length, getD, take, drop}
 use Rattle.order.specs.Steps.{ChangedAt, Reach}
+use Rattle.listing.specs.Refusals.{notAFlag, outsideRanks, moreFlags}
 use Rattle.listing.specs.Answers.{plain, fine}
 use Rattle.listing.specs.Listing.{Listing, Limits, rank}
 use Rattle.valid.specs.Closed.{Closed}
@@ -124,18 +130,18 @@ module _ (m : Limits) (L : Listing) (first : List ℕ) (mask : ℕ) (table bytes
 
   pub record Promised : Type 0 where
     pub unclosed : ¬ Closed m L → said ≡ refusedAs (closed m L)
-    pub no-flag : Closed m L → ¬ IsFlag L first → said ≡ refusedAs (plain 20)
-    pub outside : Closed m L → IsFlag L first → ¬ Inside L mask → said ≡ refusedAs (plain 21)
+    pub no-flag : Closed m L → ¬ IsFlag L first → said ≡ refusedAs (plain notAFlag)
+    pub outside : Closed m L → IsFlag L first → ¬ Inside L mask → said ≡ refusedAs (plain outsideRanks)
     pub answered : (number ≡ 0) ↔ (Taken m L first mask × (¬ More (suc room) (Leads L mask) first))
-    pub full : (number ≡ 22) ↔ (Taken m L first mask × More (suc room) (Leads L mask) first)
+    pub full : (number ≡ moreFlags) ↔ (Taken m L first mask × More (suc room) (Leads L mask) first)
     pub fine-answer : number ≡ 0 → said .answer ≡ fine
-    pub full-answer : number ≡ 22 → said ≡ refusedAs (plain 22)
+    pub full-answer : number ≡ moreFlags → said ≡ refusedAs (plain moreFlags)
     pub holds : number ≡ 0 → After (said .count)
     pub finds : number ≡ 0
         → Finds L first mask (tableAfter m L first mask table bytes) (bytesAfter m L first mask table bytes) said
-    pub holds-first : number ≡ 22 → After room
-    pub first-found : number ≡ 22 → (more : ℕ) → room ≤ more
+    pub holds-first : number ≡ moreFlags → After room
+    pub first-found : number ≡ moreFlags → (more : ℕ) → room ≤ more
         → rows (rank L + 1) (tableAfter m L first mask table bytes) room
         ≡ take room (foundBy L first mask more .found)
-    pub untouched : number ≢ 0 → number ≢ 22
+    pub untouched : number ≢ 0 → number ≢ moreFlags
         → (tableAfter m L first mask table bytes ≡ table) × (bytesAfter m L first mask table bytes ≡ bytes)

@@ -1,4 +1,4 @@
--- What a closed listing is, by the book and 01: four rules over a good shape.
+-- What a closed listing is: the book's rules, and ascending lists, over a good shape.
 --
 -- Closed   shaped, bounded, incident, every list strictly ascending, and the diamond up to the maximal element
 use Rattle.listing.specs.Listing.{Listing, Limits, rank}
