@@ -21,7 +21,7 @@ use Rattle.valid.proofs.BoundsExact.{bounded-exact}
 use Rattle.valid.proofs.ClosedExact.{valid-exact, closed-exact}
 use Rattle.flag.proofs.EventsTaken.{all-taken}
 use Rattle.flag.proofs.ChangeAnswers.{change-changes}
-use Rattle.promises.specs.Entries.{lent, flag, mask, tables}
+use Rattle.promises.specs.Entries.{lent, flag, asked, tables}
 use Rattle.promises.specs.Demands.{DemandTwo}
 use Rattle.promises.proofs.Searched.{found}
 
@@ -64,8 +64,8 @@ demand-two = record {
   dyadic-by-the-book = λ k a r x p D. rw p (dyadic-is (lent a) D);
   valid-by-the-book = λ k a r x p D. rw p (valid-is (lent a) D);
   closed-by-the-book = λ k a r x p. rw p (closed-exact limits (lent a));
-  change-by-the-book = λ k a r x p. rw p (change-changes limits (lent a) (flag a) (mask a));
+  change-by-the-book = λ k a r x p. rw p (change-changes limits (lent a) (flag a) (asked a));
   search-by-the-book = λ k a r x p. rw (p .0, p .1 .0, p .1 .1)
-      (found (lent a) (flag a) (mask a) (tables a .0) (tables a .1));
+      (found (lent a) (flag a) (asked a) (tables a .0) (tables a .1));
   events-in-order = all-taken;
 }

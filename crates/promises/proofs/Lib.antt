@@ -4,6 +4,7 @@ pub mod Numbers
 pub mod Refused
 pub mod Produced
 pub mod Searched
+pub mod Taking
 pub mod DemandOne
 pub mod DemandTwo
 pub mod DemandThree

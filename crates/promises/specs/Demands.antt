@@ -45,7 +45,8 @@ use Rattle.product.proofs.duopyramid.Reads as duopyramid
 use Rattle.product.proofs.duoprism.Reads as duoprism
 use Rattle.product.proofs.duotegum.Reads as duotegum
 use Rattle.product.proofs.duocomb.Reads as duocomb
-use Rattle.promises.specs.Entries.{Says, SaysOfTwo, Slice, Three, lent, right, outputs, flag, mask, tables}
+use Rattle.promises.specs.Entries.{Says, SaysOfTwo, Slice, Three, lent, right, outputs, flag, asked, tables}
+use Rattle.promises.specs.Taking.{TakesAny}
 use Rattle.promises.specs.Rules.{Rule, FirstBroken, countRules, shapeRules, boundedRules, incidentRules}
 use Rattle.promises.specs.Rules.{dyadicRules, validRules, closedRules, changeRules}
 use Rattle.promises.specs.Products.{prefix, Produces, Kept, Exchange}
@@ -71,6 +72,8 @@ module _ {K A X : Type 0} (min max : Bool)
       → Exchange min max (lent a) (right a) (lent c) (right c) (prefix (outputs x) r) (prefix (outputs y) s))
 
 pub record DemandOne : Type 0 where
+  -- every public function takes any slices and numbers
+  pub any-taken : TakesAny
   -- the rank is refused for an empty slice, and for nothing else
   pub rank-refuses : CountRefuses rank-count.Post
   -- so is the number of elements of a rank
@@ -93,10 +96,10 @@ pub record DemandOne : Type 0 where
   pub closed-refuses : Refuses closed.Post closedRules
   -- a change refuses as closed does, then with 20 and 21; where it is refused, the flag that it gives is all 0
   pub change-refuses : Says change.Post
-      (λ a r x. FirstBroken (changeRules limits (lent a) (flag a) (mask a)) (r .answer .no)
+      (λ a r x. FirstBroken (changeRules limits (lent a) (flag a) (asked a)) (r .answer .no)
       × (r .answer .no ≢ 0 → r .flag ≡ replicate 16 0))
   -- a search refuses as closed does, then with 20, 21 and 22; nothing is then written, but the first flags at 22
-  pub search-searches : Says search.Post (λ a r x. Searches (lent a) (flag a) (mask a) (tables a .0) (tables a .1) r
+  pub search-searches : Says search.Post (λ a r x. Searches (lent a) (flag a) (asked a) (tables a .0) (tables a .1) r
       (tables x .0) (tables x .1))
   -- the duopyramid refuses in the order 30 to 36 and then changes no number; else it writes its result, and no more
   pub duopyramid-produces : Makes false false duopyramid.Post
@@ -123,10 +126,10 @@ pub record DemandTwo : Type 0 where
   pub closed-by-the-book : Says closed.Post (λ a r x. r .no ≡ 0 ↔ Closed limits (lent a))
   -- a change puts in the other of exactly two elements: the only flag that differs there; the same change leads back
   pub change-by-the-book : Says change.Post (λ a r x. r .answer .no ≡ 0
-      → Changes (lent a) (flag a) (mask a) × (r .flag ≡ padded (changeAt (lent a) (mask a) (flag a))))
+      → Changes (lent a) (flag a) (asked a) × (r .flag ≡ padded (changeAt (lent a) (asked a) (flag a))))
   -- a search finds all flags that changes lead to, each once, counts them, and two-colours them where that can be done
   pub search-by-the-book : Says search.Post (λ a r x. r .answer .no ≡ 0
-      → Found (lent a) (flag a) (mask a) (tables a .0) (tables a .1) r (tables x .0) (tables x .1))
+      → Found (lent a) (flag a) (asked a) (tables a .0) (tables a .1) r (tables x .0) (tables x .1))
   -- a new cursor says the flags in order, NonOrientable after the first `place` of them, and Nothing from then on
   pub events-in-order : (count place n : ℕ)
       → taken 0 count place (events count place + n) ≡ eventsOf count place ++ replicate n Nothing

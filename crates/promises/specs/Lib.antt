@@ -1,4 +1,5 @@
 pub mod Entries
+pub mod Taking
 pub mod Rules
 pub mod Products
 pub mod Searches
