@@ -7,7 +7,9 @@
 use mathlib.Core.Path.{_≡_}
 use mathlib.Core.Logic.{_↔_}
 use Prim.Native.Nat.{_-_}
+use denote.Ref.{now}
 use Rattle.listing.specs.Listing.{Listing, limits, rank}
+use Rattle.listing.specs.Counts.{rankOf, elCountOf, vertexCountOf, facetCountOf}
 use Rattle.listing.specs.Shape.{Shaped}
 use Rattle.listing.proofs.Answers.{or-no, no-or}
 use Rattle.listing.proofs.ShapeExact.{shape-exact}
@@ -23,6 +25,7 @@ use Rattle.flag.proofs.EventsTaken.{all-taken}
 use Rattle.flag.proofs.ChangeAnswers.{change-changes}
 use Rattle.promises.specs.Entries.{lent, flag, asked, tables}
 use Rattle.promises.specs.Demands.{DemandTwo}
+use Rattle.promises.proofs.Counted.{counted-value, facets-counted}
 use Rattle.promises.proofs.Searched.{found}
 
 bounded-is : (L : Listing) → tests.bounded limits L .no ≡ 0 ↔ (Shaped limits L × Bounded L)
@@ -58,7 +61,13 @@ valid-is L D = (
 
 -- The whole of demand 2, a field for each promise.
 pub demand-two : DemandTwo
+unfolding rankOf elCountOf vertexCountOf facetCountOf
 demand-two = record {
+  rank-counts = λ k a r x p. rw p (counted-value (now (a .0)) _);
+  el-count-counts = λ k a r x p. rw p (counted-value (now (a .0)) _);
+  vertex-count-counts = λ k a r x p. rw p (counted-value (now (a .0)) _);
+  facet-count-counts = λ k a r x p. rw p (facets-counted (now (a .0)) .0);
+  nullitope-has-no-facets = λ k a r x p. rw p (facets-counted (now (a .0)) .1);
   bounded-by-the-book = λ k a r x p. rw p (bounded-is (lent a));
   incident-by-the-book = λ k a r x p. rw p (incident-is (lent a));
   dyadic-by-the-book = λ k a r x p D. rw p (dyadic-is (lent a) D);

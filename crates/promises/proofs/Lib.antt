@@ -2,6 +2,7 @@ pub mod OneAnswer
 pub mod Broken
 pub mod Numbers
 pub mod Refused
+pub mod Counted
 pub mod Produced
 pub mod Searched
 pub mod Taking

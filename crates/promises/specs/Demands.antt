@@ -3,6 +3,7 @@
 --
 -- CountRefuses  a count refuses with the number of the first rule that is broken, 0 if none is
 -- Refuses       the same of a test
+-- Counts        the value of a count is n of its arguments where it is answered, and 0 where it is refused
 -- Makes         a product, told by min and max, refuses and writes as Produces says
 -- Keeps         what it wrote, where it is answered, is as Kept says: closed if its factors are, and all the rest
 -- Swaps         two calls of it that are answered are as Exchange says
@@ -13,8 +14,8 @@ use mathlib.Core.Path.{_≡_}
 use mathlib.Core.Logic.{_≢_, _↔_}
 use mathlib.Core.Bool.{Bool, true, false}
 use mathlib.Core.List.{List, _++_}
-use Prim.Native.Nat.{ℕ, _+_, _-_}
-use lib.ListN.{replicate}
+use Prim.Native.Nat.{ℕ, _+_, _-_, _≤_}
+use lib.ListN.{length, getD, replicate}
 use denote.Ref.{now}
 use Rattle.listing.specs.declared.Answer.{Answer}
 use Rattle.listing.specs.declared.Number.{Number}
@@ -55,6 +56,9 @@ use Rattle.promises.specs.Searches.{Searches, Found}
 module _ {K A X : Type 0} where
   abbrev pub CountRefuses : (K → Slice × A → Number → X → Type 0) → Type 0
   CountRefuses P = Says P (λ a r x. FirstBroken (countRules (now (a .0))) (r .no))
+
+  abbrev pub Counts : (K → Slice × A → Number → X → Type 0) → (Slice × A → ℕ) → Type 0
+  Counts P n = Says P (λ a r x. (r .no ≡ 0 → r .value ≡ n a) × (r .no ≢ 0 → r .value ≡ 0))
 
   abbrev pub Refuses : (K → Three A → Answer → X → Type 0) → (Limits → Listing → List Rule) → Type 0
   Refuses P rules = Says P (λ a r x. FirstBroken (rules limits (lent a)) (r .no))
@@ -111,6 +115,17 @@ pub record DemandOne : Type 0 where
   pub duocomb-produces : Makes true true duocomb.Post
 
 pub record DemandTwo : Type 0 where
+  -- the rank is one less than the number of ranks
+  pub rank-counts : Counts rank-count.Post (λ a. length (now (a .0)) - 1)
+  -- the elements of a rank, 0 for a rank that is not there
+  pub el-count-counts : Counts el-count.Post (λ a. getD (now (a .0)) (a .1 .0) 0)
+  -- the vertices, which are the elements of rank 1
+  pub vertex-count-counts : Counts vertex-count.Post (λ a. getD (now (a .0)) 1 0)
+  -- the facets, which are the elements of the rank below the top
+  pub facet-count-counts : Says facet-count.Post (λ a r x. r .no ≡ 0 → 2 ≤ length (now (a .0))
+      → r .value ≡ getD (now (a .0)) (length (now (a .0)) - 2) 0)
+  -- the nullitope, which has one rank, has none, and 0 stands where there are no ranks
+  pub nullitope-has-no-facets : Says facet-count.Post (λ a r x. length (now (a .0)) ≤ 1 → r .value ≡ 0)
   -- bounded accepts what is laid out well and has one element at rank 0, and one at the top
   pub bounded-by-the-book : Says bounded.Post (λ a r x. r .no ≡ 0 ↔ (Shaped limits (lent a) × Bounded (lent a)))
   -- check_incidences: subs above rank 0, sups below the top, and each one listed exists and lists the element back
