@@ -17,6 +17,7 @@ use Rattle.flag.specs.Changed.{changeTest, changedOf}
 use Rattle.promises.specs.Entries.{lent, flag, asked, tables}
 use Rattle.promises.specs.Demands.{DemandOne}
 use Rattle.promises.proofs.Taking.{takes-any}
+use Rattle.promises.proofs.Cases.{class-of}
 use Rattle.promises.proofs.Refused.{counted-broken, shape-alone, bounded-broken, incident-broken, dyadic-broken}
 use Rattle.promises.proofs.Refused.{valid-broken, closed-broken, change-broken}
 use Rattle.promises.proofs.Produced.{produces}
@@ -41,6 +42,8 @@ demand-one = record {
   el-count-refuses = λ k a r x p. rw p (counted-broken (now (a .0)) _);
   vertex-count-refuses = λ k a r x p. rw p (counted-broken (now (a .0)) _);
   facet-count-refuses = λ k a r x p. rw p (counted-broken (now (a .0)) _);
+  class-by-bands = λ k a r x p. rw p (class-of (a .0));
+  class-by-number = λ k a r x p. p;
   shape-refuses = λ k a r x p. rw p (shape-alone limits (lent a));
   bounded-refuses = λ k a r x p. rw p (bounded-broken limits (lent a));
   incidences-refuse = λ k a r x p. rw p (incident-broken limits (lent a));

@@ -21,10 +21,11 @@ use Rattle.valid.specs.Bounds.{Bounded}
 use Rattle.valid.specs.Tests as tests
 use Rattle.valid.proofs.BoundsExact.{bounded-exact}
 use Rattle.valid.proofs.ClosedExact.{valid-exact, closed-exact}
-use Rattle.flag.proofs.EventsTaken.{all-taken}
 use Rattle.flag.proofs.ChangeAnswers.{change-changes}
 use Rattle.promises.specs.Entries.{lent, flag, asked, tables}
 use Rattle.promises.specs.Demands.{DemandTwo}
+use Rattle.promises.proofs.Cases.{byte-flipped, sign-of, byte-of}
+use Rattle.promises.proofs.Cases.{in-order, said-in-order, stays-past, said-stays-past}
 use Rattle.promises.proofs.Counted.{counted-value, facets-counted}
 use Rattle.promises.proofs.Searched.{found}
 
@@ -76,5 +77,13 @@ demand-two = record {
   change-by-the-book = λ k a r x p. rw p (change-changes limits (lent a) (flag a) (asked a));
   search-by-the-book = λ k a r x p. rw (p .0, p .1 .0, p .1 .1)
       (found (lent a) (flag a) (asked a) (tables a .0) (tables a .1));
-  events-in-order = all-taken;
+  flip-by-byte = λ k a r x p. rw p (byte-flipped (a .0));
+  sign-by-byte = λ k a r x p. rw p (sign-of (a .0));
+  byte-by-byte = λ k a r x p. p;
+  of-byte-by-byte = λ k a r x p. rw p (byte-of (a .0));
+  event-by-numbers = λ k a r x p. p;
+  events-in-order = in-order;
+  said-in-order = said-in-order;
+  nothing-past-the-last = stays-past;
+  nothing-said-past-the-last = said-stays-past;
 }

@@ -3,6 +3,7 @@ pub mod Broken
 pub mod Numbers
 pub mod Refused
 pub mod Counted
+pub mod Cases
 pub mod Produced
 pub mod Searched
 pub mod Taking

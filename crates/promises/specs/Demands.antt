@@ -1,5 +1,7 @@
 -- The three demands, each as one record with a field for each promise. A field speaks of an entry through `Post`, the
--- reading of its contract, and so of any slices that the entry is lent.
+-- reading of its contract, and so of any slices that the entry is lent. The four fields on the event cursor speak of
+-- `Stepped` and `SaidStep` instead, of which the contracts of next_event and fd_next_event consist: these two are lent a
+-- record, a form of which the prover makes no reading. An answer that is an enum is said by its number, as in Cases.
 --
 -- CountRefuses  a count refuses with the number of the first rule that is broken, 0 if none is
 -- Refuses       the same of a test
@@ -13,12 +15,13 @@
 use mathlib.Core.Path.{_≡_}
 use mathlib.Core.Logic.{_≢_, _↔_}
 use mathlib.Core.Bool.{Bool, true, false}
-use mathlib.Core.List.{List, _++_}
+use mathlib.Core.List.{List, _++_, map}
 use Prim.Native.Nat.{ℕ, _+_, _-_, _≤_}
 use lib.ListN.{length, getD, replicate}
 use denote.Ref.{now}
 use Rattle.listing.specs.declared.Answer.{Answer}
 use Rattle.listing.specs.declared.Number.{Number}
+use Rattle.listing.specs.Refusals.{bandNo}
 use Rattle.listing.specs.Listing.{Listing, Limits, limits, rank}
 use Rattle.listing.specs.Shape.{Shaped}
 use Rattle.matching.specs.Incidence.{Incident}
@@ -28,8 +31,13 @@ use Rattle.valid.specs.Ascent.{Ascends}
 use Rattle.valid.specs.Closed.{Closed}
 use Rattle.product.specs.declared.Built.{Built}
 use Rattle.changing.specs.Change.{Changes, changeAt, padded}
+use Rattle.flag.specs.declared.Event.{Event}
 use Rattle.flag.specs.declared.Event.the-variants.{Nothing}
-use Rattle.flag.specs.Events.{events, eventsOf, taken}
+use Rattle.flag.specs.declared.Said.{Said}
+use Rattle.flag.specs.Orientations.{byteOf}
+use Rattle.flag.specs.Events.{events, eventsOf, saidOf, Stepped, SaidStep}
+use Rattle.listing.proofs.class.Reads as class
+use Rattle.listing.proofs.band_number.Reads as band-number
 use Rattle.listing.proofs.rank.Reads as rank-count
 use Rattle.listing.proofs.el_count.Reads as el-count
 use Rattle.listing.proofs.vertex_count.Reads as vertex-count
@@ -41,6 +49,11 @@ use Rattle.valid.proofs.is_dyadic.Reads as is-dyadic
 use Rattle.valid.proofs.is_valid.Reads as is-valid
 use Rattle.valid.proofs.closed.Reads as closed
 use Rattle.flag.proofs.change.Reads as change
+use Rattle.flag.proofs.Orientation.flip.Reads as flip
+use Rattle.flag.proofs.Orientation.sign.Reads as sign
+use Rattle.flag.proofs.Orientation.byte.Reads as byte
+use Rattle.flag.proofs.Orientation.of_byte.Reads as of-byte
+use Rattle.flag.proofs.numbers.Reads as numbers
 use Rattle.search.proofs.search.Reads as search
 use Rattle.product.proofs.duopyramid.Reads as duopyramid
 use Rattle.product.proofs.duoprism.Reads as duoprism
@@ -48,6 +61,7 @@ use Rattle.product.proofs.duotegum.Reads as duotegum
 use Rattle.product.proofs.duocomb.Reads as duocomb
 use Rattle.promises.specs.Entries.{Says, SaysOfTwo, Slice, Three, lent, right, outputs, flag, asked, tables}
 use Rattle.promises.specs.Taking.{TakesAny}
+use Rattle.promises.specs.Cases.{ClassOf, SignOf, ByteOf, Calls}
 use Rattle.promises.specs.Rules.{Rule, FirstBroken, countRules, shapeRules, boundedRules, incidentRules}
 use Rattle.promises.specs.Rules.{dyadicRules, validRules, closedRules, changeRules}
 use Rattle.promises.specs.Products.{prefix, Produces, Kept, Exchange}
@@ -86,6 +100,10 @@ pub record DemandOne : Type 0 where
   pub vertex-count-refuses : CountRefuses vertex-count.Post
   -- so is the number of facets
   pub facet-count-refuses : CountRefuses facet-count.Post
+  -- a refusal's number has its class by bands: 1 to 9, 10 to 19, 20 to 29, 30 to 39, all else none
+  pub class-by-bands : Says class.Post (λ a r x. ClassOf (a .0) (bandNo r))
+  -- a class is told by that number
+  pub class-by-number : Says band-number.Post (λ a r x. r ≡ bandNo (a .0))
   -- the shape test refuses in the order 1 to 6
   pub shape-refuses : Refuses shape.Post shapeRules
   -- bounded refuses as the shape test does, then with 10
@@ -145,9 +163,29 @@ pub record DemandTwo : Type 0 where
   -- a search finds all flags that changes lead to, each once, counts them, and two-colours them where that can be done
   pub search-by-the-book : Says search.Post (λ a r x. r .answer .no ≡ 0
       → Found (lent a) (flag a) (asked a) (tables a .0) (tables a .1) r (tables x .0) (tables x .1))
+  -- the other orientation has the other byte
+  pub flip-by-byte : Says flip.Post (λ a r x. byteOf r ≡ 1 - byteOf (a .0))
+  -- the sign is 1.0 at byte 0 and -1.0 at byte 1
+  pub sign-by-byte : Says sign.Post (λ a r x. SignOf (byteOf (a .0)) r)
+  -- an orientation is told by its byte: 0 even, 1 odd
+  pub byte-by-byte : Says byte.Post (λ a r x. r ≡ byteOf (a .0))
+  -- byte 0 stands for the orientation of byte 0, and any other for that of byte 1
+  pub of-byte-by-byte : Says of-byte.Post (λ a r x. ByteOf (a .0) (byteOf r))
+  -- an event is told by two numbers: kind 0 nothing, 1 a flag, with its number, 2 not orientable
+  pub event-by-numbers : Says numbers.Post (λ a r x. r ≡ saidOf (a .0))
   -- a new cursor says the flags in order, NonOrientable after the first `place` of them, and Nothing from then on
-  pub events-in-order : (count place n : ℕ)
-      → taken 0 count place (events count place + n) ≡ eventsOf count place ++ replicate n Nothing
+  pub events-in-order : (count place n : ℕ) (l : List Event) → length l ≡ events count place + n
+      → Calls (λ at at′ e. Stepped at count place at′ e) 0 l → l ≡ eventsOf count place ++ replicate n Nothing
+  -- so in numbers
+  pub said-in-order : (count place n : ℕ) (l : List Said) → length l ≡ events count place + n
+      → Calls (λ at at′ s. SaidStep at count place at′ s) 0 l
+      → l ≡ map saidOf (eventsOf count place ++ replicate n Nothing)
+  -- at any place at or past the end of the events a cursor says Nothing and stays
+  pub nothing-past-the-last : (count place at at′ : ℕ) (e : Event) → events count place ≤ at
+      → Stepped at count place at′ e → (e ≡ Nothing) × (at′ ≡ at)
+  -- so in numbers
+  pub nothing-said-past-the-last : (count place at at′ : ℕ) (s : Said) → events count place ≤ at
+      → SaidStep at count place at′ s → (s ≡ saidOf Nothing) × (at′ ≡ at)
 
 pub record DemandThree : Type 0 where
   -- closed is is_valid, with lists that ascend and the diamond at the maximal element
