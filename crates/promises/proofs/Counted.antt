@@ -10,8 +10,8 @@ use lib.ListN.{length, getD}
 use Rattle.listing.specs.Counts.{counted, facets, facetCountOf}
 
 -- a count that is answered is the number asked for, and one that is refused is 0
-pub counted-value : (counts : List ℕ) (n : ℕ)
-    → (counted counts n .no ≡ 0 → counted counts n .value ≡ n) × (counted counts n .no ≢ 0 → counted counts n .value ≡ 0)
+pub counted-value : (counts : List ℕ) (n : ℕ) → (counted counts n .no ≡ 0 → counted counts n .value ≡ n)
+    × (counted counts n .no ≢ 0 → counted counts n .value ≡ 0)
 unfolding counted
 counted-value [] n = (λ e. absurd (omega arith), λ h. refl)
 counted-value (c ∷ counts) n =

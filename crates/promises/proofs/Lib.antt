@@ -10,5 +10,6 @@ pub mod Taking
 pub mod DemandOne
 pub mod DemandTwo
 pub mod DemandThree
+pub mod Boundary
 pub mod Starred
 pub mod Insurer

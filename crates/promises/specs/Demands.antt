@@ -1,7 +1,7 @@
 -- The three demands, each as one record with a field for each promise. A field speaks of an entry through `Post`, the
 -- reading of its contract, and so of any slices that the entry is lent. The four fields on the event cursor speak of
--- `Stepped` and `SaidStep` instead, of which the contracts of next_event and fd_next_event consist: these two are lent a
--- record, a form of which the prover makes no reading. An answer that is an enum is said by its number, as in Cases.
+-- `Stepped` and `SaidStep` instead, of which the contracts of next_event and fd_next_event consist: these two are lent
+-- a record, a form of which the prover makes no reading. An answer that is an enum is said by its number, as in Cases.
 --
 -- CountRefuses  a count refuses with the number of the first rule that is broken, 0 if none is
 -- Refuses       the same of a test

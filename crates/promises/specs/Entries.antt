@@ -7,6 +7,7 @@
 -- OneAnswer   two answers that the contract admits for the same arguments are equal
 -- OneOutcome  and so is what is left of the parameters that are lent to be written
 -- SaysOfTwo   whatever two contracts admit has a property of both calls
+-- PassesOn    whatever one contract admits another admits too, for the same arguments
 -- Slice       a lent slice of numbers
 -- Three       three slices, and the parameters after them
 -- lent        the listing in the first three parameters
@@ -39,6 +40,10 @@ module _ {K A B X : Type 0} (P : K → A → B → X → Type 0) {L C D Y : Type
   abbrev pub SaysOfTwo : (A → B → X → C → D → Y → Type 0) → Type 0
   SaysOfTwo R =
       (k : K) (l : L) (a : A) (c : C) (b : B) (d : D) (x : X) (y : Y) → P k a b x → Q l c d y → R a b x c d y
+
+module _ {K A B X : Type 0} (P Q : K → A → B → X → Type 0) where
+  abbrev pub PassesOn : Type 0
+  PassesOn = (k : K) (a : A) (b : B) (x : X) → P k a b x → Q k a b x
 
 abbrev pub Slice : Type 0
 Slice = RefT (List ℕ)

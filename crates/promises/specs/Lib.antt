@@ -5,4 +5,5 @@ pub mod Rules
 pub mod Products
 pub mod Searches
 pub mod Demands
+pub mod Boundary
 pub mod Starred
