@@ -28,13 +28,13 @@ use Rattle.promises.proofs.Starred.{starred}
 -- what stands in a row of the table for is_valid and for closed
 abbrev validIn : Row → Answer
 validIn (tested L v c) = v
-validIn (built min max A B R v c) = v
+validIn (built min max A B a R v c) = v
 validIn (refused min max A B a) = a
 validIn (changed L f r c) = c .answer
 
 abbrev closedIn : Row → Answer
 closedIn (tested L v c) = c
-closedIn (built min max A B R v c) = c
+closedIn (built min max A B a R v c) = c
 closedIn (refused min max A B a) = a
 closedIn (changed L f r c) = c .answer
 
