@@ -1,5 +1,6 @@
--- Demand 2, the part that is proved: the tests accept exactly what the book asks. That the answers equal those of the
--- Rust is shown by running both (docs/COMPARISON.md).
+-- Demand 2, the part that is proved: the tests accept exactly what the book asks; what the counts, a change, a search
+-- and an orientation give; and the events of a search in their order. That the answers equal those of the Rust is shown
+-- by running both (docs/COMPARISON.md).
 --
 -- The book counts elements, the Rust occurrences: where a list holds an index twice the two differ, and is_dyadic and
 -- is_valid go with the Rust. Closed refuses such lists.

@@ -7,10 +7,12 @@
 -- Refuses       the same of a test
 -- Counts        the value of a count is n of its arguments where it is answered, and 0 where it is refused
 -- Makes         a product, told by min and max, refuses and writes as Produces says
--- Keeps         what it wrote, where it is answered, is as Kept says: closed if its factors are, and all the rest
+-- Keeps         what it wrote, where it is answered, is as Kept says: closed where its factors are closed and high
+--               enough; made of the pairs, a pair directly under another exactly if one member is equal and the other
+--               directly under; with the ends added
 -- Swaps         two calls of it that are answered are as Exchange says
 -- DemandOne     any slices are answered: which refusal comes exactly when, and what is written
--- DemandTwo     the tests accept, and the changes and searches give, exactly what the book asks
+-- DemandTwo     the tests accept exactly what the book asks; what counts, changes, searches and events answer
 -- DemandThree   what the four products keep, said of the slices that were written, up to the lengths answered
 use mathlib.Core.Path.{_≡_}
 use mathlib.Core.Logic.{_≢_, _↔_}
@@ -160,7 +162,8 @@ pub record DemandTwo : Type 0 where
   -- a change puts in the other of exactly two elements: the only flag that differs there; the same change leads back
   pub change-by-the-book : Says change.Post (λ a r x. r .answer .no ≡ 0
       → Changes (lent a) (flag a) (asked a) × (r .flag ≡ padded (changeAt (lent a) (asked a) (flag a))))
-  -- a search finds all flags that changes lead to, each once, counts them, and two-colours them where that can be done
+  -- a search finds all flags that changes lead to, each once and in the order found, counts them, two-colours them
+  -- where that can be done, and where not says the place of the event
   pub search-by-the-book : Says search.Post (λ a r x. r .answer .no ≡ 0
       → Found (lent a) (flag a) (asked a) (tables a .0) (tables a .1) r (tables x .0) (tables x .1))
   -- the other orientation has the other byte

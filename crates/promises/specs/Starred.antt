@@ -7,8 +7,8 @@
 -- leakingBox    the insurer's cell: a box whose edge 0 is doubled as edge 12, each of the two in one face
 -- Row           a row of the table: what is tried, and what is answered
 -- tested        a listing; what is_valid answers, what closed answers
--- built         a product of two listings with just the room that it takes; what it answers, the listing that it is, and
---               what the two tests answer of that
+-- built         a product of two listings, with just the room that it takes; what it answers, the listing that it is,
+--               and what the two tests answer of that
 -- refused       a product without any room; what it answers
 -- changed       a listing, a flag and a rank; what the change answers
 -- to            a change that is answered with a flag
