@@ -11,5 +11,6 @@ pub mod DemandOne
 pub mod DemandTwo
 pub mod DemandThree
 pub mod Boundary
+pub mod Cursor
 pub mod Starred
 pub mod Insurer

@@ -1,7 +1,8 @@
 -- The three demands, each as one record with a field for each promise. A field speaks of an entry through `Post`, the
 -- reading of its contract, and so of any slices that the entry is lent. The four fields on the event cursor speak of
 -- `Stepped` and `SaidStep` instead, of which the contracts of next_event and fd_next_event consist: these two are lent
--- a record, a form of which the prover makes no reading. An answer that is an enum is said by its number, as in Cases.
+-- a record, a form of which the prover makes no reading (proofs/Cursor.antt ties them to the contracts). An answer that
+-- is an enum is said by the number or values of its case (Cases.antt); the events are said both ways.
 --
 -- CountRefuses  a count refuses with the number of the first rule that is broken, 0 if none is
 -- Refuses       the same of a test
@@ -92,7 +93,7 @@ module _ {K A X : Type 0} (min max : Bool)
       → Exchange min max (lent a) (right a) (lent c) (right c) (prefix (outputs x) r) (prefix (outputs y) s))
 
 pub record DemandOne : Type 0 where
-  -- every public function takes any slices and numbers
+  -- every public function takes any slices and numbers (of next_event and fd_next_event it stands in Cursor.antt)
   pub any-taken : TakesAny
   -- the rank is refused for an empty slice, and for nothing else
   pub rank-refuses : CountRefuses rank-count.Post

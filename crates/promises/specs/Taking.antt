@@ -1,6 +1,6 @@
 -- Any slices and numbers are taken: no public function asks anything of its caller. R.Asked is the reading of what the
 -- contract in the source asks, so a `requires` on one of them would break its field here. next_event and fd_next_event
--- are left out: they are lent a record, a form of which the prover makes no reading.
+-- are lent a record, a form of which the prover makes no reading: of them the same stands in proofs/Cursor.antt.
 --
 -- TakesAny  every public function takes any arguments, a field for each crate
 use Rattle.listing.proofs.class.Reads as class
