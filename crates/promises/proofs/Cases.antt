@@ -17,7 +17,7 @@ use Rattle.flag.specs.declared.Said.{Said}
 use Rattle.flag.specs.Orientations.{byteOf, ofByte, flipOf, signOf}
 use Rattle.flag.specs.Events.{events, nextAt, eventsOf, taken, saidOf, Stepped, SaidStep}
 use Rattle.flag.proofs.EventsTaken.{all-taken, past-last}
-use Rattle.promises.specs.Cases.{ClassOf, SignOf, ByteOf, Calls}
+use Rattle.promises.specs.Cases.{ClassOf, SignAt, ByteFor, Calls}
 
 pub class-of : (n : ℕ) → ClassOf n (bandNo (band n))
 unfolding bandNo
@@ -36,12 +36,12 @@ unfolding byteOf flipOf
 byte-flipped Even = refl
 byte-flipped Odd = refl
 
-pub sign-of : (o : Orientation) → SignOf (byteOf o) (signOf o)
+pub sign-of : (o : Orientation) → SignAt (byteOf o) (signOf o)
 unfolding byteOf signOf
 sign-of Even = record { even = λ e. refl; odd = λ e. absurd (omega arith) }
 sign-of Odd = record { even = λ e. absurd (omega arith); odd = λ e. refl }
 
-pub byte-of : (b : ℕ) → ByteOf b (byteOf (ofByte b))
+pub byte-of : (b : ℕ) → ByteFor b (byteOf (ofByte b))
 unfolding byteOf ofByte
 byte-of b = record { even = λ e. rw (eq-eqb b 0 e); odd = λ h. rw (ne-eqb b 0 h) }
 

@@ -2,8 +2,8 @@
 -- `byteOf` of an orientation, `saidOf` of an event.
 --
 -- ClassOf  c is the number of the class of a refusal n: 1 shape, 2 structure, 3 flags, 4 products, 0 none
--- SignOf   x is the sign that goes with the byte b: 1.0 with 0, -1.0 with 1
--- ByteOf   c is the byte of the orientation that a byte b stands for: 0 for 0, 1 for any other
+-- SignAt   x is the sign that goes with the byte b: 1.0 with 0, -1.0 with 1
+-- ByteFor  c is the byte of the orientation that a byte b stands for: 0 for 0, 1 for any other
 -- Calls    the calls of a cursor one after another, each from the place where the one before left it, answer l; step
 --          says what one call answers and where it leaves the cursor
 use mathlib.Core.Path.{_≡_}
@@ -20,11 +20,11 @@ pub record ClassOf (n c : ℕ) : Type 0 where
   pub products : 30 ≤ n → n ≤ 39 → c ≡ 4
   pub none : (n ≡ 0) ⊎ (39 < n) → c ≡ 0
 
-pub record SignOf (b : ℕ) (x : Float) : Type 0 where
+pub record SignAt (b : ℕ) (x : Float) : Type 0 where
   pub even : b ≡ 0 → x ≡ ofInt binary64 (pos 1)
   pub odd : b ≡ 1 → x ≡ ofInt binary64 (negℤ (pos 1))
 
-pub record ByteOf (b c : ℕ) : Type 0 where
+pub record ByteFor (b c : ℕ) : Type 0 where
   pub even : b ≡ 0 → c ≡ 0
   pub odd : b ≢ 0 → c ≡ 1
 

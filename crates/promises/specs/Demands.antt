@@ -64,7 +64,7 @@ use Rattle.product.proofs.duotegum.Reads as duotegum
 use Rattle.product.proofs.duocomb.Reads as duocomb
 use Rattle.promises.specs.Entries.{Says, SaysOfTwo, Slice, Three, lent, right, outputs, flag, asked, tables}
 use Rattle.promises.specs.Taking.{TakesAny}
-use Rattle.promises.specs.Cases.{ClassOf, SignOf, ByteOf, Calls}
+use Rattle.promises.specs.Cases.{ClassOf, SignAt, ByteFor, Calls}
 use Rattle.promises.specs.Rules.{Rule, FirstBroken, countRules, shapeRules, boundedRules, incidentRules}
 use Rattle.promises.specs.Rules.{dyadicRules, validRules, closedRules, changeRules}
 use Rattle.promises.specs.Products.{prefix, Produces, Kept, Exchange}
@@ -170,11 +170,11 @@ pub record DemandTwo : Type 0 where
   -- the other orientation has the other byte
   pub flip-by-byte : Says flip.Post (λ a r x. byteOf r ≡ 1 - byteOf (a .0))
   -- the sign is 1.0 at byte 0 and -1.0 at byte 1
-  pub sign-by-byte : Says sign.Post (λ a r x. SignOf (byteOf (a .0)) r)
+  pub sign-by-byte : Says sign.Post (λ a r x. SignAt (byteOf (a .0)) r)
   -- an orientation is told by its byte: 0 even, 1 odd
   pub byte-by-byte : Says byte.Post (λ a r x. r ≡ byteOf (a .0))
   -- byte 0 stands for the orientation of byte 0, and any other for that of byte 1
-  pub of-byte-by-byte : Says of-byte.Post (λ a r x. ByteOf (a .0) (byteOf r))
+  pub of-byte-by-byte : Says of-byte.Post (λ a r x. ByteFor (a .0) (byteOf r))
   -- an event is told by two numbers: kind 0 nothing, 1 a flag, with its number, 2 not orientable
   pub event-by-numbers : Says numbers.Post (λ a r x. r ≡ saidOf (a .0))
   -- a new cursor says the flags in order, NonOrientable after the first `place` of them, and Nothing from then on
