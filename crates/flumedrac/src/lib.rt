@@ -158,7 +158,8 @@ pub extern "C" fn fd_duopyramid(
     ends: &mut [u16],
     inc: &mut [u16],
 ) -> Built
-    ensures { λ a. ⌜ Outcome false false (listing (now (pcounts .entry)) (now (pends .entry)) (now (pinc .entry)))
+    ensures { λ a. ⌜ Outcome limits false false
+        (listing (now (pcounts .entry)) (now (pends .entry)) (now (pinc .entry)))
         (listing (now (qcounts .entry)) (now (qends .entry)) (now (qinc .entry)))
         (now (counts .entry)) (now (ends .entry)) (now (inc .entry)) (now (counts .exit)) (now (ends .exit))
         (now (inc .exit)) a ⌝ }
@@ -188,7 +189,8 @@ pub extern "C" fn fd_duoprism(
     ends: &mut [u16],
     inc: &mut [u16],
 ) -> Built
-    ensures { λ a. ⌜ Outcome true false (listing (now (pcounts .entry)) (now (pends .entry)) (now (pinc .entry)))
+    ensures { λ a. ⌜ Outcome limits true false
+        (listing (now (pcounts .entry)) (now (pends .entry)) (now (pinc .entry)))
         (listing (now (qcounts .entry)) (now (qends .entry)) (now (qinc .entry)))
         (now (counts .entry)) (now (ends .entry)) (now (inc .entry)) (now (counts .exit)) (now (ends .exit))
         (now (inc .exit)) a ⌝ }
@@ -218,7 +220,8 @@ pub extern "C" fn fd_duotegum(
     ends: &mut [u16],
     inc: &mut [u16],
 ) -> Built
-    ensures { λ a. ⌜ Outcome false true (listing (now (pcounts .entry)) (now (pends .entry)) (now (pinc .entry)))
+    ensures { λ a. ⌜ Outcome limits false true
+        (listing (now (pcounts .entry)) (now (pends .entry)) (now (pinc .entry)))
         (listing (now (qcounts .entry)) (now (qends .entry)) (now (qinc .entry)))
         (now (counts .entry)) (now (ends .entry)) (now (inc .entry)) (now (counts .exit)) (now (ends .exit))
         (now (inc .exit)) a ⌝ }
@@ -248,7 +251,8 @@ pub extern "C" fn fd_duocomb(
     ends: &mut [u16],
     inc: &mut [u16],
 ) -> Built
-    ensures { λ a. ⌜ Outcome true true (listing (now (pcounts .entry)) (now (pends .entry)) (now (pinc .entry)))
+    ensures { λ a. ⌜ Outcome limits true true
+        (listing (now (pcounts .entry)) (now (pends .entry)) (now (pinc .entry)))
         (listing (now (qcounts .entry)) (now (qends .entry)) (now (qinc .entry)))
         (now (counts .entry)) (now (ends .entry)) (now (inc .entry)) (now (counts .exit)) (now (ends .exit))
         (now (inc .exit)) a ⌝ }

@@ -55,7 +55,7 @@ result-shaped min max A B vA vB p = go (nullCase min max A B) refl
         (pairs-shaped min max (first min A B) (second min A B) (s .0) (s .1) q)
 
 module _ (min max : Bool) (A B : Listing) (counts ends inc counts′ ends′ inc′ : List ℕ) (r : Built)
-    (o : Outcome min max A B counts ends inc counts′ ends′ inc′ r) where
+    (o : Outcome limits min max A B counts ends inc counts′ ends′ inc′ r) where
   abbrev R : Listing
   R = resultOf min max A B
 

@@ -102,7 +102,7 @@ module _ (min max : Bool) (A B : Listing) (counts ends inc counts′ ends′ inc
 module _ (min max : Bool) (A B : Listing) (counts ends inc counts′ ends′ inc′ : List ℕ) (r : Built) where
   pub made-outcome : (t : Answer) → t ≡ productTest limits min max A B (length counts) (length ends) (length inc)
       → Made t (resultOf min max A B) counts ends inc counts′ ends′ inc′ r
-      → Outcome min max A B counts ends inc counts′ ends′ inc′ r
+      → Outcome limits min max A B counts ends inc counts′ ends′ inc′ r
   made-outcome t e d =
       let a = answer-is t (resultOf min max A B) r (d .answer) in
       record {

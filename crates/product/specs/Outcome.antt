@@ -1,5 +1,5 @@
 -- What the four products answer and write. min and max tell the product: duopyramid neither, duoprism min, duotegum
--- max, duocomb both. A is the left factor, B the right one.
+-- max, duocomb both. m are the limits, A is the left factor, B the right one.
 --
 -- productTest   the refusals in their order: 30, 31, 32, then those of size
 -- builtOf       the answer with the three lengths written; 0 where it is refused
@@ -15,7 +15,7 @@ use lib.ListN.{length, drop}
 use Rattle.listing.specs.declared.Answer.{Answer}
 use Rattle.listing.specs.Refusals.{leftInvalid, rightInvalid, combOfPoint}
 use Rattle.listing.specs.Answers.{plain, ifZero, on, _orElse_}
-use Rattle.listing.specs.Listing.{Listing, Limits, limits}
+use Rattle.listing.specs.Listing.{Listing, Limits}
 use Rattle.valid.specs.Tests.{isValid}
 use Rattle.closure.specs.Result.{combCase, resultOf}
 use Rattle.sizing.specs.Sizing.{sizeTest}
@@ -37,9 +37,9 @@ builtOf a R =
 unfoldable pub after : Answer → List ℕ → List ℕ → List ℕ
 after a new old = ifZero (a .no) (new ++ drop (length new) old) old
 
-pub record Outcome (min max : Bool) (A B : Listing) (counts ends inc counts′ ends′ inc′ : List ℕ) (r : Built)
-    : Type 0 where
-  pub answer : r ≡ builtOf (productTest limits min max A B (length counts) (length ends) (length inc))
+pub record Outcome (m : Limits) (min max : Bool) (A B : Listing) (counts ends inc counts′ ends′ inc′ : List ℕ)
+    (r : Built) : Type 0 where
+  pub answer : r ≡ builtOf (productTest m min max A B (length counts) (length ends) (length inc))
       (resultOf min max A B)
   pub counts-after : counts′ ≡ after (r .answer) (resultOf min max A B .counts) counts
   pub ends-after : ends′ ≡ after (r .answer) (resultOf min max A B .ends) ends

@@ -3,7 +3,7 @@ mod factors;
 pub mod make;
 
 use listing::Answer;
-ghost use Rattle.listing.specs.Listing.{listing};
+ghost use Rattle.listing.specs.Listing.{listing, limits};
 ghost use mathlib.Core.Bool.{true, false};
 ghost use Rattle.product.specs.Outcome.{Outcome};
 
@@ -28,7 +28,8 @@ pub fn duopyramid(
     ends: &mut [u16],
     inc: &mut [u16],
 ) -> Built
-    ensures { λ r. ⌜ Outcome false false (listing (now (pcounts .entry)) (now (pends .entry)) (now (pinc .entry)))
+    ensures { λ r. ⌜ Outcome limits false false
+        (listing (now (pcounts .entry)) (now (pends .entry)) (now (pinc .entry)))
         (listing (now (qcounts .entry)) (now (qends .entry)) (now (qinc .entry)))
         (now (counts .entry)) (now (ends .entry)) (now (inc .entry)) (now (counts .exit)) (now (ends .exit))
         (now (inc .exit)) r ⌝ }
@@ -60,7 +61,8 @@ pub fn duoprism(
     ends: &mut [u16],
     inc: &mut [u16],
 ) -> Built
-    ensures { λ r. ⌜ Outcome true false (listing (now (pcounts .entry)) (now (pends .entry)) (now (pinc .entry)))
+    ensures { λ r. ⌜ Outcome limits true false
+        (listing (now (pcounts .entry)) (now (pends .entry)) (now (pinc .entry)))
         (listing (now (qcounts .entry)) (now (qends .entry)) (now (qinc .entry)))
         (now (counts .entry)) (now (ends .entry)) (now (inc .entry)) (now (counts .exit)) (now (ends .exit))
         (now (inc .exit)) r ⌝ }
@@ -92,7 +94,8 @@ pub fn duotegum(
     ends: &mut [u16],
     inc: &mut [u16],
 ) -> Built
-    ensures { λ r. ⌜ Outcome false true (listing (now (pcounts .entry)) (now (pends .entry)) (now (pinc .entry)))
+    ensures { λ r. ⌜ Outcome limits false true
+        (listing (now (pcounts .entry)) (now (pends .entry)) (now (pinc .entry)))
         (listing (now (qcounts .entry)) (now (qends .entry)) (now (qinc .entry)))
         (now (counts .entry)) (now (ends .entry)) (now (inc .entry)) (now (counts .exit)) (now (ends .exit))
         (now (inc .exit)) r ⌝ }
@@ -124,7 +127,8 @@ pub fn duocomb(
     ends: &mut [u16],
     inc: &mut [u16],
 ) -> Built
-    ensures { λ r. ⌜ Outcome true true (listing (now (pcounts .entry)) (now (pends .entry)) (now (pinc .entry)))
+    ensures { λ r. ⌜ Outcome limits true true
+        (listing (now (pcounts .entry)) (now (pends .entry)) (now (pinc .entry)))
         (listing (now (qcounts .entry)) (now (qends .entry)) (now (qinc .entry)))
         (now (counts .entry)) (now (ends .entry)) (now (inc .entry)) (now (counts .exit)) (now (ends .exit))
         (now (inc .exit)) r ⌝ }

@@ -235,7 +235,8 @@ pub fn make(
     ends: &mut [u16],
     inc: &mut [u16],
 ) -> Built
-    ensures { λ r. ⌜ Outcome min max (listing (now (pcounts .entry)) (now (pends .entry)) (now (pinc .entry)))
+    ensures { λ r. ⌜ Outcome limits min max
+        (listing (now (pcounts .entry)) (now (pends .entry)) (now (pinc .entry)))
         (listing (now (qcounts .entry)) (now (qends .entry)) (now (qinc .entry)))
         (now (counts .entry)) (now (ends .entry)) (now (inc .entry)) (now (counts .exit)) (now (ends .exit))
         (now (inc .exit)) r ⌝ }

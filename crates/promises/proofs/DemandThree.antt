@@ -1,7 +1,7 @@
 -- Demand 3. What the four products keep, each said of the slices that the entry wrote, up to the lengths that it
--- answered: of closed factors a closed product; tests 1 and 2 always pass; elements match the pairs in use one to one;
--- a pair is directly under another exactly when one member is equal and the other directly under; added ends lie under
--- or over just the outermost pairs; exchanging the factors only swaps the pairs.
+-- answered: it is closed where its factors are closed and high enough; tests 1 and 2 always pass; elements match the
+-- pairs in use one to one; a pair is directly under another exactly if one member is equal and the other directly
+-- under; added ends lie under or over just the outermost pairs; exchanging the factors only swaps the pairs.
 -- Assumes nothing.
 use mathlib.Core.Bool.{true, false}
 use Rattle.listing.specs.Listing.{limits}

@@ -28,13 +28,13 @@ use Rattle.promises.proofs.Starred.{starred}
 -- what stands in a row of the table for is_valid and for closed
 abbrev validIn : Row → Answer
 validIn (tested L v c) = v
-validIn (built min max A B R v c) = v
+validIn (built min max A B a R v c) = v
 validIn (refused min max A B a) = a
 validIn (changed L f r c) = c .answer
 
 abbrev closedIn : Row → Answer
 closedIn (tested L v c) = c
-closedIn (built min max A B R v c) = c
+closedIn (built min max A B a R v c) = c
 closedIn (refused min max A B a) = a
 closedIn (changed L f r c) = c .answer
 
@@ -61,8 +61,9 @@ separating-rule m L v a = (
 -- Yes. Of two factors that the closed test accepts, high enough, whatever one of the four products has written, where
 -- it answered, the closed test accepts too. All four contracts are Outcome at their two flags.
 pub rule-survives : (min max : Bool) {A B : Listing} {c e i c′ e′ i′ : List ℕ} {r : Built}
-    → Outcome min max A B c e i c′ e′ i′ r → r .answer .no ≡ 0 → closed limits A .no ≡ 0 → closed limits B .no ≡ 0
-    → HighEnough min max (rank A) (rank B) → closed limits (prefix (listing c′ e′ i′) r) .no ≡ 0
+    → Outcome limits min max A B c e i c′ e′ i′ r → r .answer .no ≡ 0
+    → closed limits A .no ≡ 0 → closed limits B .no ≡ 0 → HighEnough min max (rank A) (rank B)
+    → closed limits (prefix (listing c′ e′ i′) r) .no ≡ 0
 rule-survives min max {A} {B} o z a b h =
     closed-exact limits _ .1
     (outcome-kept min max o z .closed (closed-exact limits A .0 a) (closed-exact limits B .0 b) h)

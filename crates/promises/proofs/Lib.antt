@@ -2,10 +2,15 @@ pub mod OneAnswer
 pub mod Broken
 pub mod Numbers
 pub mod Refused
+pub mod Counted
+pub mod Cases
 pub mod Produced
 pub mod Searched
+pub mod Taking
 pub mod DemandOne
 pub mod DemandTwo
 pub mod DemandThree
+pub mod Boundary
+pub mod Cursor
 pub mod Starred
 pub mod Insurer

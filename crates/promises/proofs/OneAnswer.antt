@@ -7,7 +7,7 @@ use mathlib.Core.Path.{_≡_, sym, ap, _∙_}
 use mathlib.Core.Bool.{Bool, true, false}
 use mathlib.Core.List.{List}
 use Prim.Native.Nat.{ℕ}
-use Rattle.listing.specs.Listing.{Listing, listing}
+use Rattle.listing.specs.Listing.{Listing, listing, limits}
 use Rattle.product.specs.declared.Built.{Built}
 use Rattle.closure.specs.Result.{resultOf}
 use Rattle.product.specs.Outcome.{after, Outcome}
@@ -71,7 +71,7 @@ same-search p s t q u v = (alike p q, λ i. (alike s u i, alike t v i))
 
 -- an answer and three output slices
 module _ (min max : Bool) {A B : Listing} {counts ends inc c e i d f j : List ℕ} {r s : Built} where
-  same-outcome : Outcome min max A B counts ends inc c e i r → Outcome min max A B counts ends inc d f j s
+  same-outcome : Outcome limits min max A B counts ends inc c e i r → Outcome limits min max A B counts ends inc d f j s
       → (r ≡ s) × (listing c e i ≡ listing d f j)
   same-outcome p q =
       let R = resultOf min max A B in

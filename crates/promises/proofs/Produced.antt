@@ -23,7 +23,7 @@ use Rattle.promises.specs.Products.{roomRules, prefix, Untouched, Writte
 use Rattle.promises.proofs.Refused.{product-broken}
 
 module _ (min max : Bool) {A B : Listing} {counts ends inc counts′ ends′ inc′ : List ℕ} {r : Built}
-    (o : Outcome min max A B counts ends inc counts′ ends′ inc′ r) where
+    (o : Outcome limits min max A B counts ends inc counts′ ends′ inc′ r) where
   abbrev old : Listing
   old = listing counts ends inc
 
@@ -93,7 +93,7 @@ module _ (min max : Bool) {A B : Listing} {counts ends inc counts′ ends′ inc
 
 -- What a product answers, and what it leaves in the output slices.
 pub produces : (min max : Bool) {A B : Listing} {c e i c′ e′ i′ : List ℕ} {r : Built}
-    → Outcome min max A B c e i c′ e′ i′ r → Produces min max A B (listing c e i) (listing c′ e′ i′) r
+    → Outcome limits min max A B c e i c′ e′ i′ r → Produces min max A B (listing c e i) (listing c′ e′ i′) r
 produces min max o = record {
   refusals = outcome-refusals min max o;
   untouched = outcome-untouched min max o;
@@ -102,7 +102,7 @@ produces min max o = record {
 
 -- Exchanging the factors only swaps the pairs.
 pub outcomes-swapped : (min max : Bool) {A B C D : Listing} {c e i c′ e′ i′ d f j d′ f′ j′ : List ℕ} {r s : Built}
-    → Outcome min max A B c e i c′ e′ i′ r → Outcome min max C D d f j d′ f′ j′ s
+    → Outcome limits min max A B c e i c′ e′ i′ r → Outcome limits min max C D d f j d′ f′ j′ s
     → r .answer .no ≡ 0 → s .answer .no ≡ 0
     → Exchange min max A B C D (prefix (listing c′ e′ i′) r) (prefix (listing d′ f′ j′) s)
 outcomes-swapped min max {A} {B} o p y z =

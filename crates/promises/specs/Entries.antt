@@ -2,23 +2,29 @@
 -- source. P k a b x says that the contract admits the answer b and the parameters x at exit for the arguments a; k are
 -- the lifetimes.
 --
+-- Takes       the contract asks nothing: R k a, the reading of what it asks of a caller, holds for any arguments
 -- Says        whatever the contract admits has a property of arguments, answer and exit
 -- OneAnswer   two answers that the contract admits for the same arguments are equal
 -- OneOutcome  and so is what is left of the parameters that are lent to be written
 -- SaysOfTwo   whatever two contracts admit has a property of both calls
+-- PassesOn    whatever one contract admits another admits too, for the same arguments
 -- Slice       a lent slice of numbers
 -- Three       three slices, and the parameters after them
 -- lent        the listing in the first three parameters
 -- right       the right factor of a product, in the next three; the left one is in the first three
 -- outputs     the three output slices of a product
 -- flag        the flag of a change or a search, in the fourth parameter
--- mask        the number after it: the rank of a change, the mask of a search
+-- asked       the number after it, which says what is asked: the rank of a change, the mask of a search
 -- tables      the table and the orientations of a search
 use mathlib.Core.Path.{_≡_}
 use mathlib.Core.List.{List}
 use Prim.Native.Nat.{ℕ}
 use denote.Ref.{RefT, now}
 use Rattle.listing.specs.Listing.{Listing, listing}
+
+module _ {K A : Type 0} (R : K → A → Type 0) where
+  abbrev pub Takes : Type 0
+  Takes = (k : K) (a : A) → R k a
 
 module _ {K A B X : Type 0} (P : K → A → B → X → Type 0) where
   abbrev pub Says : (A → B → X → Type 0) → Type 0
@@ -34,6 +40,10 @@ module _ {K A B X : Type 0} (P : K → A → B → X → Type 0) {L C D Y : Type
   abbrev pub SaysOfTwo : (A → B → X → C → D → Y → Type 0) → Type 0
   SaysOfTwo R =
       (k : K) (l : L) (a : A) (c : C) (b : B) (d : D) (x : X) (y : Y) → P k a b x → Q l c d y → R a b x c d y
+
+module _ {K A B X : Type 0} (P Q : K → A → B → X → Type 0) where
+  abbrev pub PassesOn : Type 0
+  PassesOn = (k : K) (a : A) (b : B) (x : X) → P k a b x → Q k a b x
 
 abbrev pub Slice : Type 0
 Slice = RefT (List ℕ)
@@ -54,8 +64,8 @@ module _ {A : Type 0} where
   abbrev pub flag : Three (Slice × A) → List ℕ
   flag a = now (a .1 .1 .1 .0)
 
-  abbrev pub mask : Three (Slice × (ℕ × A)) → ℕ
-  mask a = a .1 .1 .1 .1 .0
+  abbrev pub asked : Three (Slice × (ℕ × A)) → ℕ
+  asked a = a .1 .1 .1 .1 .0
 
   abbrev pub tables : Three (Slice × (ℕ × (Slice × (Slice × A)))) → List ℕ × List ℕ
   tables a = (now (a .1 .1 .1 .1 .1 .0), now (a .1 .1 .1 .1 .1 .1 .0))

@@ -1,6 +1,9 @@
 pub mod Entries
+pub mod Taking
+pub mod Cases
 pub mod Rules
 pub mod Products
 pub mod Searches
 pub mod Demands
+pub mod Boundary
 pub mod Starred

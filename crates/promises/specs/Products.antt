@@ -5,8 +5,9 @@
 -- prefix     what the product wrote: the output slices up to the lengths that it answered
 -- Untouched  a refused product has changed no number, and says that it wrote none
 -- Written    an answered product wrote its result to the front of each slice, and nothing past it
--- Kept       what an answered product keeps: it is closed where its factors are, and is the pairs in use, ordered by
---            one member, with the ends added
+-- Kept       what an answered product keeps: it is closed where its factors are closed and high enough; it is made of
+--            the pairs in use, a pair directly under another exactly if one member is equal and the other directly
+--            under, with the ends added
 -- Exchange   of two products, R of A and B and Q of C and D, whose factors are exchanged: Q has the pairs of R, swapped
 -- Produces   which refusal comes when, and what is then in the output slices
 use mathlib.Core.Path.{_≡_}

@@ -4,7 +4,8 @@
 -- roomIn     how many flags there is room for
 -- Searches   which refusal comes when, and what then stands in the table and the bytes: refused with another number
 --            than 22 they are as they were, and at 22 they hold the first flags found, as many as there is room for
--- Found      what an answered search found: all flags that the changes lead to, each once, counted, and coloured
+-- Found      what an answered search found: all flags that the changes lead to, each once and in the order found,
+--            counted, and coloured; or the place of the event that shows that they cannot be
 use mathlib.Core.Path.{_≡_}
 use mathlib.Core.Logic.{_≢_}
 use mathlib.Core.List.{List}

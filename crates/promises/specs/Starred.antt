@@ -7,7 +7,8 @@
 -- leakingBox    the insurer's cell: a box whose edge 0 is doubled as edge 12, each of the two in one face
 -- Row           a row of the table: what is tried, and what is answered
 -- tested        a listing; what is_valid answers, what closed answers
--- built         a product of two listings; the listing that it is, and what the two tests answer of that
+-- built         a product of two listings, with just the room that it takes; what it answers, the listing that it is,
+--               and what the two tests answer of that
 -- refused       a product without any room; what it answers
 -- changed       a listing, a flag and a rank; what the change answers
 -- to            a change that is answered with a flag
@@ -16,6 +17,7 @@
 use mathlib.Core.Bool.{Bool, true, false}
 use mathlib.Core.List.{List, [], _∷_}
 use Prim.Native.Nat.{ℕ}
+use lib.ListN.{length}
 use Rattle.listing.specs.declared.Answer.{Answer}
 use Rattle.listing.specs.Refusals.{noRanks, notBounded, subNotBack, thirdBetween, loneBetween, combOfPoint}
 use Rattle.listing.specs.Answers.{refusal, plain, fine}
@@ -70,14 +72,16 @@ leakingBox =
 
 pub data Row : Type 0 where
   tested : Listing → Answer → Answer → Row
-  built : Bool → Bool → Listing → Listing → Listing → Answer → Answer → Row
+  built : Bool → Bool → Listing → Listing → Answer → Listing → Answer → Answer → Row
   refused : Bool → Bool → Listing → Listing → Answer → Row
   changed : Listing → List ℕ → ℕ → Changed → Row
 
 unfoldable pub answered : Row → Row
 answered (tested L v c) = tested L (isValid limits L) (closed limits L)
-answered (built min max A B R v c) =
-    let P = resultOf min max A B in built min max A B P (isValid limits P) (closed limits P)
+answered (built min max A B a R v c) =
+    let P = resultOf min max A B in
+    built min max A B (productTest limits min max A B (length (P .counts)) (length (P .ends)) (length (P .inc)))
+    P (isValid limits P) (closed limits P)
 answered (refused min max A B a) = refused min max A B (productTest limits min max A B 0 0 0)
 answered (changed L f r c) = changed L f r (changedOf limits L f r)
 
@@ -95,12 +99,12 @@ table =
     tested threeOnTop fine (refusal thirdBetween 0 0 2 0) ∷
     tested oneOnTop fine (refusal loneBetween 0 0 2 0) ∷
     tested struck (refusal subNotBack 2 1 0 0) (refusal subNotBack 2 1 0 0) ∷
-    built true false dyad dyad square fine fine ∷
-    built false false dyad point triangle fine fine ∷
-    built true false nullitope triangle nullitope fine fine ∷
-    built false true dyad dyad otherSquare fine fine ∷
-    built true true dyad dyad fourOnTop fine (refusal thirdBetween 0 0 2 0) ∷
-    built false false threeOnTop point threePyramid (refusal thirdBetween 0 0 2 0) (refusal thirdBetween 0 0 2 0) ∷
+    built true false dyad dyad fine square fine fine ∷
+    built false false dyad point fine triangle fine fine ∷
+    built true false nullitope triangle fine nullitope fine fine ∷
+    built false true dyad dyad fine otherSquare fine fine ∷
+    built true true dyad dyad fine fourOnTop fine (refusal thirdBetween 0 0 2 0) ∷
+    built false false threeOnTop point fine threePyramid (refusal thirdBetween 0 0 2 0) (refusal thirdBetween 0 0 2 0) ∷
     refused true true point point (plain combOfPoint) ∷
     changed triangle (0 ∷ 0 ∷ 0 ∷ 0 ∷ []) 1 (to (0 ∷ 1 ∷ 0 ∷ 0 ∷ [])) ∷
     changed triangle (0 ∷ 0 ∷ 0 ∷ 0 ∷ []) 2 (to (0 ∷ 0 ∷ 1 ∷ 0 ∷ [])) ∷

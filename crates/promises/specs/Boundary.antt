@@ -1,0 +1,72 @@
+-- The C boundary: what the contract of an fd_ function admits, that of its entry admits too, for the same arguments, so
+-- that all that is promised of the entry holds of it. Three of them cross as numbers: the class, the sign, the next
+-- event. The last is said of `SaidStep` and `Stepped`, of which the two contracts consist: they are lent a record, a
+-- form of which the prover makes no reading.
+--
+-- Boundary  each fd_ function answers and writes as its entry does
+use mathlib.Core.Path.{_≡_}
+use Prim.Native.Nat.{ℕ}
+use Rattle.listing.specs.Refusals.{bandNo}
+use Rattle.flag.specs.declared.Event.{Event}
+use Rattle.flag.specs.declared.Said.{Said}
+use Rattle.flag.specs.Orientations.{ofByte}
+use Rattle.flag.specs.Events.{saidOf, Stepped, SaidStep}
+use Rattle.listing.proofs.class.Reads as class
+use Rattle.listing.proofs.rank.Reads as rank
+use Rattle.listing.proofs.el_count.Reads as el-count
+use Rattle.listing.proofs.vertex_count.Reads as vertex-count
+use Rattle.listing.proofs.facet_count.Reads as facet-count
+use Rattle.valid.proofs.bounded.Reads as bounded
+use Rattle.valid.proofs.check_incidences.Reads as check-incidences
+use Rattle.valid.proofs.is_dyadic.Reads as is-dyadic
+use Rattle.valid.proofs.is_valid.Reads as is-valid
+use Rattle.valid.proofs.closed.Reads as closed
+use Rattle.flag.proofs.change.Reads as change
+use Rattle.flag.proofs.Orientation.sign.Reads as sign
+use Rattle.search.proofs.search.Reads as search
+use Rattle.product.proofs.duopyramid.Reads as duopyramid
+use Rattle.product.proofs.duoprism.Reads as duoprism
+use Rattle.product.proofs.duotegum.Reads as duotegum
+use Rattle.product.proofs.duocomb.Reads as duocomb
+use Rattle.flumedrac.proofs.fd_rank.Reads as fd-rank
+use Rattle.flumedrac.proofs.fd_el_count.Reads as fd-el-count
+use Rattle.flumedrac.proofs.fd_vertex_count.Reads as fd-vertex-count
+use Rattle.flumedrac.proofs.fd_facet_count.Reads as fd-facet-count
+use Rattle.flumedrac.proofs.fd_class.Reads as fd-class
+use Rattle.flumedrac.proofs.fd_bounded.Reads as fd-bounded
+use Rattle.flumedrac.proofs.fd_check_incidences.Reads as fd-check-incidences
+use Rattle.flumedrac.proofs.fd_is_dyadic.Reads as fd-is-dyadic
+use Rattle.flumedrac.proofs.fd_is_valid.Reads as fd-is-valid
+use Rattle.flumedrac.proofs.fd_closed.Reads as fd-closed
+use Rattle.flumedrac.proofs.fd_change.Reads as fd-change
+use Rattle.flumedrac.proofs.fd_sign.Reads as fd-sign
+use Rattle.flumedrac.proofs.fd_search.Reads as fd-search
+use Rattle.flumedrac.proofs.fd_duopyramid.Reads as fd-duopyramid
+use Rattle.flumedrac.proofs.fd_duoprism.Reads as fd-duoprism
+use Rattle.flumedrac.proofs.fd_duotegum.Reads as fd-duotegum
+use Rattle.flumedrac.proofs.fd_duocomb.Reads as fd-duocomb
+use Rattle.promises.specs.Entries.{SaysOfTwo, PassesOn}
+
+pub record Boundary : Type 0 where
+  pub rank-passes : PassesOn fd-rank.Post rank.Post
+  pub el-count-passes : PassesOn fd-el-count.Post el-count.Post
+  pub vertex-count-passes : PassesOn fd-vertex-count.Post vertex-count.Post
+  pub facet-count-passes : PassesOn fd-facet-count.Post facet-count.Post
+  pub bounded-passes : PassesOn fd-bounded.Post bounded.Post
+  pub check-incidences-passes : PassesOn fd-check-incidences.Post check-incidences.Post
+  pub is-dyadic-passes : PassesOn fd-is-dyadic.Post is-dyadic.Post
+  pub is-valid-passes : PassesOn fd-is-valid.Post is-valid.Post
+  pub closed-passes : PassesOn fd-closed.Post closed.Post
+  pub change-passes : PassesOn fd-change.Post change.Post
+  pub search-passes : PassesOn fd-search.Post search.Post
+  pub duopyramid-passes : PassesOn fd-duopyramid.Post duopyramid.Post
+  pub duoprism-passes : PassesOn fd-duoprism.Post duoprism.Post
+  pub duotegum-passes : PassesOn fd-duotegum.Post duotegum.Post
+  pub duocomb-passes : PassesOn fd-duocomb.Post duocomb.Post
+  -- the number of the class
+  pub class-passes : SaysOfTwo fd-class.Post class.Post (λ a r x c b y. a .0 ≡ c .0 → r ≡ bandNo b)
+  -- the sign of the orientation that the byte stands for
+  pub sign-passes : SaysOfTwo fd-sign.Post sign.Post (λ a r x c s y. ofByte (a .0) ≡ c .0 → r ≡ s)
+  -- the next event, in numbers
+  pub next-event-passes : (at count place at′ : ℕ) (s : Said) → SaidStep at count place at′ s
+      → (e : Event) × Stepped at count place at′ e × (s ≡ saidOf e)
