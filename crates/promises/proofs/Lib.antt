@@ -1,9 +1,11 @@
 pub mod OneAnswer
 pub mod Broken
+pub mod Firsts
 pub mod Numbers
 pub mod Refused
 pub mod Produced
 pub mod Searched
+pub mod Named
 pub mod DemandOne
 pub mod DemandTwo
 pub mod DemandThree

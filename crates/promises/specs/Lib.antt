@@ -3,4 +3,5 @@ pub mod Rules
 pub mod Products
 pub mod Searches
 pub mod Demands
+pub mod Named
 pub mod Starred

@@ -1,0 +1,124 @@
+-- What the refusals of the tests say, in words of elements: a refusal is true of what its fields name, and it names the
+-- first thing that is wrong.
+--
+-- Earlier        element j of rank q comes before element i of rank r: by rank, and then by index
+-- FirstAt        element i of rank r exists, at rank low or higher, and each one before it from there on keeps a rule
+-- FirstIn        x stands in a list, and each number before it there keeps a rule
+-- SubKept        x, as a sub of element i of rank r, exists one rank lower and lists the element back
+-- SupKept        x, as a sup of element i of rank r, exists one rank higher and lists the element back
+-- Lower          an element has subs if it is above rank 0, and each of them is kept
+-- Upper          an element has sups if it is below the top, and each of them is kept
+-- Joined         both: what test 2 asks of an element
+-- Climbing       an element's subs and sups both strictly ascend: what the ascent test asks of an element
+-- Paired         each index among the subs of an element's subs is met twice there: what test 3 asks of an element
+-- FirstThird     x stands in a list for the third time, and nothing before it there does
+-- Named          each refusal with its fields, and what is then true of the listing; the diamond is asked up to rank h
+-- Names          a test whose refusals are Named
+-- RefusalsNamed  all of it, for the five tests
+use mathlib.Core.Path.{_≡_}
+use mathlib.Core.Logic.{_≢_, _⊎_}
+use mathlib.Core.List.{List, [], _∷_, _++_}
+use Prim.Native.Nat.{ℕ, _+_, _-_, _≤_, _<_}
+use Rattle.order.specs.Lists.{In, Ascending, occurs}
+use Rattle.listing.specs.declared.Answer.{Answer}
+use Rattle.listing.specs.Refusals.{noRanks, fallingEnds, notBounded, noSubs, noSups, subNotBack, supNotBack}
+use Rattle.listing.specs.Refusals.{subMissing, supMissing, thirdBetween, loneBetween, notAscending}
+use Rattle.listing.specs.Answers.{plain, refusal}
+use Rattle.listing.specs.Listing.{Listing, rank, count, side, subs, sups}
+use Rattle.diamond.specs.Dyadic.{walk}
+use Rattle.valid.specs.Bounds.{Bounded}
+use Rattle.valid.proofs.bounded.Reads as bounded
+use Rattle.valid.proofs.check_incidences.Reads as check-incidences
+use Rattle.valid.proofs.is_dyadic.Reads as is-dyadic
+use Rattle.valid.proofs.is_valid.Reads as is-valid
+use Rattle.valid.proofs.closed.Reads as closed
+use Rattle.promises.specs.Entries.{Says, Three, lent}
+
+abbrev pub Earlier : ℕ → ℕ → ℕ → ℕ → Type 0
+Earlier q j r i = (q < r) ⊎ ((q ≡ r) × (j < i))
+
+pub record FirstAt (L : Listing) (low : ℕ) (Rule : ℕ → ℕ → Type 0) (r i : ℕ) : Type 0 where
+  pub exists : i < count L r
+  pub from : low ≤ r
+  pub before : (q j : ℕ) → low ≤ q → j < count L q → Earlier q j r i → Rule q j
+
+pub record FirstIn (Rule : ℕ → Type 0) (x : ℕ) (l : List ℕ) : Type 0 where
+  pub done : List ℕ
+  pub rest : List ℕ
+  pub stands : l ≡ done ++ x ∷ rest
+  pub before : (y : ℕ) → In y done → Rule y
+
+abbrev pub SubKept : Listing → ℕ → ℕ → ℕ → Type 0
+SubKept L r i x = (0 < r) × (x < count L (r - 1)) × In i (sups L (r - 1) x)
+
+abbrev pub SupKept : Listing → ℕ → ℕ → ℕ → Type 0
+SupKept L r i x = (x < count L (r + 1)) × In i (subs L (r + 1) x)
+
+pub record Lower (L : Listing) (r i : ℕ) : Type 0 where
+  pub some : 0 < r → subs L r i ≢ []
+  pub each : (x : ℕ) → In x (subs L r i) → SubKept L r i x
+
+pub record Upper (L : Listing) (r i : ℕ) : Type 0 where
+  pub some : r < rank L → sups L r i ≢ []
+  pub each : (x : ℕ) → In x (sups L r i) → SupKept L r i x
+
+abbrev pub Joined : Listing → ℕ → ℕ → Type 0
+Joined L r i = Lower L r i × Upper L r i
+
+abbrev pub Climbing : Listing → ℕ → ℕ → Type 0
+Climbing L r i = (s : ℕ) → s < 2 → Ascending (side L s r i)
+
+abbrev pub Paired : Listing → ℕ → ℕ → Type 0
+Paired L r i = (x : ℕ) → In x (walk L r i) → occurs x (walk L r i) ≡ 2
+
+pub record FirstThird (x : ℕ) (l : List ℕ) : Type 0 where
+  pub done : List ℕ
+  pub rest : List ℕ
+  pub stands : l ≡ done ++ x ∷ rest
+  pub twice : occurs x done ≡ 2
+  pub before : (y : ℕ) → occurs y done ≤ 2
+
+pub data Named (h : ℕ) (L : Listing) : Answer → Type 0 where
+  -- 1 to 6 carry nothing
+  shape : (n : ℕ) → noRanks ≤ n → n ≤ fallingEnds → Named h L (plain n)
+  -- 10: the elements of rank 0 and of the top rank, which are not both one
+  not-bounded : ¬ Bounded L → Named h L (refusal notBounded (count L 0) (count L (rank L)) 0 0)
+  -- 11: element i of rank r, above rank 0, has no subs
+  no-subs : (r i : ℕ) → FirstAt L 0 (Joined L) r i → 0 < r → subs L r i ≡ [] → Named h L (refusal noSubs r i 0 0)
+  -- 12: element i of rank r, below the top, has no sups
+  no-sups : (r i : ℕ) → FirstAt L 0 (Joined L) r i → Lower L r i → r < rank L → sups L r i ≡ []
+      → Named h L (refusal noSups r i 0 0)
+  -- 13: element i of rank r has the sub x, which exists one rank lower and does not list it back
+  sub-not-back : (r i x : ℕ) → FirstAt L 0 (Joined L) r i → FirstIn (SubKept L r i) x (subs L r i) → 0 < r
+      → x < count L (r - 1) → ¬ In i (sups L (r - 1) x) → Named h L (refusal subNotBack r i x 0)
+  -- 14: element i of rank r has the sup x, which exists one rank higher and does not list it back
+  sup-not-back : (r i x : ℕ) → FirstAt L 0 (Joined L) r i → Lower L r i → FirstIn (SupKept L r i) x (sups L r i)
+      → x < count L (r + 1) → ¬ In i (subs L (r + 1) x) → Named h L (refusal supNotBack r i x 0)
+  -- 15: element i of rank r has the sub x, and there is none such one rank lower; at rank 0 there is never one
+  sub-missing : (r i x : ℕ) → FirstAt L 0 (Joined L) r i → FirstIn (SubKept L r i) x (subs L r i)
+      → (0 < r → count L (r - 1) ≤ x) → Named h L (refusal subMissing r i x 0)
+  -- 16: element i of rank r has the sup x, and there is none such one rank higher
+  sup-missing : (r i x : ℕ) → FirstAt L 0 (Joined L) r i → Lower L r i → FirstIn (SupKept L r i) x (sups L r i)
+      → count L (r + 1) ≤ x → Named h L (refusal supMissing r i x 0)
+  -- 17: element x, two ranks under element i of rank r, is met a third time among the subs of its subs
+  third-between : (r i x : ℕ) → FirstAt L 2 (Paired L) r i → r ≤ h → x < count L (r - 2) → FirstThird x (walk L r i)
+      → Named h L (refusal thirdBetween (r - 2) x r i)
+  -- 18: none is met a third time, and x is the smallest that is met only once
+  lone-between : (r i x : ℕ) → FirstAt L 2 (Paired L) r i → r ≤ h → x < count L (r - 2)
+      → ((y : ℕ) → occurs y (walk L r i) ≤ 2) → occurs x (walk L r i) ≡ 1
+      → ((y : ℕ) → y < x → occurs y (walk L r i) ≢ 1) → Named h L (refusal loneBetween (r - 2) x r i)
+  -- 19: the subs (0) or the sups (1) of element i of rank r do not strictly ascend
+  not-ascending : (r i s : ℕ) → FirstAt L 0 (Climbing L) r i → s < 2
+      → ((t : ℕ) → t < s → Ascending (side L t r i)) → ¬ Ascending (side L s r i)
+      → Named h L (refusal notAscending r i s 0)
+
+module _ {K A X : Type 0} where
+  abbrev pub Names : (K → Three A → Answer → X → Type 0) → (Listing → ℕ) → Type 0
+  Names P h = Says P (λ a r x. r .no ≢ 0 → Named (h (lent a)) (lent a) r)
+
+pub record RefusalsNamed : Type 0 where
+  pub bounded-names : Names bounded.Post (λ L. 0)
+  pub incidences-name : Names check-incidences.Post (λ L. 0)
+  pub dyadic-names : Names is-dyadic.Post (λ L. rank L - 1)
+  pub valid-names : Names is-valid.Post (λ L. rank L - 1)
+  pub closed-names : Names closed.Post (λ L. rank L)
