@@ -1,295 +1,247 @@
--- A refusal of a test is true of what its fields name, and names the first thing that is wrong: test by test, then the
--- five entries.
+-- A refusal is true of what it names: of whatever the contracts admit. What is counted by occurrence is then said of
+-- elements, and the refusals that carry nothing are seen to carry nothing.
 -- Assumes nothing.
 use mathlib.Core.Path.{_≡_, refl, sym, ap, _∙_}
-use mathlib.Core.Logic.{inl}
-use mathlib.Core.Bool.{Bool, true, false, not, _&&_}
+use mathlib.Core.Logic.{_≢_, _⊎_, inl, inr}
+use mathlib.Core.Bool.{Bool, true, false, not, _&&_, _||_}
 use mathlib.Core.List.{List, [], _∷_}
-use Prim.Native.Nat.{ℕ, zero, suc, _+_, _-_, _*_, _≤_, _<_}
+use Prim.Native.Nat.{ℕ, zero, suc, _+_, _-_, _≤_, _<_}
 use native.Mathlib.Omega.{arith}
-use borrow.Author.Tests.{eqb-true, eqb-false, ltb-true, ltb-false, lt-ltb, not-false}
 use lib.Dec.{ltb, eqb}
 use lib.ListN.{length}
-use Rattle.order.specs.Lists.{In, has, Ascending, occurs}
-use Rattle.order.proofs.Lists.{has-no, occurs-some, in-right, append-in}
-use Rattle.order.proofs.Tests.{and-true}
+use Rattle.order.specs.Lists.{In, occurs}
+use Rattle.order.proofs.Lists.{occurs-append}
 use Rattle.listing.specs.declared.Answer.{Answer}
-use Rattle.listing.specs.Answers.{plain, refusal, fine, on, _orElse_}
-use Rattle.listing.specs.Listing.{Listing, Limits, limits, rank, count, below, before, entries, side, subs, sups}
-use Rattle.listing.specs.Shape.{elements, fills, shapeTest}
-use Rattle.listing.proofs.Answers.{no-or, on-no}
-use Rattle.matching.specs.Incidence.{entryTest, alongTest, elementTest, incidencesTest, Incident}
-use Rattle.matching.specs.Ways.{listTest}
-use Rattle.matching.proofs.Sequences.{in-some}
-use Rattle.matching.proofs.IncidenceExact.{Down, Up, entry-exact, down-exact, element-exact}
-use Rattle.matching.proofs.IncidenceExact.{below-is, incidences-exact}
-use Rattle.diamond.specs.Dyadic.{walk, thirdTest, seenAfter, loneTest, third, lone, sectionsTest, dyadicTest}
-use Rattle.diamond.proofs.Counting.{occurs-nil, third-each, all-seen, sections-exact}
-use Rattle.diamond.proofs.DyadicExact.{there}
-use Rattle.valid.specs.Bounds.{boundedTest, Bounded}
-use Rattle.valid.specs.Ascent.{climbs, sideAscent, elementAscent, ascentTest}
+use Rattle.listing.specs.Answers.{plain, on, _orElse_}
+use Rattle.listing.specs.Listing.{Listing, Limits, limits, rank, count}
+use Rattle.listing.specs.Shape.{elements, shapeTest}
+use Rattle.listing.proofs.Answers.{or-fine, or-stop}
+use Rattle.matching.specs.Incidence.{Incident, incidencesTest}
+use Rattle.diamond.specs.Dyadic.{walk, Between, Distinct, dyadicTest}
+use Rattle.diamond.proofs.Counting.{occurs-cons, occurs-own}
+use Rattle.diamond.proofs.Twos.{Once, once-head, once-tail}
+use Rattle.diamond.proofs.DyadicExact.{over, over-between, over-once, met-over}
+use Rattle.valid.specs.Bounds.{boundedTest}
+use Rattle.valid.specs.Ascent.{ascentTest}
 use Rattle.valid.specs.Tests as tests
-use Rattle.valid.proofs.BoundsExact.{bounded-exact}
-use Rattle.valid.proofs.AscentExact.{side-exact, element-exact as ascent-at}
-use Rattle.promises.specs.Entries.{lent}
-use Rattle.promises.specs.Named.{Earlier, FirstAt, FirstIn, SubKept, SupKept, Lower, Upper, Joined, Paired, Climbing}
-use Rattle.promises.specs.Named.{FirstThird, Named}
-use Rattle.promises.specs.Named.{shape, not-bounded, no-subs, no-sups, sub-not-back}
+use Rattle.valid.proofs.AscentExact.{ascent-exact, ascends-distinct}
+use Rattle.closure.specs.Result.{combCase, resultOf}
+use Rattle.sizing.specs.Sizing.{sizeTest}
+use Rattle.product.specs.declared.Built.{Built}
+use Rattle.product.specs.Outcome.{productTest, Outcome}
+use Rattle.product.proofs.Answered.{answers}
+use Rattle.changing.specs.Flags.{flagTest, startTest}
+use Rattle.flag.specs.Changed.{changeTest, changedOf}
+use Rattle.masks.specs.Masks.{maskFits}
+use Rattle.walking.specs.Searched.{foundBy}
+use Rattle.search.specs.Outcome.{searchTest}
+use Rattle.promises.specs.Entries.{lent, flag, mask, tables}
+use Rattle.promises.specs.Named.{FirstThird, Named, shape, flags, not-bounded, no-subs, no-sups, sub-not-back}
 use Rattle.promises.specs.Named.{sup-not-back, sub-missing, sup-missing, third-between, lone-between}
-use Rattle.promises.specs.Named.{not-ascending, RefusalsNamed}
-use Rattle.promises.proofs.Firsts.{Tells, tells-or, tells-on, tells-cond, tells-of, tells-in, tells-third}
-use Rattle.promises.proofs.Firsts.{tells-elements}
+use Rattle.promises.specs.Named.{not-ascending, ThreeOf, OneOf, BetweenNamed, RefusalsNamed}
+use Rattle.promises.proofs.Broken.{zero-or}
+use Rattle.promises.proofs.Numbers.{bounded-numbers, incidence-numbers, ascent-numbers}
+use Rattle.promises.proofs.Firsts.{Tells, tells-or, tells-on}
+use Rattle.promises.proofs.Searched.{said}
+use Rattle.promises.proofs.NamedTests.{shape-tells, bounded-named, incidences-named, dyadic-named, valid-named}
+use Rattle.promises.proofs.NamedTests.{closed-named}
 
--- ---- shape
+-- ---- three elements between, and one
 
-module _ (Q : Answer → Type 0) (g : (n : ℕ) → 1 ≤ n → n ≤ 6 → Q (plain n)) where
-  shape-one : (t : Bool) (n : ℕ) → 1 ≤ n → n ≤ 6 → Tells Q (on t (plain n))
-  shape-one t n p q = tells-on Q t (plain n) (λ e. g n p q)
-
-  -- what holds of each plain refusal holds of the shape test's
-  shape-tells : (m : Limits) (L : Listing) → Tells Q (shapeTest m L)
-  unfolding shapeTest
-  shape-tells m L =
-      let n = length (L .counts) in
-      let e = elements L in
-      let two = eqb (length (L .ends)) (2 * e) in
-      let full = fills 0 (L .ends) (length (L .inc)) in
-      tells-or Q _ _ (shape-one (eqb n 0) 1 (omega arith) (omega arith)) (λ _.
-      tells-or Q _ _ (shape-one (ltb (m .ranks) n) 2 (omega arith) (omega arith)) (λ _.
-      tells-or Q _ _ (shape-one (ltb (m .elements) e) 3 (omega arith) (omega arith)) (λ _.
-      tells-or Q _ _ (shape-one (not two) 4 (omega arith) (omega arith)) (λ _.
-      tells-or Q _ _ (shape-one (ltb (m .incidences) (length (L .inc))) 5 (omega arith) (omega arith)) (λ _.
-      shape-one (not full) 6 (omega arith) (omega arith))))))
-
--- ---- small laws
-
-not-true : (b : Bool) → not b ≡ true → b ≡ false
-not-true true e = sym e
-not-true false e = refl
-
-not-less : {a b : ℕ} → ¬ (a < b) → b ≤ a
-not-less n = omega arith
-
--- ---- an element's lists, by the laws of test 2
-
-none-in : (l : List ℕ) → length l ≡ 0 → l ≡ []
-none-in [] e = refl
-none-in (x ∷ l) e = absurd (omega arith)
-
-first-map : {P R : ℕ → Type 0} {x : ℕ} {l : List ℕ} → ((y : ℕ) → P y → R y) → FirstIn P x l → FirstIn R x l
-first-map g f = record {
-  done = f .done;
-  rest = f .rest;
-  stands = f .stands;
-  before = λ y m. g y (f .before y m);
-}
-
-third-in : {x : ℕ} {l : List ℕ} → FirstThird x l → In x l
+three-in : (l : List ℕ) → Once l → 3 ≤ length l → ThreeOf (λ x. In x l)
 unfolding In
-third-in {x} t = rw (t .stands) (in-right x (t .done) (x ∷ t .rest) (inl refl))
-
-lower-of : (L : Listing) (r i : ℕ) → Down L r i → Lower L r i
-lower-of L r i d = record {
-  some = λ k e. let p = d .some (lt-ltb 0 r k) in in-some (subs L r i) (p .0) (p .1) (ap length e);
-  each = λ x m.
-      let b = d .back x m in
-      let p = below-is L r x .0 (b .0) in
-      (p .0, p .1, b .1);
+three-in [] o h = absurd (omega arith)
+three-in (a ∷ []) o h = absurd (omega arith)
+three-in (a ∷ b ∷ []) o h = absurd (omega arith)
+three-in (a ∷ b ∷ c ∷ l) o h = record {
+  one = a;
+  two = b;
+  three = c;
+  apart = (
+    λ e. once-head a (b ∷ c ∷ l) o (inl e),
+    λ e. once-head a (b ∷ c ∷ l) o (inr (inl e)),
+    λ e. once-head b (c ∷ l) (once-tail a (b ∷ c ∷ l) o) (inl e),
+  );
+  each = (inl refl, inr (inl refl), inr (inr (inl refl)));
 }
 
-upper-of : (L : Listing) (r i : ℕ) → Up L r i → Upper L r i
-upper-of L r i u = record {
-  some = λ k e. let p = u .some (lt-ltb r (rank L) k) in in-some (sups L r i) (p .0) (p .1) (ap length e);
-  each = λ x m. u .back x m;
+one-in : (l : List ℕ) → length l ≡ 1 → OneOf (λ x. In x l)
+unfolding In
+one-in [] h = absurd (omega arith)
+one-in (a ∷ []) h = record { one = a; has = inl refl; no-second = only }
+  where
+    only : (w : ℕ) → (w ≡ a) ⊎ ⊥ → w ≡ a
+    only w (inl e) = e
+    only w (inr m) = absurd m
+one-in (a ∷ b ∷ l) h = absurd (omega arith)
+
+third-occurs : {x : ℕ} {l : List ℕ} → FirstThird x l → 3 ≤ occurs x l
+third-occurs {x} t =
+    rw (t .stands) (omega (arith, occurs-append x (t .done) (x ∷ t .rest), occurs-cons x x (t .rest), occurs-own x,
+    t .twice))
+
+module _ (L : Listing) (I : Incident L) (D : Distinct L) (r i x : ℕ) (k : i < count L r) where
+  three-between : 3 ≤ occurs x (walk L r i) → ThreeOf (Between L r i x)
+  three-between h =
+      let t = three-in (over L r i x) (over-once L I D r i x k) (omega (arith, met-over L I D r i x k)) in
+      let b : (s : ℕ) → In s (over L r i x) → Between L r i x s = λ s. over-between L r i x s .0 in
+      record {
+        one = t .one;
+        two = t .two;
+        three = t .three;
+        apart = t .apart;
+        each = (b (t .one) (t .each .0), b (t .two) (t .each .1), b (t .three) (t .each .2));
+      }
+
+  one-between : occurs x (walk L r i) ≡ 1 → OneOf (Between L r i x)
+  one-between h =
+      let t = one-in (over L r i x) (omega (arith, met-over L I D r i x k)) in
+      record {
+        one = t .one;
+        has = over-between L r i x (t .one) .0 (t .has);
+        no-second = λ w b. t .no-second w (over-between L r i x w .1 b);
+      }
+
+-- another number than these
+neither : {L : Listing} {a : Answer} → (a .no < 17) ⊎ (18 < a .no) → BetweenNamed L a
+neither (inl h) = record { third = λ e. absurd (omega arith); lone = λ e. absurd (omega arith) }
+neither (inr h) = record { third = λ e. absurd (omega arith); lone = λ e. absurd (omega arith) }
+
+between-named : (h : ℕ) (L : Listing) {a : Answer} → Distinct L → Named h L a → BetweenNamed L a
+between-named h L D (shape n p q) = neither (inl (omega arith))
+between-named h L D (flags n p q) = neither (inr (omega arith))
+between-named h L D (not-bounded b) = neither (inl (omega arith))
+between-named h L D (no-subs r i F p e) = neither (inl (omega arith))
+between-named h L D (no-sups r i F l p e) = neither (inl (omega arith))
+between-named h L D (sub-not-back r i x F K p q n) = neither (inl (omega arith))
+between-named h L D (sup-not-back r i x F l K q n) = neither (inl (omega arith))
+between-named h L D (sub-missing r i x F K q) = neither (inl (omega arith))
+between-named h L D (sup-missing r i x F l K q) = neither (inl (omega arith))
+between-named h L D (third-between r i x I F p q t) = record {
+  third = λ e. three-between L I D r i x (F .exists) (third-occurs t);
+  lone = λ e. absurd (omega arith);
 }
+between-named h L D (lone-between r i x I F p q a o s) = record {
+  third = λ e. absurd (omega arith);
+  lone = λ e. one-between L I D r i x (F .exists) o;
+}
+between-named h L D (not-ascending r i s F p a n) = neither (inr (omega arith))
 
-module _ (h : ℕ) (L : Listing) where
-  abbrev N : Answer → Type 0
-  N = Named h L
+-- an answer of 0 says nothing of elements between
+between-tells : {L : Listing} {a : Answer} → Tells (BetweenNamed L) a → BetweenNamed L a
+between-tells {L} {a} t = go (zero-or (a .no))
+  where
+    go : (a .no ≡ 0) ⊎ (a .no ≡ 0 → ⊥) → BetweenNamed L a
+    go (inl z) = neither (inl (omega arith))
+    go (inr s) = t s
 
-  abbrev Tell : Answer → Type 0
-  Tell = Tells N
-
-  -- ---- test 1
-
-  bounded-tells : Tell (boundedTest L)
-  unfolding boundedTest
-  bounded-tells s =
-      tells-on N (not (eqb (count L 0) 1 && eqb (count L (rank L)) 1)) _
-      (λ e. not-bounded (λ B. s (bounded-exact L .1 B))) s
-
-  -- ---- test 2
-
-  module _ (n b s missing oneway : ℕ) (hm : 0 < missing) (ho : 0 < oneway) (r i : ℕ) where
-    abbrev leads : ℕ → List ℕ
-    leads x = entries (L .ends) (L .inc) (2 * (b + x) + s)
-
-    abbrev entry : ℕ → Answer
-    entry x = entryTest n (leads x) missing oneway r i x
-
-    abbrev Kept : ℕ → Type 0
-    Kept x = (x < n) × In i (leads x)
-
-    entry-tells : (x : ℕ) → (x < n → ¬ In i (leads x) → N (refusal oneway r i x 0))
-        → (n ≤ x → N (refusal missing r i x 0)) → Tell (entry x)
-    unfolding entryTest
-    entry-tells x one miss =
-        tells-cond N (ltb x n) _ _
-        (λ e. tells-on N (not (has (leads x) i)) _ (λ f. one (ltb-true _ _ e) (has-no i (leads x) .0 (not-true _ f))))
-        (λ e z. miss (ltb-false _ _ e))
-
-    -- along a list whose entries may name n elements: what the refusals come to
-    along-tells : (list : List ℕ)
-        → ((x : ℕ) → FirstIn Kept x list → x < n → ¬ In i (leads x) → N (refusal oneway r i x 0))
-        → ((x : ℕ) → FirstIn Kept x list → n ≤ x → N (refusal missing r i x 0))
-        → Tell (alongTest (L .ends) (L .inc) n b s missing oneway r i list)
-    unfolding alongTest
-    along-tells list one miss =
-        tells-in N entry list (λ x f.
-        let K = first-map (λ y z. entry-exact n (leads y) missing oneway r i y hm ho .0 z) f in
-        entry-tells x (one x K) (miss x K))
-
-  none-tells : (t : Bool) (list : List ℕ) (a : Answer) → (t ≡ true → list ≡ [] → N a)
-      → Tell (on (t && eqb (length list) 0) a)
-  none-tells t list a g =
-      tells-on N (t && eqb (length list) 0) a
-      (λ e. let p = and-true _ _ e in g (p .0) (none-in list (eqb-true _ _ (p .1))))
-
-  element-tells : (r i : ℕ) → FirstAt L 0 (Joined L) r i → Tell (elementTest L r i)
-  unfolding elementTest listTest
-  element-tells r i F =
-      tells-or N _ _
-      (none-tells (ltb 0 r) (subs L r i) _ (λ a e. no-subs r i F (ltb-true 0 r a) e)) (λ z.
-      tells-or N _ _
-      (along-tells (below L r) (before (L .counts) (r - 1)) 1 15 13 (omega arith) (omega arith) r i (subs L r i)
-      (λ x K l n. let p = below-is L r x .0 l in sub-not-back r i x F (kept K) (p .0) (p .1) n)
-      (λ x K l. sub-missing r i x F (kept K) (missing x l))) (λ y.
-      let D = lower-of L r i (down-exact L r i .0 (no-or _ _ z y)) in
-      tells-or N _ _
-      (none-tells (ltb r (rank L)) (sups L r i) _ (λ a e. no-sups r i F D (ltb-true r (rank L) a) e)) (λ _.
-      along-tells (count L (r + 1)) (before (L .counts) (r + 1)) 0 16 14 (omega arith) (omega arith) r i (sups L r i)
-      (λ x K l n. sup-not-back r i x F D K l n)
-      (λ x K l. sup-missing r i x F D K l))))
-    where
-      kept : {x : ℕ} → FirstIn (λ y. (y < below L r) × In i (sups L (r - 1) y)) x (subs L r i)
-          → FirstIn (SubKept L r i) x (subs L r i)
-      kept = first-map (λ y k. let p = below-is L r y .0 (k .0) in (p .0, p .1, k .1))
-
-      missing : (x : ℕ) → below L r ≤ x → 0 < r → count L (r - 1) ≤ x
-      missing x l p = not-less (λ c. let q = below-is L r x .1 (p, c) in omega arith)
-
-  incidences-tells : Tell (incidencesTest L)
-  unfolding incidencesTest
-  incidences-tells =
-      tells-elements N L (elementTest L) 0 (length (L .counts)) (λ r i _ _ k early. element-tells r i (record {
-        exists = k;
-        from = omega arith;
-        before = λ q j l m e.
-            let p = element-exact L q j .0 (early q j l m e) in
-            (lower-of L q j (p .0), upper-of L q j (p .1));
-      }))
-
-  -- ---- ascent
-
-  side-tells : (r i s : ℕ) → s < 2 → FirstAt L 0 (Climbing L) r i → ((t : ℕ) → t < s → Ascending (side L t r i))
-      → Tell (sideAscent L r i s)
-  side-tells r i s l F low z =
-      tells-on N (not (climbs 0 (side L s r i))) _
-      (λ e. not-ascending r i s F l low (λ a. z (side-exact L r i s .1 a))) z
-
-  ascent-tells : Tell (ascentTest L)
-  unfolding ascentTest elementAscent
-  ascent-tells =
-      tells-elements N L (elementAscent L) 0 (length (L .counts)) (λ r i _ _ k early.
-      let F : FirstAt L 0 (Climbing L) r i = record {
-        exists = k;
-        from = omega arith;
-        before = λ q j l m e. ascent-at L q j .0 (early q j l m e);
-      } in
-      tells-or N (sideAscent L r i 0) (sideAscent L r i 1)
-      (side-tells r i 0 (omega arith) F (λ t l. absurd (omega arith)))
-      (λ z. side-tells r i 1 (omega arith) F (subs-climb r i z)))
-    where
-      subs-climb : (r i : ℕ) → sideAscent L r i 0 .no ≡ 0 → (t : ℕ) → t < 1 → Ascending (side L t r i)
-      subs-climb r i z zero l = side-exact L r i 0 .0 z
-      subs-climb r i z (suc t) l = absurd (omega arith)
-
-  -- ---- test 3, where test 2 passes
-
-  section-tells : Incident L → (r i : ℕ) → FirstAt L 2 (Paired L) r i → r ≤ h → Tell (sectionsTest L r i)
-  unfolding sectionsTest loneTest
-  section-tells I r i F hr =
-      tells-or N _ _
-      (tells-third N (third r i) (λ x e. omega arith) (walk L r i) (λ x t. third-between r i x F hr
-      (there L I r i x (F .exists) (third-in t)) t))
-      (λ z. tells-of N (λ x. on (eqb (occurs x seen) 1) (lone r i x)) 0 (count L (r - 2)) (λ x _ l early.
-      tells-on N (eqb (occurs x seen) 1) (lone r i x) (λ e. lone-between r i x F hr l
-      (λ y. omega (arith, third-each (third r i) (λ x e. omega arith) [] (walk L r i) z y
-      (omega (arith, occurs-nil y)), occurs-nil y))
-      (sym (all-seen L r i x) ∙ eqb-true _ _ e)
-      (λ y m q. eqb-false (occurs y seen) 1
-      (on-no (eqb (occurs y seen) 1) (lone r i y) (λ e. omega arith) (early y (omega arith) m))
-      (all-seen L r i y ∙ q)))))
-    where
-      seen : List ℕ
-      seen = seenAfter [] (walk L r i)
-
-  dyadic-tells : Incident L → Tell (dyadicTest L h)
-  unfolding dyadicTest
-  dyadic-tells I =
-      tells-elements N L (sectionsTest L) 2 (h + 1) (λ r i l m k early. section-tells I r i (record {
-        exists = k;
-        from = l;
-        before = λ q j a b e. sections-exact L q j (λ y. there L I q j y b) .0 (early q j a b e);
-      }) (omega arith))
-
--- ---- the five tests
-
-module _ (m : Limits) (L : Listing) (h : ℕ) where
-  after-shape : (y : Answer) → Tells (Named h L) y → Tells (Named h L) (shapeTest m L orElse y)
-  after-shape y t = tells-or (Named h L) (shapeTest m L) y (shape-tells (Named h L) (λ n p q. shape n p q) m L) (λ _. t)
-
-  after-bounded : (y : Answer) → Tells (Named h L) y → Tells (Named h L) (boundedTest L orElse y)
-  after-bounded y t = tells-or (Named h L) (boundedTest L) y (bounded-tells h L) (λ _. t)
-
-  after-incidences : (y : Answer) → (Incident L → Tells (Named h L) y) → Tells (Named h L) (incidencesTest L orElse y)
-  after-incidences y t =
-      tells-or (Named h L) (incidencesTest L) y (incidences-tells h L) (λ z. t (incidences-exact L .0 z))
-
+-- where closed answers 17 or 18, it has passed the ascent test
 module _ (m : Limits) (L : Listing) where
-  bounded-named : Tells (Named 0 L) (tests.bounded m L)
-  unfolding tests.bounded
-  bounded-named = after-shape m L 0 _ (bounded-tells 0 L)
+  abbrev Met : Answer → Type 0
+  Met a = 17 ≤ a .no → a .no ≤ 18 → Distinct L
 
-  incidences-named : Tells (Named 0 L) (tests.checkIncidences m L)
-  unfolding tests.checkIncidences
-  incidences-named = after-shape m L 0 _ (incidences-tells 0 L)
-
-  dyadic-named : Tells (Named (rank L - 1) L) (tests.isDyadic m L)
-  unfolding tests.isDyadic
-  dyadic-named =
-      let h = rank L - 1 in
-      after-shape m L h _ (after-incidences m L h _ (dyadic-tells h L))
-
-  valid-named : Tells (Named (rank L - 1) L) (tests.isValid m L)
-  unfolding tests.isValid
-  valid-named =
-      let h = rank L - 1 in
-      after-shape m L h _ (after-bounded m L h _ (after-incidences m L h _ (dyadic-tells h L)))
-
-  pub closed-named : Tells (Named (rank L) L) (tests.closed m L)
+  closed-distinct : Tells Met (tests.closed m L)
   unfolding tests.closed
-  closed-named =
-      let h = rank L in
-      after-shape m L h _ (after-bounded m L h _ (after-incidences m L h _ (λ I.
-      tells-or (Named h L) (ascentTest L) _ (ascent-tells h L) (λ _. dyadic-tells h L I))))
+  closed-distinct =
+      tells-or Met (shapeTest m L) _ (shape-tells Met (λ n p q l k. absurd (omega arith)) m L) (λ _.
+      tells-or Met (boundedTest L) _ (λ s l k. absurd (omega (arith, bounded-numbers L .numbers s .1))) (λ _.
+      tells-or Met (incidencesTest L) _ (λ s l k. absurd (omega (arith, incidence-numbers L .numbers s .1))) (λ _.
+      tells-or Met (ascentTest L) _ (λ s l k. absurd (omega (arith, ascent-numbers L .numbers s .0))) (λ z s l k.
+      ascends-distinct L (ascent-exact L .0 z)))))
 
--- Whatever the contracts of the five tests admit, a refusal is true of what it names.
+  closed-tells : Tells (BetweenNamed L) (tests.closed m L)
+  closed-tells s = record {
+    third = λ e. between-named (rank L) L (closed-distinct s (omega arith) (omega arith)) (closed-named m L s) .third e;
+    lone = λ e. between-named (rank L) L (closed-distinct s (omega arith) (omega arith)) (closed-named m L s) .lone e;
+  }
+
+-- ---- changes and searches
+
+module _ (m : Limits) (L : Listing) (f : List ℕ) where
+  abbrev N : Answer → Type 0
+  N = Named (rank L) L
+
+  flags-tells : (t : Bool) (n : ℕ) → 20 ≤ n → n ≤ 22 → Tells N (on t (plain n))
+  flags-tells t n p q = tells-on N t (plain n) (λ e. flags n p q)
+
+  start-tells : Tells N (startTest m L f)
+  unfolding startTest
+  start-tells =
+      tells-or N (tests.closed m L) _ (closed-named m L)
+      (λ _. flags-tells (not (flagTest L f)) 20 (omega arith) (omega arith))
+
+  change-tells : (r : ℕ) → Tells N (changeTest m L f r)
+  unfolding changeTest
+  change-tells r =
+      tells-or N (startTest m L f) _ start-tells
+      (λ _. flags-tells (not (ltb 0 r && ltb r (rank L))) 21 (omega arith) (omega arith))
+
+  search-tells : (mask room : ℕ) → Tells N (searchTest m L f mask room)
+  unfolding searchTest
+  search-tells mask room =
+      let out = not (maskFits (rank L) mask) in
+      tells-or N (startTest m L f) _ start-tells (λ _.
+      tells-or N (on out (plain 21)) (on (foundBy L f mask room .over) (plain 22))
+      (flags-tells out 21 (omega arith) (omega arith))
+      (λ _. flags-tells (foundBy L f mask room .over) 22 (omega arith) (omega arith)))
+
+-- ---- products
+
+-- an answer that carries nothing
+abbrev Plain : Answer → Type 0
+Plain a = a ≡ plain (a .no)
+
+plain-on : (t : Bool) (n : ℕ) → Plain (on t (plain n))
+plain-on true n = refl
+plain-on false n = refl
+
+plain-or : (x y : Answer) → Plain x → Plain y → Plain (x orElse y)
+plain-or x y p q = go (zero-or (x .no))
+  where
+    go : (x .no ≡ 0) ⊎ (x .no ≡ 0 → ⊥) → Plain (x orElse y)
+    go (inl z) = rw (or-fine x y z) q
+    go (inr s) = rw (or-stop x y s) p
+
+size-plain : (m : Limits) (R : Listing) (c e i : ℕ) → Plain (sizeTest m R c e i)
+unfolding sizeTest
+size-plain m R c e i =
+    plain-or _ _ (plain-on (ltb (m .ranks) (length (R .counts))) 33)
+    (plain-or _ _ (plain-on (ltb (m .elements) (elements R)) 34)
+    (plain-or _ _ (plain-on (ltb (m .incidences) (length (R .inc))) 35)
+    (plain-on (ltb c (length (R .counts)) || (ltb e (length (R .ends)) || ltb i (length (R .inc)))) 36)))
+
+product-plain : (m : Limits) (min max : Bool) (A B : Listing) (c e i : ℕ) → Plain (productTest m min max A B c e i)
+unfolding productTest
+product-plain m min max A B c e i =
+    plain-or _ _ (plain-on (not (eqb (tests.isValid m A .no) 0)) 30)
+    (plain-or _ _ (plain-on (not (eqb (tests.isValid m B .no) 0)) 31)
+    (plain-or _ _ (plain-on (combCase min max A B) 32) (size-plain m (resultOf min max A B) c e i)))
+
+outcome-plain : (min max : Bool) {A B : Listing} {c e i c′ e′ i′ : List ℕ} {r : Built}
+    → Outcome min max A B c e i c′ e′ i′ r → Plain (r .answer)
+outcome-plain min max {A} {B} {c} {e} {i} {c′} {e′} {i′} {r} o =
+    rw (answers min max A B c e i c′ e′ i′ r o)
+    (product-plain limits min max A B (length c) (length e) (length i))
+
+-- Whatever the contracts admit, a refusal is true of what it names.
 pub refusals-named : RefusalsNamed
+unfolding changedOf
 refusals-named = record {
   bounded-names = λ k a r x p. rw p (bounded-named limits (lent a));
   incidences-name = λ k a r x p. rw p (incidences-named limits (lent a));
   dyadic-names = λ k a r x p. rw p (dyadic-named limits (lent a));
   valid-names = λ k a r x p. rw p (valid-named limits (lent a));
   closed-names = λ k a r x p. rw p (closed-named limits (lent a));
+  dyadic-between = λ k a r x p D. rw p
+      (between-tells (λ s. between-named _ (lent a) D (dyadic-named limits (lent a) s)));
+  valid-between = λ k a r x p D. rw p
+      (between-tells (λ s. between-named _ (lent a) D (valid-named limits (lent a) s)));
+  closed-between = λ k a r x p. rw p (between-tells (closed-tells limits (lent a)));
+  change-names = λ k a r x p. rw p (change-tells limits (lent a) (flag a) (mask a));
+  search-names = λ k a r x p. rw (p .0, said (lent a) (flag a) (mask a) (tables a .0) (tables a .1))
+      (search-tells limits (lent a) (flag a) (mask a) _);
+  duopyramid-plain = λ k a r x. outcome-plain false false;
+  duoprism-plain = λ k a r x. outcome-plain true false;
+  duotegum-plain = λ k a r x. outcome-plain false true;
+  duocomb-plain = λ k a r x. outcome-plain true true;
 }

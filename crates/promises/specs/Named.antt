@@ -13,8 +13,12 @@
 -- Paired         each index among the subs of an element's subs is met twice there: what test 3 asks of an element
 -- FirstThird     x stands in a list for the third time, and nothing before it there does
 -- Named          each refusal with its fields, and what is then true of the listing; the diamond is asked up to rank h
+-- ThreeOf        three different numbers have a property
+-- OneOf          exactly one number has a property
+-- BetweenNamed   17 and 18 said of elements: three different ones lie between, or exactly one does
 -- Names          a test whose refusals are Named
--- RefusalsNamed  all of it, for the five tests
+-- CarryNothing   a product, whose refusals carry nothing
+-- RefusalsNamed  all of it, for the five tests, and for the changes, searches and products
 use mathlib.Core.Path.{_≡_}
 use mathlib.Core.Logic.{_≢_, _⊎_}
 use mathlib.Core.List.{List, [], _∷_, _++_}
@@ -22,16 +26,24 @@ use Prim.Native.Nat.{ℕ, _+_, _-_, _≤_, _<_}
 use Rattle.order.specs.Lists.{In, Ascending, occurs}
 use Rattle.listing.specs.declared.Answer.{Answer}
 use Rattle.listing.specs.Refusals.{noRanks, fallingEnds, notBounded, noSubs, noSups, subNotBack, supNotBack}
-use Rattle.listing.specs.Refusals.{subMissing, supMissing, thirdBetween, loneBetween, notAscending}
+use Rattle.listing.specs.Refusals.{subMissing, supMissing, thirdBetween, loneBetween, notAscending, notAFlag, moreFlags}
 use Rattle.listing.specs.Answers.{plain, refusal}
 use Rattle.listing.specs.Listing.{Listing, rank, count, side, subs, sups}
-use Rattle.diamond.specs.Dyadic.{walk}
+use Rattle.matching.specs.Incidence.{Incident}
+use Rattle.diamond.specs.Dyadic.{walk, Between, Distinct}
 use Rattle.valid.specs.Bounds.{Bounded}
 use Rattle.valid.proofs.bounded.Reads as bounded
 use Rattle.valid.proofs.check_incidences.Reads as check-incidences
 use Rattle.valid.proofs.is_dyadic.Reads as is-dyadic
 use Rattle.valid.proofs.is_valid.Reads as is-valid
 use Rattle.valid.proofs.closed.Reads as closed
+use Rattle.flag.proofs.change.Reads as change
+use Rattle.search.proofs.search.Reads as search
+use Rattle.product.specs.declared.Built.{Built}
+use Rattle.product.proofs.duopyramid.Reads as duopyramid
+use Rattle.product.proofs.duoprism.Reads as duoprism
+use Rattle.product.proofs.duotegum.Reads as duotegum
+use Rattle.product.proofs.duocomb.Reads as duocomb
 use Rattle.promises.specs.Entries.{Says, Three, lent}
 
 abbrev pub Earlier : ℕ → ℕ → ℕ → ℕ → Type 0
@@ -81,6 +93,8 @@ pub record FirstThird (x : ℕ) (l : List ℕ) : Type 0 where
 pub data Named (h : ℕ) (L : Listing) : Answer → Type 0 where
   -- 1 to 6 carry nothing
   shape : (n : ℕ) → noRanks ≤ n → n ≤ fallingEnds → Named h L (plain n)
+  -- 20 to 22 carry nothing
+  flags : (n : ℕ) → notAFlag ≤ n → n ≤ moreFlags → Named h L (plain n)
   -- 10: the elements of rank 0 and of the top rank, which are not both one
   not-bounded : ¬ Bounded L → Named h L (refusal notBounded (count L 0) (count L (rank L)) 0 0)
   -- 11: element i of rank r, above rank 0, has no subs
@@ -101,10 +115,10 @@ pub data Named (h : ℕ) (L : Listing) : Answer → Type 0 where
   sup-missing : (r i x : ℕ) → FirstAt L 0 (Joined L) r i → Lower L r i → FirstIn (SupKept L r i) x (sups L r i)
       → count L (r + 1) ≤ x → Named h L (refusal supMissing r i x 0)
   -- 17: element x, two ranks under element i of rank r, is met a third time among the subs of its subs
-  third-between : (r i x : ℕ) → FirstAt L 2 (Paired L) r i → r ≤ h → x < count L (r - 2) → FirstThird x (walk L r i)
-      → Named h L (refusal thirdBetween (r - 2) x r i)
+  third-between : (r i x : ℕ) → Incident L → FirstAt L 2 (Paired L) r i → r ≤ h → x < count L (r - 2)
+      → FirstThird x (walk L r i) → Named h L (refusal thirdBetween (r - 2) x r i)
   -- 18: none is met a third time, and x is the smallest that is met only once
-  lone-between : (r i x : ℕ) → FirstAt L 2 (Paired L) r i → r ≤ h → x < count L (r - 2)
+  lone-between : (r i x : ℕ) → Incident L → FirstAt L 2 (Paired L) r i → r ≤ h → x < count L (r - 2)
       → ((y : ℕ) → occurs y (walk L r i) ≤ 2) → occurs x (walk L r i) ≡ 1
       → ((y : ℕ) → y < x → occurs y (walk L r i) ≢ 1) → Named h L (refusal loneBetween (r - 2) x r i)
   -- 19: the subs (0) or the sups (1) of element i of rank r do not strictly ascend
@@ -112,13 +126,52 @@ pub data Named (h : ℕ) (L : Listing) : Answer → Type 0 where
       → ((t : ℕ) → t < s → Ascending (side L t r i)) → ¬ Ascending (side L s r i)
       → Named h L (refusal notAscending r i s 0)
 
+pub record ThreeOf (P : ℕ → Type 0) : Type 0 where
+  pub one : ℕ
+  pub two : ℕ
+  pub three : ℕ
+  pub apart : (one ≢ two) × (one ≢ three) × (two ≢ three)
+  pub each : P one × P two × P three
+
+pub record OneOf (P : ℕ → Type 0) : Type 0 where
+  pub one : ℕ
+  pub has : P one
+  pub no-second : (w : ℕ) → P w → w ≡ one
+
+pub record BetweenNamed (L : Listing) (a : Answer) : Type 0 where
+  pub third : a .no ≡ thirdBetween → ThreeOf (Between L (a .c) (a .d) (a .b))
+  pub lone : a .no ≡ loneBetween → OneOf (Between L (a .c) (a .d) (a .b))
+
 module _ {K A X : Type 0} where
   abbrev pub Names : (K → Three A → Answer → X → Type 0) → (Listing → ℕ) → Type 0
   Names P h = Says P (λ a r x. r .no ≢ 0 → Named (h (lent a)) (lent a) r)
 
+  abbrev pub CarryNothing : (K → A → Built → X → Type 0) → Type 0
+  CarryNothing P = Says P (λ a r x. r .answer ≡ plain (r .answer .no))
+
 pub record RefusalsNamed : Type 0 where
+  -- bounded: what it refuses with is true of the listing
   pub bounded-names : Names bounded.Post (λ L. 0)
+  -- so with check_incidences
   pub incidences-name : Names check-incidences.Post (λ L. 0)
+  -- so with is_dyadic, which asks for the diamond below the top
   pub dyadic-names : Names is-dyadic.Post (λ L. rank L - 1)
+  -- so with is_valid, which does too
   pub valid-names : Names is-valid.Post (λ L. rank L - 1)
+  -- so with closed, which asks for it up to the top
   pub closed-names : Names closed.Post (λ L. rank L)
+  -- where no list holds an index twice, occurrences are elements: 17 and 18 of is_dyadic
+  pub dyadic-between : Says is-dyadic.Post (λ a r x. Distinct (lent a) → BetweenNamed (lent a) r)
+  -- and of is_valid
+  pub valid-between : Says is-valid.Post (λ a r x. Distinct (lent a) → BetweenNamed (lent a) r)
+  -- and of closed, which has then seen to that
+  pub closed-between : Says closed.Post (λ a r x. BetweenNamed (lent a) r)
+  -- a change refuses as closed does, with its fields; then with numbers that carry nothing
+  pub change-names : Says change.Post (λ a r x. r .answer .no ≢ 0 → Named (rank (lent a)) (lent a) (r .answer))
+  -- so does a search
+  pub search-names : Says search.Post (λ a r x. r .answer .no ≢ 0 → Named (rank (lent a)) (lent a) (r .answer))
+  -- the refusals of the products carry nothing
+  pub duopyramid-plain : CarryNothing duopyramid.Post
+  pub duoprism-plain : CarryNothing duoprism.Post
+  pub duotegum-plain : CarryNothing duotegum.Post
+  pub duocomb-plain : CarryNothing duocomb.Post
