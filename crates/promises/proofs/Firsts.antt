@@ -1,6 +1,6 @@
 -- Where a refusal comes from: of a row of tests, the first that refuses, and every test before it passed.
 -- Assumes nothing.
-use mathlib.Core.Path.{_≡_, refl, sym, ap, _∙_, subst}
+use mathlib.Core.Path.{_≡_, refl, sym, ap, subst}
 use mathlib.Core.Logic.{_≢_, _⊎_, inl, inr, ⊎-elim}
 use mathlib.Core.Bool.{Bool, true, false, cond}
 use mathlib.Core.List.{List, [], _∷_, _++_}
@@ -14,9 +14,10 @@ use Rattle.listing.specs.declared.Answer.{Answer}
 use Rattle.listing.specs.Answers.{fine, on, _orElse_, firstIn, firstFor, firstOf}
 use Rattle.listing.specs.Listing.{Listing, count}
 use Rattle.listing.proofs.Answers.{or-fine, or-stop, on-no, of-each}
+use Rattle.searching.specs.Course.{Earlier}
 use Rattle.diamond.specs.Dyadic.{thirdTest}
 use Rattle.diamond.proofs.Counting.{occurs-nil, occurs-cons, still}
-use Rattle.promises.specs.Named.{Earlier, FirstIn, FirstThird}
+use Rattle.promises.specs.Named.{FirstIn, FirstThird}
 use Rattle.promises.proofs.Broken.{zero-or}
 
 module _ (Q : Answer → Type 0) where
@@ -63,12 +64,12 @@ module _ (Q : Answer → Type 0) where
     tells-in [] g = tells-fine
     tells-in (y ∷ l) g =
         tells-or (f y) (firstIn f l)
-        (g y (record { done = []; rest = l; stands = refl; before = λ x m. absurd m }))
+        (g y (record { done = []; rest = l; stands = refl; earlier = λ x m. absurd m }))
         (λ z. tells-in l (λ x p. g x (record {
           done = y ∷ p .done;
           rest = p .rest;
           stands = ap (λ (t : List ℕ). y ∷ t) (p .stands);
-          before = λ w m. ⊎-elim (λ e. subst (λ (n : ℕ). f n .no ≡ 0) (sym e) z) (p .before w) m;
+          earlier = λ w m. ⊎-elim (λ e. subst (λ (n : ℕ). f n .no ≡ 0) (sym e) z) (p .earlier w) m;
         })))
 
     -- along a walk that refuses what it meets a third time
@@ -96,7 +97,7 @@ module _ (Q : Answer → Type 0) where
           rest = rest;
           stands = e;
           twice = omega (arith, c, a x, occurs-nil x);
-          before = λ y. omega (arith, a y, occurs-nil y);
+          earlier = λ y. omega (arith, a y, occurs-nil y);
         }))
 
   -- ---- along the elements of the ranks from a up to, not including, b

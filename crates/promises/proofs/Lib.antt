@@ -5,6 +5,7 @@ pub mod Numbers
 pub mod Refused
 pub mod Produced
 pub mod Searched
+pub mod NamedIncidences
 pub mod NamedTests
 pub mod Named
 pub mod DemandOne

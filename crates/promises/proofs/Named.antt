@@ -1,11 +1,11 @@
 -- A refusal is true of what it names: of whatever the contracts admit. What is counted by occurrence is then said of
 -- elements, and the refusals that carry nothing are seen to carry nothing.
 -- Assumes nothing.
-use mathlib.Core.Path.{_≡_, refl, sym, ap, _∙_}
+use mathlib.Core.Path.{_≡_, refl, _∙_}
 use mathlib.Core.Logic.{_≢_, _⊎_, inl, inr}
 use mathlib.Core.Bool.{Bool, true, false, not, _&&_, _||_}
 use mathlib.Core.List.{List, [], _∷_}
-use Prim.Native.Nat.{ℕ, zero, suc, _+_, _-_, _≤_, _<_}
+use Prim.Native.Nat.{ℕ, _≤_, _<_}
 use native.Mathlib.Omega.{arith}
 use lib.Dec.{ltb, eqb}
 use lib.ListN.{length}
@@ -15,9 +15,9 @@ use Rattle.listing.specs.declared.Answer.{Answer}
 use Rattle.listing.specs.Answers.{plain, on, _orElse_}
 use Rattle.listing.specs.Listing.{Listing, Limits, limits, rank, count}
 use Rattle.listing.specs.Shape.{elements, shapeTest}
-use Rattle.listing.proofs.Answers.{or-fine, or-stop}
+use Rattle.listing.proofs.Answers.{or-fine, or-stop, no-of}
 use Rattle.matching.specs.Incidence.{Incident, incidencesTest}
-use Rattle.diamond.specs.Dyadic.{walk, Between, Distinct, dyadicTest}
+use Rattle.diamond.specs.Dyadic.{walk, Between, Distinct}
 use Rattle.diamond.proofs.Counting.{occurs-cons, occurs-own}
 use Rattle.diamond.proofs.Twos.{Once, once-head, once-tail}
 use Rattle.diamond.proofs.DyadicExact.{over, over-between, over-once, met-over}
@@ -36,7 +36,7 @@ use Rattle.masks.specs.Masks.{maskFits}
 use Rattle.walking.specs.Searched.{foundBy}
 use Rattle.search.specs.Outcome.{searchTest}
 use Rattle.promises.specs.Entries.{lent, flag, mask, tables}
-use Rattle.promises.specs.Named.{FirstThird, Named, shape, flags, not-bounded, no-subs, no-sups, sub-not-back}
+use Rattle.promises.specs.Named.{FirstThird, Named, of-shape, of-flags, not-bounded, no-subs, no-sups, sub-not-back}
 use Rattle.promises.specs.Named.{sup-not-back, sub-missing, sup-missing, third-between, lone-between}
 use Rattle.promises.specs.Named.{not-ascending, ThreeOf, OneOf, BetweenNamed, RefusalsNamed}
 use Rattle.promises.proofs.Broken.{zero-or}
@@ -68,7 +68,7 @@ three-in (a ∷ b ∷ c ∷ l) o h = record {
 one-in : (l : List ℕ) → length l ≡ 1 → OneOf (λ x. In x l)
 unfolding In
 one-in [] h = absurd (omega arith)
-one-in (a ∷ []) h = record { one = a; has = inl refl; no-second = only }
+one-in (a ∷ []) h = record { one = a; first = inl refl; no-second = only }
   where
     only : (w : ℕ) → (w ≡ a) ⊎ ⊥ → w ≡ a
     only w (inl e) = e
@@ -77,8 +77,13 @@ one-in (a ∷ b ∷ l) h = absurd (omega arith)
 
 third-occurs : {x : ℕ} {l : List ℕ} → FirstThird x l → 3 ≤ occurs x l
 third-occurs {x} t =
-    rw (t .stands) (omega (arith, occurs-append x (t .done) (x ∷ t .rest), occurs-cons x x (t .rest), occurs-own x,
-    t .twice))
+    rw (t .stands) (omega (
+      arith,
+      occurs-append x (t .done) (x ∷ t .rest),
+      occurs-cons x x (t .rest),
+      occurs-own x,
+      t .twice,
+    ))
 
 module _ (L : Listing) (I : Incident L) (D : Distinct L) (r i x : ℕ) (k : i < count L r) where
   three-between : 3 ≤ occurs x (walk L r i) → ThreeOf (Between L r i x)
@@ -98,18 +103,18 @@ module _ (L : Listing) (I : Incident L) (D : Distinct L) (r i x : ℕ) (k : i < 
       let t = one-in (over L r i x) (omega (arith, met-over L I D r i x k)) in
       record {
         one = t .one;
-        has = over-between L r i x (t .one) .0 (t .has);
+        first = over-between L r i x (t .one) .0 (t .first);
         no-second = λ w b. t .no-second w (over-between L r i x w .1 b);
       }
 
 -- another number than these
 neither : {L : Listing} {a : Answer} → (a .no < 17) ⊎ (18 < a .no) → BetweenNamed L a
-neither (inl h) = record { third = λ e. absurd (omega arith); lone = λ e. absurd (omega arith) }
-neither (inr h) = record { third = λ e. absurd (omega arith); lone = λ e. absurd (omega arith) }
+neither (inl h) = record { three = λ e. absurd (omega arith); single = λ e. absurd (omega arith) }
+neither (inr h) = record { three = λ e. absurd (omega arith); single = λ e. absurd (omega arith) }
 
 between-named : (h : ℕ) (L : Listing) {a : Answer} → Distinct L → Named h L a → BetweenNamed L a
-between-named h L D (shape n p q) = neither (inl (omega arith))
-between-named h L D (flags n p q) = neither (inr (omega arith))
+between-named h L D (of-shape n p q) = neither (inl (omega arith))
+between-named h L D (of-flags n p q) = neither (inr (omega arith))
 between-named h L D (not-bounded b) = neither (inl (omega arith))
 between-named h L D (no-subs r i F p e) = neither (inl (omega arith))
 between-named h L D (no-sups r i F l p e) = neither (inl (omega arith))
@@ -118,12 +123,12 @@ between-named h L D (sup-not-back r i x F l K q n) = neither (inl (omega arith))
 between-named h L D (sub-missing r i x F K q) = neither (inl (omega arith))
 between-named h L D (sup-missing r i x F l K q) = neither (inl (omega arith))
 between-named h L D (third-between r i x I F p q t) = record {
-  third = λ e. three-between L I D r i x (F .exists) (third-occurs t);
-  lone = λ e. absurd (omega arith);
+  three = λ e. three-between L I D r i x (F .exists) (third-occurs t);
+  single = λ e. absurd (omega arith);
 }
 between-named h L D (lone-between r i x I F p q a o s) = record {
-  third = λ e. absurd (omega arith);
-  lone = λ e. one-between L I D r i x (F .exists) o;
+  three = λ e. absurd (omega arith);
+  single = λ e. one-between L I D r i x (F .exists) o;
 }
 between-named h L D (not-ascending r i s F p a n) = neither (inr (omega arith))
 
@@ -151,8 +156,8 @@ module _ (m : Limits) (L : Listing) where
 
   closed-tells : Tells (BetweenNamed L) (tests.closed m L)
   closed-tells s = record {
-    third = λ e. between-named (rank L) L (closed-distinct s (omega arith) (omega arith)) (closed-named m L s) .third e;
-    lone = λ e. between-named (rank L) L (closed-distinct s (omega arith) (omega arith)) (closed-named m L s) .lone e;
+    three = λ e. between-named (rank L) L (closed-distinct s (omega arith) (omega arith)) (closed-named m L s) .three e;
+    single = λ e. between-named (rank L) L (closed-distinct s (omega arith) (omega arith)) (closed-named m L s) .single e;
   }
 
 -- ---- changes and searches
@@ -162,7 +167,7 @@ module _ (m : Limits) (L : Listing) (f : List ℕ) where
   N = Named (rank L) L
 
   flags-tells : (t : Bool) (n : ℕ) → 20 ≤ n → n ≤ 22 → Tells N (on t (plain n))
-  flags-tells t n p q = tells-on N t (plain n) (λ e. flags n p q)
+  flags-tells t n p q = tells-on N t (plain n) (λ e. of-flags n p q)
 
   start-tells : Tells N (startTest m L f)
   unfolding startTest
@@ -184,6 +189,23 @@ module _ (m : Limits) (L : Listing) (f : List ℕ) where
       tells-or N (on out (plain 21)) (on (foundBy L f mask room .over) (plain 22))
       (flags-tells out 21 (omega arith) (omega arith))
       (λ _. flags-tells (foundBy L f mask room .over) 22 (omega arith) (omega arith)))
+
+  -- where closed refuses, the refusal is closed's
+  module _ (z : tests.closed m L .no ≢ 0) where
+    start-refused : startTest m L f ≡ tests.closed m L
+    unfolding startTest
+    start-refused = or-stop (tests.closed m L) _ z
+
+    start-stops : startTest m L f .no ≢ 0
+    start-stops e = z (no-of start-refused e)
+
+    change-refused : (r : ℕ) → changeTest m L f r ≡ tests.closed m L
+    unfolding changeTest
+    change-refused r = or-stop (startTest m L f) _ start-stops ∙ start-refused
+
+    search-refused : (mask room : ℕ) → searchTest m L f mask room ≡ tests.closed m L
+    unfolding searchTest
+    search-refused mask room = or-stop (startTest m L f) _ start-stops ∙ start-refused
 
 -- ---- products
 
@@ -227,6 +249,7 @@ outcome-plain min max {A} {B} {c} {e} {i} {c′} {e′} {i′} {r} o =
 pub refusals-named : RefusalsNamed
 unfolding changedOf
 refusals-named = record {
+  shape-names = λ k a r x p. rw p (shape-tells (Named 0 (lent a)) (λ n p q. of-shape n p q) limits (lent a));
   bounded-names = λ k a r x p. rw p (bounded-named limits (lent a));
   incidences-name = λ k a r x p. rw p (incidences-named limits (lent a));
   dyadic-names = λ k a r x p. rw p (dyadic-named limits (lent a));
@@ -237,6 +260,11 @@ refusals-named = record {
   valid-between = λ k a r x p D. rw p
       (between-tells (λ s. between-named _ (lent a) D (valid-named limits (lent a) s)));
   closed-between = λ k a r x p. rw p (between-tells (closed-tells limits (lent a)));
+  change-as-closed = λ k l a c r s x y p q e. rw (p, q, e)
+      (λ z. change-refused limits (lent a) (flag c) z (mask c));
+  search-as-closed = λ k l a c r s x y p q e. rw (p, q .0, e)
+      (λ z. said (lent a) (flag c) (mask c) (tables c .0) (tables c .1)
+      ∙ search-refused limits (lent a) (flag c) z (mask c) _);
   change-names = λ k a r x p. rw p (change-tells limits (lent a) (flag a) (mask a));
   search-names = λ k a r x p. rw (p .0, said (lent a) (flag a) (mask a) (tables a .0) (tables a .1))
       (search-tells limits (lent a) (flag a) (mask a) _);

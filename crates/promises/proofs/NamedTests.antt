@@ -1,43 +1,36 @@
--- A refusal of a test is true of what its fields name, and names the first thing that is wrong: test by test, then the
--- five tests as a whole.
+-- A refusal of a test is true of what its fields name, and names the first thing that is wrong: shape, bounds, ascent
+-- and the diamond, then the five tests as a whole.
 -- Assumes nothing.
-use mathlib.Core.Path.{_≡_, refl, sym, ap, _∙_}
+use mathlib.Core.Path.{_≡_, refl, sym, _∙_}
 use mathlib.Core.Logic.{inl}
-use mathlib.Core.Bool.{Bool, true, false, not, _&&_}
+use mathlib.Core.Bool.{Bool, not, _&&_}
 use mathlib.Core.List.{List, [], _∷_}
 use Prim.Native.Nat.{ℕ, zero, suc, _+_, _-_, _*_, _≤_, _<_}
 use native.Mathlib.Omega.{arith}
-use borrow.Author.Tests.{eqb-true, eqb-false, ltb-true, ltb-false, lt-ltb, not-false}
+use borrow.Author.Tests.{eqb-true, eqb-false}
 use lib.Dec.{ltb, eqb}
 use lib.ListN.{length}
-use Rattle.order.specs.Lists.{In, has, Ascending, occurs}
-use Rattle.order.proofs.Lists.{has-no, occurs-some, in-right, append-in}
-use Rattle.order.proofs.Tests.{and-true}
+use Rattle.order.specs.Lists.{In, Ascending, occurs}
+use Rattle.order.proofs.Lists.{in-right}
 use Rattle.listing.specs.declared.Answer.{Answer}
-use Rattle.listing.specs.Answers.{plain, refusal, fine, on, _orElse_}
-use Rattle.listing.specs.Listing.{Listing, Limits, rank, count, below, before, entries, side, subs, sups}
+use Rattle.listing.specs.Answers.{plain, on, _orElse_}
+use Rattle.listing.specs.Listing.{Listing, Limits, rank, count, side}
 use Rattle.listing.specs.Shape.{elements, fills, shapeTest}
-use Rattle.listing.proofs.Answers.{no-or, on-no}
-use Rattle.matching.specs.Incidence.{entryTest, alongTest, elementTest, incidencesTest, Incident}
-use Rattle.matching.specs.Ways.{listTest}
-use Rattle.matching.proofs.Sequences.{in-some}
-use Rattle.matching.proofs.IncidenceExact.{Down, Up, entry-exact, down-exact, element-exact}
-use Rattle.matching.proofs.IncidenceExact.{below-is, incidences-exact}
-use Rattle.diamond.specs.Dyadic.{walk, thirdTest, seenAfter, loneTest, third, lone, sectionsTest, dyadicTest}
+use Rattle.listing.proofs.Answers.{on-no}
+use Rattle.matching.specs.Incidence.{incidencesTest, Incident}
+use Rattle.matching.proofs.IncidenceExact.{incidences-exact}
+use Rattle.diamond.specs.Dyadic.{walk, seenAfter, loneTest, third, lone, sectionsTest, dyadicTest}
 use Rattle.diamond.proofs.Counting.{occurs-nil, third-each, all-seen, sections-exact}
 use Rattle.diamond.proofs.DyadicExact.{there}
-use Rattle.valid.specs.Bounds.{boundedTest, Bounded}
+use Rattle.valid.specs.Bounds.{boundedTest}
 use Rattle.valid.specs.Ascent.{climbs, sideAscent, elementAscent, ascentTest}
 use Rattle.valid.specs.Tests as tests
 use Rattle.valid.proofs.BoundsExact.{bounded-exact}
-use Rattle.valid.proofs.AscentExact.{side-exact, element-exact as ascent-at}
-use Rattle.promises.specs.Named.{Earlier, FirstAt, FirstIn, SubKept, SupKept, Lower, Upper, Joined, Paired, Climbing}
-use Rattle.promises.specs.Named.{FirstThird, Named}
-use Rattle.promises.specs.Named.{shape, not-bounded, no-subs, no-sups, sub-not-back}
-use Rattle.promises.specs.Named.{sup-not-back, sub-missing, sup-missing, third-between, lone-between}
-use Rattle.promises.specs.Named.{not-ascending}
-use Rattle.promises.proofs.Firsts.{Tells, tells-or, tells-on, tells-cond, tells-of, tells-in, tells-third}
-use Rattle.promises.proofs.Firsts.{tells-elements}
+use Rattle.valid.proofs.AscentExact.{side-exact, element-exact}
+use Rattle.promises.specs.Named.{FirstAt, AscendsAt, MetTwiceAt, FirstThird, Named, of-shape, not-bounded}
+use Rattle.promises.specs.Named.{third-between, lone-between, not-ascending}
+use Rattle.promises.proofs.Firsts.{Tells, tells-or, tells-on, tells-of, tells-third, tells-elements}
+use Rattle.promises.proofs.NamedIncidences.{incidences-tells}
 
 -- ---- shape
 
@@ -88,47 +81,9 @@ module _ (Q : Answer → Type 0) (g : (n : ℕ) → 1 ≤ n → n ≤ 6 → Q (p
       after1 : Answer
       after1 = on (ltb (m .ranks) n) (plain 2) orElse after2
 
--- ---- small laws
-
-not-true : (b : Bool) → not b ≡ true → b ≡ false
-not-true true e = sym e
-not-true false e = refl
-
-not-less : {a b : ℕ} → ¬ (a < b) → b ≤ a
-not-less n = omega arith
-
--- ---- an element's lists, by the laws of test 2
-
-none-in : (l : List ℕ) → length l ≡ 0 → l ≡ []
-none-in [] e = refl
-none-in (x ∷ l) e = absurd (omega arith)
-
-first-map : {P R : ℕ → Type 0} {x : ℕ} {l : List ℕ} → ((y : ℕ) → P y → R y) → FirstIn P x l → FirstIn R x l
-first-map g f = record {
-  done = f .done;
-  rest = f .rest;
-  stands = f .stands;
-  before = λ y m. g y (f .before y m);
-}
-
 third-in : {x : ℕ} {l : List ℕ} → FirstThird x l → In x l
 unfolding In
 third-in {x} t = rw (t .stands) (in-right x (t .done) (x ∷ t .rest) (inl refl))
-
-lower-of : (L : Listing) (r i : ℕ) → Down L r i → Lower L r i
-lower-of L r i d = record {
-  some = λ k e. let p = d .some (lt-ltb 0 r k) in in-some (subs L r i) (p .0) (p .1) (ap length e);
-  each = λ x m.
-      let b = d .back x m in
-      let p = below-is L r x .0 (b .0) in
-      (p .0, p .1, b .1);
-}
-
-upper-of : (L : Listing) (r i : ℕ) → Up L r i → Upper L r i
-upper-of L r i u = record {
-  some = λ k e. let p = u .some (lt-ltb r (rank L) k) in in-some (sups L r i) (p .0) (p .1) (ap length e);
-  each = λ x m. u .back x m;
-}
 
 module _ (h : ℕ) (L : Listing) where
   abbrev N : Answer → Type 0
@@ -145,80 +100,9 @@ module _ (h : ℕ) (L : Listing) where
       tells-on N (not (eqb (count L 0) 1 && eqb (count L (rank L)) 1)) _
       (λ e. not-bounded (λ B. s (bounded-exact L .1 B))) s
 
-  -- ---- test 2
-
-  module _ (n b s missing oneway : ℕ) (hm : 0 < missing) (ho : 0 < oneway) (r i : ℕ) where
-    abbrev leads : ℕ → List ℕ
-    leads x = entries (L .ends) (L .inc) (2 * (b + x) + s)
-
-    abbrev entry : ℕ → Answer
-    entry x = entryTest n (leads x) missing oneway r i x
-
-    abbrev Kept : ℕ → Type 0
-    Kept x = (x < n) × In i (leads x)
-
-    entry-tells : (x : ℕ) → (x < n → ¬ In i (leads x) → N (refusal oneway r i x 0))
-        → (n ≤ x → N (refusal missing r i x 0)) → Tell (entry x)
-    unfolding entryTest
-    entry-tells x one miss =
-        tells-cond N (ltb x n) _ _
-        (λ e. tells-on N (not (has (leads x) i)) _ (λ f. one (ltb-true _ _ e) (has-no i (leads x) .0 (not-true _ f))))
-        (λ e z. miss (ltb-false _ _ e))
-
-    -- along a list whose entries may name n elements: what the refusals come to
-    along-tells : (list : List ℕ)
-        → ((x : ℕ) → FirstIn Kept x list → x < n → ¬ In i (leads x) → N (refusal oneway r i x 0))
-        → ((x : ℕ) → FirstIn Kept x list → n ≤ x → N (refusal missing r i x 0))
-        → Tell (alongTest (L .ends) (L .inc) n b s missing oneway r i list)
-    unfolding alongTest
-    along-tells list one miss =
-        tells-in N entry list (λ x f.
-        let K = first-map (λ y z. entry-exact n (leads y) missing oneway r i y hm ho .0 z) f in
-        entry-tells x (one x K) (miss x K))
-
-  none-tells : (t : Bool) (list : List ℕ) (a : Answer) → (t ≡ true → list ≡ [] → N a)
-      → Tell (on (t && eqb (length list) 0) a)
-  none-tells t list a g =
-      tells-on N (t && eqb (length list) 0) a
-      (λ e. let p = and-true _ _ e in g (p .0) (none-in list (eqb-true _ _ (p .1))))
-
-  element-tells : (r i : ℕ) → FirstAt L 0 (Joined L) r i → Tell (elementTest L r i)
-  unfolding elementTest listTest
-  element-tells r i F =
-      tells-or N _ _
-      (none-tells (ltb 0 r) (subs L r i) _ (λ a e. no-subs r i F (ltb-true 0 r a) e)) (λ z.
-      tells-or N _ _
-      (along-tells (below L r) (before (L .counts) (r - 1)) 1 15 13 (omega arith) (omega arith) r i (subs L r i)
-      (λ x K l n. let p = below-is L r x .0 l in sub-not-back r i x F (kept K) (p .0) (p .1) n)
-      (λ x K l. sub-missing r i x F (kept K) (missing x l))) (λ y.
-      let D = lower-of L r i (down-exact L r i .0 (no-or _ _ z y)) in
-      tells-or N _ _
-      (none-tells (ltb r (rank L)) (sups L r i) _ (λ a e. no-sups r i F D (ltb-true r (rank L) a) e)) (λ _.
-      along-tells (count L (r + 1)) (before (L .counts) (r + 1)) 0 16 14 (omega arith) (omega arith) r i (sups L r i)
-      (λ x K l n. sup-not-back r i x F D K l n)
-      (λ x K l. sup-missing r i x F D K l))))
-    where
-      kept : {x : ℕ} → FirstIn (λ y. (y < below L r) × In i (sups L (r - 1) y)) x (subs L r i)
-          → FirstIn (SubKept L r i) x (subs L r i)
-      kept = first-map (λ y k. let p = below-is L r y .0 (k .0) in (p .0, p .1, k .1))
-
-      missing : (x : ℕ) → below L r ≤ x → 0 < r → count L (r - 1) ≤ x
-      missing x l p = not-less (λ c. let q = below-is L r x .1 (p, c) in omega arith)
-
-  incidences-tells : Tell (incidencesTest L)
-  unfolding incidencesTest
-  incidences-tells =
-      tells-elements N L (elementTest L) 0 (length (L .counts)) (λ r i _ _ k early. element-tells r i (record {
-        exists = k;
-        from = omega arith;
-        before = λ q j l m e.
-            let p = element-exact L q j .0 (early q j l m e) in
-            (lower-of L q j (p .0), upper-of L q j (p .1));
-      }))
-
   -- ---- ascent
 
-  side-tells : (r i s : ℕ) → s < 2 → FirstAt L 0 (Climbing L) r i → ((t : ℕ) → t < s → Ascending (side L t r i))
+  side-tells : (r i s : ℕ) → s < 2 → FirstAt L 0 (AscendsAt L) r i → ((t : ℕ) → t < s → Ascending (side L t r i))
       → Tell (sideAscent L r i s)
   side-tells r i s l F low z =
       tells-on N (not (climbs 0 (side L s r i))) _
@@ -228,10 +112,10 @@ module _ (h : ℕ) (L : Listing) where
   unfolding ascentTest elementAscent
   ascent-tells =
       tells-elements N L (elementAscent L) 0 (length (L .counts)) (λ r i _ _ k early.
-      let F : FirstAt L 0 (Climbing L) r i = record {
+      let F : FirstAt L 0 (AscendsAt L) r i = record {
         exists = k;
         from = omega arith;
-        before = λ q j l m e. ascent-at L q j .0 (early q j l m e);
+        earlier = λ q j l m e. element-exact L q j .0 (early q j l m e);
       } in
       tells-or N (sideAscent L r i 0) (sideAscent L r i 1)
       (side-tells r i 0 (omega arith) F (λ t l. absurd (omega arith)))
@@ -243,7 +127,7 @@ module _ (h : ℕ) (L : Listing) where
 
   -- ---- test 3, where test 2 passes
 
-  section-tells : Incident L → (r i : ℕ) → FirstAt L 2 (Paired L) r i → r ≤ h → Tell (sectionsTest L r i)
+  section-tells : Incident L → (r i : ℕ) → FirstAt L 2 (MetTwiceAt L) r i → r ≤ h → Tell (sectionsTest L r i)
   unfolding sectionsTest loneTest
   section-tells I r i F hr =
       tells-or N _ _
@@ -251,8 +135,12 @@ module _ (h : ℕ) (L : Listing) where
       (there L I r i x (F .exists) (third-in t)) t))
       (λ z. tells-of N (λ x. on (eqb (occurs x seen) 1) (lone r i x)) 0 (count L (r - 2)) (λ x _ l early.
       tells-on N (eqb (occurs x seen) 1) (lone r i x) (λ e. lone-between r i x I F hr l
-      (λ y. omega (arith, third-each (third r i) (λ x e. omega arith) [] (walk L r i) z y
-      (omega (arith, occurs-nil y)), occurs-nil y))
+      (λ y. omega (
+        arith,
+        third-each (third r i) (λ x e. omega arith) [] (walk L r i) z y
+            (omega (arith, occurs-nil y)),
+        occurs-nil y,
+      ))
       (sym (all-seen L r i x) ∙ eqb-true _ _ e)
       (λ y m q. eqb-false (occurs y seen) 1
       (on-no (eqb (occurs y seen) 1) (lone r i y) (λ e. omega arith) (early y (omega arith) m))
@@ -267,14 +155,14 @@ module _ (h : ℕ) (L : Listing) where
       tells-elements N L (sectionsTest L) 2 (h + 1) (λ r i l m k early. section-tells I r i (record {
         exists = k;
         from = l;
-        before = λ q j a b e. sections-exact L q j (λ y. there L I q j y b) .0 (early q j a b e);
+        earlier = λ q j a b e. sections-exact L q j (λ y. there L I q j y b) .0 (early q j a b e);
       }) (omega arith))
 
 -- ---- the five tests
 
 module _ (m : Limits) (L : Listing) (h : ℕ) where
   after-shape : (y : Answer) → Tells (Named h L) y → Tells (Named h L) (shapeTest m L orElse y)
-  after-shape y t = tells-or (Named h L) (shapeTest m L) y (shape-tells (Named h L) (λ n p q. shape n p q) m L) (λ _. t)
+  after-shape y t = tells-or (Named h L) (shapeTest m L) y (shape-tells (Named h L) (λ n p q. of-shape n p q) m L) (λ _. t)
 
   after-bounded : (y : Answer) → Tells (Named h L) y → Tells (Named h L) (boundedTest L orElse y)
   after-bounded y t = tells-or (Named h L) (boundedTest L) y (bounded-tells h L) (λ _. t)
