@@ -39,7 +39,7 @@ seen-occurs x s [] = omega (arith, occurs-nil x)
 seen-occurs x s (y ∷ l) = omega (arith, seen-occurs x (y ∷ s) l, occurs-cons x y s, occurs-cons x y l)
 
 -- one number more, which had not been met twice
-still : (x y : ℕ) (s : List ℕ) → occurs y s < 2 → occurs x s ≤ 2 → occurs x (y ∷ s) ≤ 2
+pub still : (x y : ℕ) (s : List ℕ) → occurs y s < 2 → occurs x s ≤ 2 → occurs x (y ∷ s) ≤ 2
 still x y s h k = go (eqb y x) refl
   where
     go : (b : Bool) → eqb y x ≡ b → occurs x (y ∷ s) ≤ 2
@@ -51,7 +51,7 @@ still x y s h k = go (eqb y x) refl
 -- ---- the two tests of a walk, for refusals that are refusals
 
 module _ (f : ℕ → Answer) (bad : (x : ℕ) → f x .no ≡ 0 → ⊥) where
-  third-each : (s l : List ℕ) → thirdTest f s l .no ≡ 0 → (x : ℕ) → occurs x s ≤ 2 → occurs x s + occurs x l ≤ 2
+  pub third-each : (s l : List ℕ) → thirdTest f s l .no ≡ 0 → (x : ℕ) → occurs x s ≤ 2 → occurs x s + occurs x l ≤ 2
   unfolding thirdTest
   third-each s [] e x h = omega (arith, occurs-nil x)
   third-each s (y ∷ l) e x h =
@@ -86,7 +86,7 @@ module _ (L : Listing) (r i : ℕ) where
   Met = (x : ℕ) → In x (walk L r i) → occurs x (walk L r i) ≡ 2
 
   -- what has been seen at the end of the walk
-  all-seen : (x : ℕ) → occurs x (seenAfter [] (walk L r i)) ≡ occurs x (walk L r i)
+  pub all-seen : (x : ℕ) → occurs x (seenAfter [] (walk L r i)) ≡ occurs x (walk L r i)
   all-seen x = omega (arith, seen-occurs x [] (walk L r i), occurs-nil x)
 
   met-all : sectionsTest L r i .no ≡ 0 → ((x : ℕ) → In x (walk L r i) → x < count L (r - 2)) → Met

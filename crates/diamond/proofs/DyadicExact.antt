@@ -64,7 +64,7 @@ module _ (ends inc : List ℕ) (b x : ℕ) where
 
 module _ (L : Listing) (I : Incident L) where
   -- what lies two ranks lower is there
-  there : (r i x : ℕ) → i < count L r → In x (walk L r i) → x < count L (r - 2)
+  pub there : (r i x : ℕ) → i < count L r → In x (walk L r i) → x < count L (r - 2)
   there r i x h m =
       let p = in-walk (L .ends) (L .inc) (before (L .counts) (r - 1)) x (subs L r i) m in
       let e : r - 1 - 1 ≡ r - 2 = omega arith in
@@ -83,10 +83,10 @@ module _ (L : Listing) (I : Incident L) where
 -- ---- the diamond
 
 -- an element's subs that lie over x
-abbrev over : Listing → ℕ → ℕ → ℕ → List ℕ
+abbrev pub over : Listing → ℕ → ℕ → ℕ → List ℕ
 over L r i x = keep (λ s. has (subs L (r - 1) s) x) (subs L r i)
 
-over-between : (L : Listing) (r i x s : ℕ) → In s (over L r i x) ↔ Between L r i x s
+pub over-between : (L : Listing) (r i x s : ℕ) → In s (over L r i x) ↔ Between L r i x s
 over-between L r i x s = (
   λ m. let p = in-keep _ s (subs L r i) .0 m in (p .0, has-yes x (subs L (r - 1) s) .0 (p .1)),
   λ b. in-keep _ s (subs L r i) .1 (b .0, has-yes x (subs L (r - 1) s) .1 (b .1)),
@@ -94,11 +94,11 @@ over-between L r i x s = (
 
 module _ (L : Listing) (I : Incident L) (D : Distinct L) where
   module _ (r i x : ℕ) (k : i < count L r) where
-    over-once : Once (over L r i x)
+    pub over-once : Once (over L r i x)
     unfolding Distinct
     over-once = once-keep _ (subs L r i) (λ s. D 0 r i s (omega arith) k)
 
-    met-over : occurs x (walk L r i) ≡ length (over L r i x)
+    pub met-over : occurs x (walk L r i) ≡ length (over L r i x)
     unfolding Distinct
     met-over =
         walk-occurs (L .ends) (L .inc) (before (L .counts) (r - 1)) x (subs L r i)

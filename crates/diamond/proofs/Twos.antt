@@ -16,11 +16,11 @@ use Rattle.diamond.proofs.Counting.{occurs-cons, occurs-own}
 abbrev pub Once : List ℕ → Type 0
 Once l = (x : ℕ) → occurs x l ≤ 1
 
-once-tail : (y : ℕ) (l : List ℕ) → Once (y ∷ l) → Once l
+pub once-tail : (y : ℕ) (l : List ℕ) → Once (y ∷ l) → Once l
 once-tail y l h x = omega (arith, h x, occurs-cons x y l)
 
 -- the head does not come again
-once-head : (x : ℕ) (l : List ℕ) → Once (x ∷ l) → ¬ In x l
+pub once-head : (x : ℕ) (l : List ℕ) → Once (x ∷ l) → ¬ In x l
 once-head x l h m = omega (arith, h x, occurs-cons x x l, occurs-own x, occurs-some x l .1 m)
 
 -- ---- what a test keeps

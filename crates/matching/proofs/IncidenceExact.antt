@@ -29,10 +29,10 @@ number a = a .no
 -- ---- an entry
 
 module _ (n : ℕ) (back : List ℕ) (missing notBack r i x : ℕ) (hm : 0 < missing) (hn : 0 < notBack) where
-  abbrev entry : Answer
+  abbrev pub entry : Answer
   entry = entryTest n back missing notBack r i x
 
-  entry-exact : entry .no ≡ 0 ↔ ((x < n) × In i back)
+  pub entry-exact : entry .no ≡ 0 ↔ ((x < n) × In i back)
   entry-exact = (there (ltb x n) refl (has back i) refl, back-again)
     where
       there : (b : Bool) → ltb x n ≡ b → (c : Bool) → has back i ≡ c → entry .no ≡ 0 → (x < n) × In i back
@@ -50,9 +50,9 @@ module _ (n : ℕ) (back : List ℕ) (missing notBack r i x : ℕ) (hm : 0 < mis
 -- ---- a list along its way
 
 -- what it must be: it holds something where asked, and its entries are there and lead back
-record Along (L : Listing) (w : Way) (i : ℕ) (list : List ℕ) : Type 0 where
-  some : w .asked ≡ true → (x : ℕ) × In x list
-  back : (x : ℕ) → In x list → (x < w .n) × In i (entries (L .ends) (L .inc) (2 * (w .b + x) + w .s))
+pub record Along (L : Listing) (w : Way) (i : ℕ) (list : List ℕ) : Type 0 where
+  pub some : w .asked ≡ true → (x : ℕ) × In x list
+  pub back : (x : ℕ) → In x list → (x < w .n) × In i (entries (L .ends) (L .inc) (2 * (w .b + x) + w .s))
 
 -- the refusals of a way are refusals
 record Refuses (w : Way) : Type 0 where
@@ -93,13 +93,13 @@ module _ (L : Listing) (w : Way) (R : Refuses w) (r i : ℕ) (list : List ℕ) w
 -- ---- an element, and the whole
 
 module _ (L : Listing) where
-  abbrev Down : ℕ → ℕ → Type 0
+  abbrev pub Down : ℕ → ℕ → Type 0
   Down r i = Along L (down L r) i (subs L r i)
 
-  abbrev Up : ℕ → ℕ → Type 0
+  abbrev pub Up : ℕ → ℕ → Type 0
   Up r i = Along L (up L r) i (sups L r i)
 
-  down-exact : (r i : ℕ) → lower L r i .no ≡ 0 ↔ Down r i
+  pub down-exact : (r i : ℕ) → lower L r i .no ≡ 0 ↔ Down r i
   down-exact r i =
       let R : Refuses (down L r) = record {
         none = omega arith;
@@ -108,7 +108,7 @@ module _ (L : Listing) where
       } in
       list-exact L (down L r) R r i (subs L r i)
 
-  up-exact : (r i : ℕ) → upper L r i .no ≡ 0 ↔ Up r i
+  pub up-exact : (r i : ℕ) → upper L r i .no ≡ 0 ↔ Up r i
   up-exact r i =
       let R : Refuses (up L r) = record {
         none = omega arith;
@@ -117,7 +117,7 @@ module _ (L : Listing) where
       } in
       list-exact L (up L r) R r i (sups L r i)
 
-  element-exact : (r i : ℕ) → elementTest L r i .no ≡ 0 ↔ (Down r i × Up r i)
+  pub element-exact : (r i : ℕ) → elementTest L r i .no ≡ 0 ↔ (Down r i × Up r i)
   element-exact r i = (
     λ e.
         let p = or-no _ _ (ap number (sym (element-halves L r i)) ∙ e) in
@@ -126,7 +126,7 @@ module _ (L : Listing) where
   )
 
   -- the elements of the rank below
-  below-is : (r x : ℕ) → x < below L r ↔ ((0 < r) × (x < count L (r - 1)))
+  pub below-is : (r x : ℕ) → x < below L r ↔ ((0 < r) × (x < count L (r - 1)))
   below-is zero x = (λ h. absurd (omega arith), λ p. absurd (omega arith))
   below-is (suc r) x =
       let e : suc r - 1 ≡ r = omega arith in

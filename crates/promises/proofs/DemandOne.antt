@@ -22,6 +22,7 @@ use Rattle.promises.proofs.Refused.{counted-broken, shape-alone, bounde
 use Rattle.promises.proofs.Refused.{valid-broken, closed-broken, change-broken}
 use Rattle.promises.proofs.Produced.{produces}
 use Rattle.promises.proofs.Searched.{searches}
+use Rattle.promises.proofs.Named as named
 
 -- the flag of a change that is refused
 refused-flag : (m : Limits) (L : Listing) (f : List ℕ) (r : ℕ) → changedOf m L f r .answer .no ≢ 0
@@ -58,4 +59,5 @@ demand-one = record {
   duoprism-produces = λ k a r x. produces true false;
   duotegum-produces = λ k a r x. produces false true;
   duocomb-produces = λ k a r x. produces true true;
+  refusals-named = named.refusals-named;
 }

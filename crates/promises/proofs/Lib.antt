@@ -1,5 +1,6 @@
 pub mod OneAnswer
 pub mod Broken
+pub mod Firsts
 pub mod Numbers
 pub mod Refused
 pub mod Counted
@@ -7,6 +8,9 @@ pub mod Cases
 pub mod Produced
 pub mod Searched
 pub mod Taking
+pub mod NamedIncidences
+pub mod NamedTests
+pub mod Named
 pub mod DemandOne
 pub mod DemandTwo
 pub mod DemandThree

@@ -45,7 +45,7 @@ refused-of a s = go (a .no)
     go (suc n) h = refl
 
 module _ (L : Listing) (first : List ℕ) (mask : ℕ) (table bytes : List ℕ) where
-  abbrev r : Searched
+  abbrev pub r : Searched
   r = searchedBy limits L first mask table bytes
 
   abbrev t : List ℕ
@@ -54,10 +54,10 @@ module _ (L : Listing) (first : List ℕ) (mask : ℕ) (table bytes : List ℕ) 
   abbrev b : List ℕ
   b = bytesAfter limits L first mask table bytes
 
-  abbrev room : ℕ
+  abbrev pub room : ℕ
   room = roomIn L table bytes
 
-  abbrev test : Answer
+  abbrev pub test : Answer
   test = searchTest limits L first mask room
 
   abbrev last : Answer
@@ -66,7 +66,7 @@ module _ (L : Listing) (first : List ℕ) (mask : ℕ) (table bytes : List ℕ) 
   P : Promised limits L first mask table bytes
   P = promised limits L first mask table bytes
 
-  said : r .answer ≡ test
+  pub said : r .answer ≡ test
   unfolding searchedBy
   said = answer-of test (foundBy L first mask room)
 

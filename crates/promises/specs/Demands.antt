@@ -69,6 +69,7 @@ use Rattle.promises.specs.Rules.{Rule, FirstBroken, countRules, shapeRul
 use Rattle.promises.specs.Rules.{dyadicRules, validRules, closedRules, changeRules}
 use Rattle.promises.specs.Products.{prefix, Produces, Kept, Exchange}
 use Rattle.promises.specs.Searches.{Searches, Found}
+use Rattle.promises.specs.Named.{RefusalsNamed}
 
 module _ {K A X : Type 0} where
   abbrev pub CountRefuses : (K → Slice × A → Number → X → Type 0) → Type 0
@@ -134,6 +135,8 @@ pub record DemandOne : Type 0 where
   pub duotegum-produces : Makes false true duotegum.Post
   -- so does the duocomb, which does both
   pub duocomb-produces : Makes true true duocomb.Post
+  -- a refusal is true of what its fields name, and names the first such thing in order
+  pub refusals-named : RefusalsNamed
 
 pub record DemandTwo : Type 0 where
   -- the rank is one less than the number of ranks

@@ -4,6 +4,7 @@ pub mod Cases
 pub mod Rules
 pub mod Products
 pub mod Searches
+pub mod Named
 pub mod Demands
 pub mod Boundary
 pub mod Starred

@@ -69,7 +69,7 @@ climbs-exact l = (λ e. climbs-each 0 l e .1, λ h. climbs-all 0 l (λ y m. omeg
 -- ---- a listing
 
 module _ (L : Listing) where
-  side-exact : (r i s : ℕ) → sideAscent L r i s .no ≡ 0 ↔ Ascending (side L s r i)
+  pub side-exact : (r i s : ℕ) → sideAscent L r i s .no ≡ 0 ↔ Ascending (side L s r i)
   side-exact r i s = (
     λ e. climbs-exact (side L s r i) .0 (not-false _ (on-no _ (refusal notAscending r i s 0) (λ z. omega arith) e)),
     λ h. on-off _ (refusal notAscending r i s 0) (ap not (climbs-exact (side L s r i) .1 h)),
@@ -82,7 +82,7 @@ module _ (L : Listing) where
       → sideAscent L r i s ≡ refusal notAscending r i s 0
   side-falls r i s e h = rw (← e, h)
 
-  element-exact : (r i : ℕ) → elementAscent L r i .no ≡ 0 ↔ ((s : ℕ) → s < 2 → Ascending (side L s r i))
+  pub element-exact : (r i : ℕ) → elementAscent L r i .no ≡ 0 ↔ ((s : ℕ) → s < 2 → Ascending (side L s r i))
   unfolding elementAscent
   element-exact r i = (
     λ e.
