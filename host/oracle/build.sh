@@ -9,7 +9,8 @@
 # RUSTC names another compiler, and CARGO_BUILD_TARGET another target, as they do for cargo.
 #
 # Makes host/target/oracle/liboracle_checked.rlib (overflow checks and debug assertions, for answers) and
-# liboracle_optimised.rlib (for times), in host/target/TARGET/oracle for another target. The files are only linked to, never copied. Status 2: they were not found.
+# liboracle_optimised.rlib (for times), in host/target/TARGET/oracle for another target. The files are only linked to,
+# never copied. Status 2: they were not found.
 set -eu
 
 here=$(cd "$(dirname "$0")" && pwd)
@@ -51,7 +52,8 @@ done
 compile() {
     name=$1 crate=$2 file=$3
     shift 3
-    "$rustc" ${target:+--target "$target"} --edition 2021 --crate-type rlib --crate-name "$crate" --out-dir "$out" -C metadata="$name" \
+    "$rustc" ${target:+--target "$target"} --edition 2021 --crate-type rlib --crate-name "$crate" \
+        --out-dir "$out" -C metadata="$name" \
         -L dependency="$out" --cap-lints allow "$@" "$file"
 }
 
@@ -69,7 +71,8 @@ build() {
         --extern vec_like="$out/libvec_like-$name.rlib" --extern miratope_core="$out/libmiratope_core-$name.rlib"
 }
 
-"$rustc" --edition 2021 --crate-type proc-macro --crate-name strum_macros --out-dir "$out" "$here/standins/strum_macros.rs"
+"$rustc" --edition 2021 --crate-type proc-macro --crate-name strum_macros --out-dir "$out" \
+    "$here/standins/strum_macros.rs"
 build checked -C opt-level=2 -C overflow-checks=on -C debug-assertions=on
 build optimised -C opt-level=3
 echo "made liboracle_checked.rlib and liboracle_optimised.rlib in host/target/${target:+$target/}oracle from $from"

@@ -36,7 +36,8 @@ use Rattle.masks.specs.Masks.{maskFits}
 use Rattle.walking.specs.Searched.{foundBy}
 use Rattle.search.specs.Outcome.{searchTest}
 use Rattle.promises.specs.Entries.{lent, flag, asked, tables}
-use Rattle.promises.specs.Named.{FirstThird, Named, of-shape, of-flags, not-bounded, no-subs, no-sups, sub-not-back}
+use Rattle.promises.specs.Named.{FirstThird, Named, of-shape, of-flags, not-bounded, no-subs, no-sups}
+use Rattle.promises.specs.Named.{sub-not-back}
 use Rattle.promises.specs.Named.{sup-not-back, sub-missing, sup-missing, third-between, lone-between}
 use Rattle.promises.specs.Named.{not-ascending, ThreeOf, OneOf, BetweenNamed, RefusalsNamed}
 use Rattle.promises.proofs.Broken.{zero-or}
@@ -157,7 +158,8 @@ module _ (m : Limits) (L : Listing) where
   closed-tells : Tells (BetweenNamed L) (tests.closed m L)
   closed-tells s = record {
     three = λ e. between-named (rank L) L (closed-distinct s (omega arith) (omega arith)) (closed-named m L s) .three e;
-    single = λ e. between-named (rank L) L (closed-distinct s (omega arith) (omega arith)) (closed-named m L s) .single e;
+    single = λ e.
+        between-named (rank L) L (closed-distinct s (omega arith) (omega arith)) (closed-named m L s) .single e;
   }
 
 -- ---- changes and searches

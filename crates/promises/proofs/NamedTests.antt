@@ -162,7 +162,8 @@ module _ (h : ℕ) (L : Listing) where
 
 module _ (m : Limits) (L : Listing) (h : ℕ) where
   after-shape : (y : Answer) → Tells (Named h L) y → Tells (Named h L) (shapeTest m L orElse y)
-  after-shape y t = tells-or (Named h L) (shapeTest m L) y (shape-tells (Named h L) (λ n p q. of-shape n p q) m L) (λ _. t)
+  after-shape y t =
+      tells-or (Named h L) (shapeTest m L) y (shape-tells (Named h L) (λ n p q. of-shape n p q) m L) (λ _. t)
 
   after-bounded : (y : Answer) → Tells (Named h L) y → Tells (Named h L) (boundedTest L orElse y)
   after-bounded y t = tells-or (Named h L) (boundedTest L) y (bounded-tells h L) (λ _. t)
