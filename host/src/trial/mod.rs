@@ -8,6 +8,7 @@ pub mod limit;
 pub mod model;
 pub mod question;
 pub mod random;
+pub mod text;
 
 pub use library::{Kind, Library, Test};
 pub use limit::limit_memory;
