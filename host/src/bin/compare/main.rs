@@ -17,6 +17,7 @@ mod oracle;
 mod plain;
 mod replay;
 mod run;
+mod subject;
 mod supply;
 mod tally;
 

@@ -4,7 +4,7 @@ use std::collections::BTreeMap;
 
 use flumedrac::trial::{Question, Random, Reply};
 
-use crate::judge::{By, Subject};
+use crate::subject::{By, Subject};
 
 /// Lines longer than this are not kept, and those of the largest answers if longer than the other.
 const LONGEST: usize = 1200;

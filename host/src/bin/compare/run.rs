@@ -5,8 +5,9 @@ use std::time::Instant;
 
 use flumedrac::trial::{Library, Question};
 
-use crate::judge::{judge, Doubt, Subject};
+use crate::judge::judge;
 use crate::replay::Replay;
+use crate::subject::{Doubt, Subject};
 use crate::tally::{Difference, Tally};
 
 /// A difference was seen, and one is enough.

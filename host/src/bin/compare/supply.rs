@@ -4,8 +4,8 @@ use flumedrac::trial::{cells, Kind, Random, Raw};
 use flumedrac::Listing;
 
 use crate::damage::{written, Lists};
-use crate::judge::Subject;
 use crate::plain;
+use crate::subject::Subject;
 
 /// Listings that have one thing about them.
 pub fn special() -> Vec<Raw> {

@@ -2,7 +2,7 @@
 
 use std::collections::BTreeMap;
 
-use crate::judge::By;
+use crate::subject::By;
 
 /// The smallest question of its kind that was answered otherwise than it should be.
 pub struct Difference {

@@ -1,0 +1,95 @@
+//! The questions that are asked: how much, in which order, and what several parts share.
+
+mod closed;
+mod damaged;
+mod fixed;
+mod small;
+
+use flumedrac::trial::{Kind, Question, Random, Raw, Reply, Test};
+use flumedrac::{MAX_ELEMENTS, MAX_INCIDENCES, MAX_RANKS};
+
+use crate::judge::judge;
+use crate::run::{Caught, Go, Run};
+use crate::subject::Subject;
+
+use closed::{closed_cells, products};
+use damaged::{damaged_cells, random_limits, random_products, random_slices};
+use fixed::{limits, listings_to_try, shapes};
+use small::{counts, numbers, small_listings, small_relations, small_slices};
+
+/// How much is asked.
+#[derive(Clone, Copy)]
+pub struct Scale {
+    /// Incidences of the small listings that are tried exhaustively.
+    pub incidences: usize,
+    /// Elements in each rank of the small relations that are tried exhaustively.
+    pub elements: usize,
+    /// Damaged cells, and random slices.
+    pub rounds: usize,
+}
+
+impl Scale {
+    pub const FULL: Scale = Scale { incidences: 6, elements: 3, rounds: 200_000 };
+    pub const SMALL: Scale = Scale { incidences: 4, elements: 2, rounds: 2_000 };
+}
+
+/// Everything, one part after another.
+pub fn all(run: &mut Run<'_>, scale: Scale, seed: u64) -> Go {
+    let random = &mut Random::new(seed);
+    run.choose(true);
+    run.part("listings to try", listings_to_try)?;
+    run.choose(false);
+    run.part("numbers, classes, events", numbers)?;
+    run.part("counts", |run| counts(run, random))?;
+    run.part("slices of every length around the limits", shapes)?;
+    run.part("random slices around the limits", |run| random_limits(run, random, scale.rounds / 200))?;
+    run.part("all small slices", small_slices)?;
+    run.part("all small listings", |run| small_listings(run, scale.incidences))?;
+    run.part("all small relations", |run| small_relations(run, scale.elements))?;
+    run.part("damaged cells", |run| damaged_cells(run, random, scale.rounds))?;
+    run.part("random slices", |run| random_slices(run, random, scale.rounds))?;
+    run.part("closed cells: tests, changes, searches", |run| closed_cells(run, random))?;
+    run.part("products of cells", |run| products(run, random))?;
+    run.part("products of random valid listings", |run| random_products(run, random, scale.rounds / 4))?;
+    run.part("products and searches at the limits", limits)
+}
+
+/// Enough room for any product.
+const ALL_ROOM: [usize; 3] = [MAX_RANKS, 2 * MAX_ELEMENTS, MAX_INCIDENCES];
+
+fn tests(run: &mut Run<'_>, cell: &Subject) -> Go {
+    Test::ALL.iter().try_for_each(|&test| run.ask(Question::Test(test, cell)))
+}
+
+/// How many flags a search finds, if nothing refuses it; else 1.
+fn reached(cell: &Subject, first: &[u16], mask: u16) -> usize {
+    let question = Question::Events { cell, first: first.to_vec(), mask };
+    let flags = |reply: Reply| reply.slices.iter().filter(|event| !event.is_empty()).count();
+    judge(&question).map_or(0, |(reply, _)| flags(reply)).max(1)
+}
+
+/// A product with all room, and if it is answered with exactly its room, one number less of each, none, and one more.
+fn room_for_product(run: &mut Run<'_>, kind: Kind, p: &Subject, q: &Subject) -> Result<Option<Raw>, Caught> {
+    let ask = |room| Question::Product { kind, p, q, room };
+    run.ask(ask(ALL_ROOM))?;
+    let Ok((reply, _)) = judge(&ask(ALL_ROOM)) else {
+        return Ok(None);
+    };
+    if reply.numbers[0] != 0 {
+        run.ask(ask([0, 0, 0]))?;
+        return Ok(None);
+    }
+    let size = [5, 6, 7].map(|at| reply.numbers[at] as usize);
+    run.ask(ask(size))?;
+    run.ask(ask(size.map(|n| n + 1)))?;
+    run.ask(ask([0, 0, 0]))?;
+    for at in 0..3 {
+        for less in [size[at].saturating_sub(1), 0] {
+            let mut room = size;
+            room[at] = less;
+            run.ask(ask(room))?;
+        }
+    }
+    let [counts, ends, inc] = [0, 1, 2].map(|at| reply.slices[at][..size[at]].to_vec());
+    Ok(Some(Raw { counts, ends, inc }))
+}
