@@ -275,6 +275,6 @@ impl Library for Model {
         ends: &mut [u16],
         inc: &mut [u16],
     ) -> Built {
-        self.answer_product(kind, p, q, counts, ends, inc)
+        self.answer_product(kind, p, q, [counts, ends, inc])
     }
 }

@@ -165,25 +165,16 @@ impl Model {
         }
     }
 
-    pub(super) fn answer_product(
-        &self,
-        kind: Kind,
-        p: Slices<'_>,
-        q: Slices<'_>,
-        counts: &mut [u16],
-        ends: &mut [u16],
-        inc: &mut [u16],
-    ) -> Built {
+    pub(super) fn answer_product(&self, kind: Kind, p: Slices<'_>, q: Slices<'_>, mut lent: [&mut [u16]; 3]) -> Built {
         let slices = match self.product_slices(kind, p, q) {
             Ok(slices) => slices,
             Err(answer) => {
-                let early = self.has(Break::ShortBeforeIncidences) && answer.no == 35 && inc.len() < MAX_INCIDENCES;
+                let early = self.has(Break::ShortBeforeIncidences) && answer.no == 35 && lent[2].len() < MAX_INCIDENCES;
                 let answer = if early { Answer { no: 36, ..answer } } else { answer };
                 return Built { answer, ..Built::default() };
             }
         };
         let lengths = [slices[0].len(), slices[1].len(), slices[2].len()];
-        let mut lent = [counts, ends, inc];
         let short = (0..3).any(|i| lent[i].len() < lengths[i] && !(i == 2 && self.has(Break::ShortInc)));
         if short {
             if self.has(Break::ShortWrites) {
