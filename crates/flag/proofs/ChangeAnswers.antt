@@ -16,10 +16,10 @@ use Rattle.listing.specs.Listing.{Listing, Limits, rank}
 use Rattle.listing.proofs.Answers.{or-no, no-or, on-no, on-off, then-go}
 use Rattle.order.proofs.Tests.{and-true, and-off}
 use Rattle.valid.specs.Closed.{Closed}
-use Rattle.changing.specs.Flags.{startTest, IsFlag}
-use Rattle.changing.specs.Change.{changeAt, padded, Changes}
-use Rattle.changing.proofs.StartExact.{start-exact}
-use Rattle.changing.proofs.Changes.{changes}
+use Rattle.flag_change.specs.Flags.{startTest, IsFlag}
+use Rattle.flag_change.specs.Change.{changeAt, padded, Changes}
+use Rattle.flag_change.proofs.StartExact.{start-exact}
+use Rattle.flag_change.proofs.Changes.{changes}
 use Rattle.flag.specs.declared.Changed.{Changed}
 use Rattle.flag.specs.Changed.{changeTest, changedOf}
 

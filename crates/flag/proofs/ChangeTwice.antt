@@ -9,10 +9,10 @@ use lib.Seq.{take-at}
 use Rattle.listing.specs.Answers.{fine}
 use Rattle.listing.specs.Listing.{Listing, Limits, rank}
 use Rattle.valid.specs.Closed.{Closed}
-use Rattle.changing.specs.Flags.{IsFlag}
-use Rattle.changing.specs.Change.{changeAt, padded}
-use Rattle.changing.proofs.Changes.{changes}
-use Rattle.changing.proofs.StartExact.{start-exact}
+use Rattle.flag_change.specs.Flags.{IsFlag}
+use Rattle.flag_change.specs.Change.{changeAt, padded}
+use Rattle.flag_change.proofs.Changes.{changes}
+use Rattle.flag_change.proofs.StartExact.{start-exact}
 use Rattle.flag.specs.declared.Changed.{Changed}
 use Rattle.flag.specs.Changed.{changedOf}
 use Rattle.flag.proofs.ChangeAnswers.{change-fine, change-exact, change-changes, changed-some}

@@ -11,8 +11,8 @@ use Rattle.listing.specs.declared.Answer.{Answer}
 use Rattle.listing.specs.Refusals.{outsideRanks}
 use Rattle.listing.specs.Answers.{plain, on, _orElse_, ifZero}
 use Rattle.listing.specs.Listing.{Listing, Limits, rank}
-use Rattle.changing.specs.Flags.{startTest}
-use Rattle.changing.specs.Change.{changeAt, padded}
+use Rattle.flag_change.specs.Flags.{startTest}
+use Rattle.flag_change.specs.Change.{changeAt, padded}
 use Rattle.flag.specs.declared.Changed.{Changed}
 
 unfoldable pub changeTest : Limits → Listing → List ℕ → ℕ → Answer

@@ -1,11 +1,12 @@
 // Flags: chains of elements from the lowest rank to the highest. Here are the change of a flag, its orientation, and
 // the events of a finished search.
-use changing::chain;
+use flag_change::chain;
 use listing::Answer;
+use listing::Index;
 use listing::inner;
 use listing::refusal;
 ghost use mathlib.Core.Path.{_≡_};
-ghost use Rattle.listing.specs.Listing.{listing, limits};
+ghost use Rattle.listing.specs.Listing.{held, limits};
 ghost use Rattle.flag.specs.Changed.{changeTest, changedOf};
 ghost use Rattle.flag.specs.Orientations.{byteOf, ofByte, flipOf, signOf};
 ghost use Rattle.flag.specs.Events.{within, eventAt, events, nextAt, saidOf, Stepped};
@@ -14,12 +15,12 @@ ghost use Rattle.flag.specs.Events.{within, eventAt, events, nextAt, sai
 #[repr(C)]
 pub struct Changed {
     pub answer: Answer,
-    pub flag: [u16; 16],
+    pub flag: [Index; 16],
 }
 
 // The refusals of a change: those of the closed test, 20, 21.
-fn check_change(counts: &[u16], ends: &[u16], inc: &[u16], flag: &[u16], r: u16) -> Answer
-    ensures { λ a. ⌜ a ≡ changeTest limits (listing (now (counts .entry)) (now (ends .entry)) (now (inc .entry)))
+fn check_change(counts: &[Index], ends: &[Index], inc: &[Index], flag: &[Index], r: u16) -> Answer
+    ensures { λ a. ⌜ a ≡ changeTest limits (held (counts .entry) (ends .entry) (inc .entry))
         (now (flag .entry)) r ⌝ }
 {
     let a = chain::check_flag(counts, ends, inc, flag);
@@ -38,13 +39,13 @@ fn check_change(counts: &[u16], ends: &[u16], inc: &[u16], flag: &[u16], r: u16)
 
 // The change of a flag at rank r: of the two elements between those at the ranks r - 1 and r + 1, the other one is put
 // in. The new flag is a record of 16 numbers, 0 above the top; on a refusal all of them are 0.
-pub fn change(counts: &[u16], ends: &[u16], inc: &[u16], flag: &[u16], r: u16) -> Changed
-    ensures { λ a. ⌜ a ≡ changedOf limits (listing (now (counts .entry)) (now (ends .entry)) (now (inc .entry)))
+pub fn change(counts: &[Index], ends: &[Index], inc: &[Index], flag: &[Index], r: u16) -> Changed
+    ensures { λ a. ⌜ a ≡ changedOf limits (held (counts .entry) (ends .entry) (inc .entry))
         (now (flag .entry)) r ⌝ }
 {
     let answer = check_change(counts, ends, inc, flag, r);
     if answer.no != 0 {
-        let none = [0u16; 16];
+        let none: [Index; 16] = [0; 16];
         return Changed { answer, flag: none };
     }
     let new = chain::changed_at(counts, ends, inc, flag, inner::wide(r));

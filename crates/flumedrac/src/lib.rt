@@ -4,6 +4,7 @@ use flag::Changed;
 use flag::Cursor;
 use flag::Said;
 use listing::Answer;
+use listing::Index;
 use listing::Number;
 use product::Built;
 use search::Searched;
@@ -11,7 +12,7 @@ ghost use mathlib.Core.Path.{_≡_};
 ghost use mathlib.Core.Bool.{true, false};
 ghost use Rattle.listing.specs.Refusals.{band, bandNo};
 ghost use Rattle.listing.specs.Counts.{rankOf, elCountOf, vertexCountOf, facetCountOf};
-ghost use Rattle.listing.specs.Listing.{listing, limits};
+ghost use Rattle.listing.specs.Listing.{held, limits};
 ghost use Rattle.valid.specs.Tests as tests;
 ghost use Rattle.product.specs.Outcome.{Outcome};
 ghost use Rattle.flag.specs.Changed.{changedOf};
@@ -20,28 +21,28 @@ ghost use Rattle.flag.specs.Orientations.{ofByte, signOf};
 ghost use Rattle.search.specs.Outcome.{searchedBy, tableAfter, bytesAfter};
 
 #[no_mangle]
-pub extern "C" fn fd_rank(counts: &[u16]) -> Number
+pub extern "C" fn fd_rank(counts: &[Index]) -> Number
     ensures { λ r. ⌜ r ≡ rankOf (now (counts .entry)) ⌝ }
 {
     listing::rank(counts)
 }
 
 #[no_mangle]
-pub extern "C" fn fd_el_count(counts: &[u16], rank: usize) -> Number
+pub extern "C" fn fd_el_count(counts: &[Index], rank: usize) -> Number
     ensures { λ r. ⌜ r ≡ elCountOf (now (counts .entry)) rank ⌝ }
 {
     listing::el_count(counts, rank)
 }
 
 #[no_mangle]
-pub extern "C" fn fd_vertex_count(counts: &[u16]) -> Number
+pub extern "C" fn fd_vertex_count(counts: &[Index]) -> Number
     ensures { λ r. ⌜ r ≡ vertexCountOf (now (counts .entry)) ⌝ }
 {
     listing::vertex_count(counts)
 }
 
 #[no_mangle]
-pub extern "C" fn fd_facet_count(counts: &[u16]) -> Number
+pub extern "C" fn fd_facet_count(counts: &[Index]) -> Number
     ensures { λ r. ⌜ r ≡ facetCountOf (now (counts .entry)) ⌝ }
 {
     listing::facet_count(counts)
@@ -56,51 +57,51 @@ pub extern "C" fn fd_class(no: u16) -> u16
 }
 
 #[no_mangle]
-pub extern "C" fn fd_bounded(counts: &[u16], ends: &[u16], inc: &[u16]) -> Answer
-    ensures { λ r. ⌜ r ≡ tests.bounded limits (listing (now (counts .entry)) (now (ends .entry)) (now (inc .entry))) ⌝ }
+pub extern "C" fn fd_bounded(counts: &[Index], ends: &[Index], inc: &[Index]) -> Answer
+    ensures { λ r. ⌜ r ≡ tests.bounded limits (held (counts .entry) (ends .entry) (inc .entry)) ⌝ }
 {
     valid::bounded(counts, ends, inc)
 }
 
 #[no_mangle]
-pub extern "C" fn fd_check_incidences(counts: &[u16], ends: &[u16], inc: &[u16]) -> Answer
+pub extern "C" fn fd_check_incidences(counts: &[Index], ends: &[Index], inc: &[Index]) -> Answer
     ensures { λ r. ⌜ r ≡ tests.checkIncidences limits
-        (listing (now (counts .entry)) (now (ends .entry)) (now (inc .entry))) ⌝ }
+        (held (counts .entry) (ends .entry) (inc .entry)) ⌝ }
 {
     valid::check_incidences(counts, ends, inc)
 }
 
 #[no_mangle]
-pub extern "C" fn fd_is_dyadic(counts: &[u16], ends: &[u16], inc: &[u16]) -> Answer
+pub extern "C" fn fd_is_dyadic(counts: &[Index], ends: &[Index], inc: &[Index]) -> Answer
     ensures { λ r. ⌜ r ≡ tests.isDyadic limits
-        (listing (now (counts .entry)) (now (ends .entry)) (now (inc .entry))) ⌝ }
+        (held (counts .entry) (ends .entry) (inc .entry)) ⌝ }
 {
     valid::is_dyadic(counts, ends, inc)
 }
 
 #[no_mangle]
-pub extern "C" fn fd_is_valid(counts: &[u16], ends: &[u16], inc: &[u16]) -> Answer
-    ensures { λ r. ⌜ r ≡ tests.isValid limits (listing (now (counts .entry)) (now (ends .entry)) (now (inc .entry))) ⌝ }
+pub extern "C" fn fd_is_valid(counts: &[Index], ends: &[Index], inc: &[Index]) -> Answer
+    ensures { λ r. ⌜ r ≡ tests.isValid limits (held (counts .entry) (ends .entry) (inc .entry)) ⌝ }
 {
     valid::is_valid(counts, ends, inc)
 }
 
 #[no_mangle]
-pub extern "C" fn fd_closed(counts: &[u16], ends: &[u16], inc: &[u16]) -> Answer
-    ensures { λ r. ⌜ r ≡ tests.closed limits (listing (now (counts .entry)) (now (ends .entry)) (now (inc .entry))) ⌝ }
+pub extern "C" fn fd_closed(counts: &[Index], ends: &[Index], inc: &[Index]) -> Answer
+    ensures { λ r. ⌜ r ≡ tests.closed limits (held (counts .entry) (ends .entry) (inc .entry)) ⌝ }
 {
     valid::closed(counts, ends, inc)
 }
 
 #[no_mangle]
 pub extern "C" fn fd_change(
-    counts: &[u16],
-    ends: &[u16],
-    inc: &[u16],
-    flag: &[u16],
+    counts: &[Index],
+    ends: &[Index],
+    inc: &[Index],
+    flag: &[Index],
     r: u16,
 ) -> Changed
-    ensures { λ a. ⌜ a ≡ changedOf limits (listing (now (counts .entry)) (now (ends .entry)) (now (inc .entry)))
+    ensures { λ a. ⌜ a ≡ changedOf limits (held (counts .entry) (ends .entry) (inc .entry))
         (now (flag .entry)) r ⌝ }
 {
     flag::change(counts, ends, inc, flag, r)
@@ -109,21 +110,21 @@ pub extern "C" fn fd_change(
 // Writes the table and the orientations, which overlap no other slice that is lent here.
 #[no_mangle]
 pub extern "C" fn fd_search(
-    counts: &[u16],
-    ends: &[u16],
-    inc: &[u16],
-    first: &[u16],
+    counts: &[Index],
+    ends: &[Index],
+    inc: &[Index],
+    first: &[Index],
     mask: u16,
-    table: &mut [u16],
+    table: &mut [Index],
     orientations: &mut [u8],
 ) -> Searched
-    ensures { λ a. ⌜ a ≡ searchedBy limits (listing (now (counts .entry)) (now (ends .entry)) (now (inc .entry)))
+    ensures { λ a. ⌜ a ≡ searchedBy limits (held (counts .entry) (ends .entry) (inc .entry))
         (now (first .entry)) mask (now (table .entry)) (now (orientations .entry)) ⌝ }
     ensures { λ a. ⌜ now (table .exit) ≡ tableAfter limits
-        (listing (now (counts .entry)) (now (ends .entry)) (now (inc .entry))) (now (first .entry)) mask
+        (held (counts .entry) (ends .entry) (inc .entry)) (now (first .entry)) mask
         (now (table .entry)) (now (orientations .entry)) ⌝ }
     ensures { λ a. ⌜ now (orientations .exit) ≡ bytesAfter limits
-        (listing (now (counts .entry)) (now (ends .entry)) (now (inc .entry))) (now (first .entry)) mask
+        (held (counts .entry) (ends .entry) (inc .entry)) (now (first .entry)) mask
         (now (table .entry)) (now (orientations .entry)) ⌝ }
 {
     search::search(counts, ends, inc, first, mask, table, orientations)
@@ -148,19 +149,19 @@ pub extern "C" fn fd_next_event(c: &mut Cursor, count: u16, place: u16) -> Said
 // Each product writes the last three slices, which overlap no other slice that is lent here.
 #[no_mangle]
 pub extern "C" fn fd_duopyramid(
-    pcounts: &[u16],
-    pends: &[u16],
-    pinc: &[u16],
-    qcounts: &[u16],
-    qends: &[u16],
-    qinc: &[u16],
-    counts: &mut [u16],
-    ends: &mut [u16],
-    inc: &mut [u16],
+    pcounts: &[Index],
+    pends: &[Index],
+    pinc: &[Index],
+    qcounts: &[Index],
+    qends: &[Index],
+    qinc: &[Index],
+    counts: &mut [Index],
+    ends: &mut [Index],
+    inc: &mut [Index],
 ) -> Built
     ensures { λ a. ⌜ Outcome limits false false
-        (listing (now (pcounts .entry)) (now (pends .entry)) (now (pinc .entry)))
-        (listing (now (qcounts .entry)) (now (qends .entry)) (now (qinc .entry)))
+        (held (pcounts .entry) (pends .entry) (pinc .entry))
+        (held (qcounts .entry) (qends .entry) (qinc .entry))
         (now (counts .entry)) (now (ends .entry)) (now (inc .entry)) (now (counts .exit)) (now (ends .exit))
         (now (inc .exit)) a ⌝ }
 {
@@ -179,19 +180,19 @@ pub extern "C" fn fd_duopyramid(
 
 #[no_mangle]
 pub extern "C" fn fd_duoprism(
-    pcounts: &[u16],
-    pends: &[u16],
-    pinc: &[u16],
-    qcounts: &[u16],
-    qends: &[u16],
-    qinc: &[u16],
-    counts: &mut [u16],
-    ends: &mut [u16],
-    inc: &mut [u16],
+    pcounts: &[Index],
+    pends: &[Index],
+    pinc: &[Index],
+    qcounts: &[Index],
+    qends: &[Index],
+    qinc: &[Index],
+    counts: &mut [Index],
+    ends: &mut [Index],
+    inc: &mut [Index],
 ) -> Built
     ensures { λ a. ⌜ Outcome limits true false
-        (listing (now (pcounts .entry)) (now (pends .entry)) (now (pinc .entry)))
-        (listing (now (qcounts .entry)) (now (qends .entry)) (now (qinc .entry)))
+        (held (pcounts .entry) (pends .entry) (pinc .entry))
+        (held (qcounts .entry) (qends .entry) (qinc .entry))
         (now (counts .entry)) (now (ends .entry)) (now (inc .entry)) (now (counts .exit)) (now (ends .exit))
         (now (inc .exit)) a ⌝ }
 {
@@ -210,19 +211,19 @@ pub extern "C" fn fd_duoprism(
 
 #[no_mangle]
 pub extern "C" fn fd_duotegum(
-    pcounts: &[u16],
-    pends: &[u16],
-    pinc: &[u16],
-    qcounts: &[u16],
-    qends: &[u16],
-    qinc: &[u16],
-    counts: &mut [u16],
-    ends: &mut [u16],
-    inc: &mut [u16],
+    pcounts: &[Index],
+    pends: &[Index],
+    pinc: &[Index],
+    qcounts: &[Index],
+    qends: &[Index],
+    qinc: &[Index],
+    counts: &mut [Index],
+    ends: &mut [Index],
+    inc: &mut [Index],
 ) -> Built
     ensures { λ a. ⌜ Outcome limits false true
-        (listing (now (pcounts .entry)) (now (pends .entry)) (now (pinc .entry)))
-        (listing (now (qcounts .entry)) (now (qends .entry)) (now (qinc .entry)))
+        (held (pcounts .entry) (pends .entry) (pinc .entry))
+        (held (qcounts .entry) (qends .entry) (qinc .entry))
         (now (counts .entry)) (now (ends .entry)) (now (inc .entry)) (now (counts .exit)) (now (ends .exit))
         (now (inc .exit)) a ⌝ }
 {
@@ -241,19 +242,19 @@ pub extern "C" fn fd_duotegum(
 
 #[no_mangle]
 pub extern "C" fn fd_duocomb(
-    pcounts: &[u16],
-    pends: &[u16],
-    pinc: &[u16],
-    qcounts: &[u16],
-    qends: &[u16],
-    qinc: &[u16],
-    counts: &mut [u16],
-    ends: &mut [u16],
-    inc: &mut [u16],
+    pcounts: &[Index],
+    pends: &[Index],
+    pinc: &[Index],
+    qcounts: &[Index],
+    qends: &[Index],
+    qinc: &[Index],
+    counts: &mut [Index],
+    ends: &mut [Index],
+    inc: &mut [Index],
 ) -> Built
     ensures { λ a. ⌜ Outcome limits true true
-        (listing (now (pcounts .entry)) (now (pends .entry)) (now (pinc .entry)))
-        (listing (now (qcounts .entry)) (now (qends .entry)) (now (qinc .entry)))
+        (held (pcounts .entry) (pends .entry) (pinc .entry))
+        (held (qcounts .entry) (qends .entry) (qinc .entry))
         (now (counts .entry)) (now (ends .entry)) (now (inc .entry)) (now (counts .exit)) (now (ends .exit))
         (now (inc .exit)) a ⌝ }
 {

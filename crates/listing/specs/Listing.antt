@@ -2,6 +2,8 @@
 --
 -- Listing   counts: the elements of each rank; ends: where each element's subs and then its sups end; inc: the lists
 -- listing   a listing of three lists
+-- held      the listing in three lent slices
+-- width     how many values a number of a listing can have
 -- Limits    how much a listing, and a search over it, may hold
 -- limits    the limits in force
 -- rank      one less than the number of ranks
@@ -16,6 +18,7 @@
 -- sups      the elements that it lists one rank higher
 use mathlib.Core.List.{List, _∷_}
 use Prim.Native.Nat.{ℕ, _+_, _-_, _*_, _≤_, _<_}
+use denote.Ref.{RefT, now}
 use lib.ListN.{length, getD, take, drop}
 use Rattle.order.specs.Sums.{sum}
 
@@ -26,6 +29,12 @@ pub record Listing : Type 0 where
 
 abbrev pub listing : List ℕ → List ℕ → List ℕ → Listing
 listing c e i = record { counts = c; ends = e; inc = i }
+
+abbrev pub held : RefT (List ℕ) → RefT (List ℕ) → RefT (List ℕ) → Listing
+held c e i = listing (now c) (now e) (now i)
+
+abbrev pub width : ℕ
+width = 65536
 
 pub record Limits : Type 0 where
   pub ranks : ℕ

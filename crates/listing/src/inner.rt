@@ -1,16 +1,17 @@
 // What the shape test is made of, and what the crates above call once a listing is known to be shaped. Some of these
 // functions ask something of their caller; the entries, in lib.rt, ask nothing.
 use crate::Answer;
+use crate::Index;
 ghost use mathlib.Core.Path.{_≡_};
 ghost use Prim.Native.Nat.{_+_, _*_, _≤_, _<_, min};
 ghost use lib.ListN.{length, getD};
 ghost use Rattle.listing.specs.Answers.{refusal};
-ghost use Rattle.listing.specs.Listing.{before, start, entries, Ends};
+ghost use Rattle.listing.specs.Listing.{width, before, start, entries, Ends};
 ghost use Rattle.listing.specs.Shape.{fills as fillsTo};
 
 // An index as a place in a slice.
-pub fn wide(x: u16) -> usize
-    ensures { λ r. ⌜ (r ≡ x) × (r < 65536) ⌝ }
+pub fn wide(x: Index) -> usize
+    ensures { λ r. ⌜ (r ≡ x) × (r < width) ⌝ }
 {
     x as usize
 }
@@ -29,15 +30,15 @@ pub fn plain(no: u16) -> Answer
 }
 
 // The number of elements of a rank: 0 for a rank that is not there.
-pub fn count_at(counts: &[u16], r: usize) -> u16
+pub fn count_at(counts: &[Index], r: usize) -> Index
     ensures { λ n. ⌜ n ≡ getD (now (counts .entry)) r 0 ⌝ }
 {
     if r < counts.len() { counts[r] } else { 0 }
 }
 
 // The number of elements of all ranks, or one more than `most` where it is over.
-pub fn elements_to(counts: &[u16], most: usize) -> usize
-    requires { ⌜ most ≤ 65535 ⌝ }
+pub fn elements_to(counts: &[Index], most: usize) -> usize
+    requires { ⌜ most < width ⌝ }
     ensures { λ n. ⌜ n ≡ min (before (now (counts .entry)) (length (now (counts .entry)))) (most + 1) ⌝ }
 {
     let mut n: usize = 0;
@@ -53,10 +54,10 @@ pub fn elements_to(counts: &[u16], most: usize) -> usize
 }
 
 // Whether the ends do not fall, and come to n.
-pub fn fills(ends: &[u16], n: usize) -> bool
+pub fn fills(ends: &[Index], n: usize) -> bool
     ensures { λ r. ⌜ r ≡ fillsTo 0 (now (ends .entry)) n ⌝ }
 {
-    let mut from: u16 = 0;
+    let mut from: Index = 0;
     let mut k: usize = 0;
     while k < ends.len() {
         let x = ends[k];
@@ -70,7 +71,7 @@ pub fn fills(ends: &[u16], n: usize) -> bool
 }
 
 // Where the kth list begins.
-pub fn start_of(ends: &[u16], k: usize) -> usize
+pub fn start_of(ends: &[Index], k: usize) -> usize
     requires { ⌜ k ≤ length (now ends) ⌝ }
     ensures { λ r. ⌜ r ≡ start (now (ends .entry)) k ⌝ }
 {
@@ -81,7 +82,7 @@ pub fn start_of(ends: &[u16], k: usize) -> usize
 }
 
 // The kth list.
-pub fn list_of<'a>(ends: &[u16], inc: &'a [u16], k: usize) -> &'a [u16]
+pub fn list_of<'a>(ends: &[Index], inc: &'a [Index], k: usize) -> &'a [Index]
     requires { ⌜ Ends (now ends) (now inc) ⌝ }
     requires { ⌜ k < length (now ends) ⌝ }
     ensures { λ r. ⌜ now r ≡ entries (now (ends .entry)) (now (inc .entry)) k ⌝ }
@@ -92,7 +93,7 @@ pub fn list_of<'a>(ends: &[u16], inc: &'a [u16], k: usize) -> &'a [u16]
 }
 
 // The list at side s (0 subs, 1 sups) of the element x places after the place p.
-pub fn side_of<'a>(ends: &[u16], inc: &'a [u16], p: usize, x: u16, s: usize) -> &'a [u16]
+pub fn side_of<'a>(ends: &[Index], inc: &'a [Index], p: usize, x: Index, s: usize) -> &'a [Index]
     requires { ⌜ Ends (now ends) (now inc) ⌝ }
     requires { ⌜ 2 * (p + x) + s < length (now ends) ⌝ }
     ensures { λ r. ⌜ now r ≡ entries (now (ends .entry)) (now (inc .entry)) (2 * (p + x) + s) ⌝ }

@@ -6,17 +6,20 @@ pub mod refusal;
 ghost use mathlib.Core.Path.{_≡_};
 ghost use Rattle.listing.specs.Refusals.{band, bandNo};
 ghost use Rattle.listing.specs.Counts.{rankOf, elCountOf, vertexCountOf, facetCountOf};
-ghost use Rattle.listing.specs.Listing.{listing, limits};
+ghost use Rattle.listing.specs.Listing.{held, limits};
 ghost use Rattle.listing.specs.Shape.{shapeTest};
+
+// A number of a listing: a count, an end, an index. Its width is `width` in specs/Listing.
+pub type Index = u16;
 
 // What a test answers: a refusal's number, 0 for none, and the fields that it carries.
 #[repr(C)]
 pub struct Answer {
     pub no: u16,
-    pub a: u16,
-    pub b: u16,
-    pub c: u16,
-    pub d: u16,
+    pub a: Index,
+    pub b: Index,
+    pub c: Index,
+    pub d: Index,
 }
 
 // What a count answers: a refusal's number, 0 for none, and the count.
@@ -62,7 +65,7 @@ pub fn band_number(b: Band) -> u16
 }
 
 // The rank: one less than the number of ranks.
-pub fn rank(counts: &[u16]) -> Number
+pub fn rank(counts: &[Index]) -> Number
     ensures { λ r. ⌜ r ≡ rankOf (now (counts .entry)) ⌝ }
 {
     if counts.len() == 0 {
@@ -78,7 +81,7 @@ pub fn rank(counts: &[u16]) -> Number
 }
 
 // The number of elements of a rank: 0 for a rank that is not there.
-pub fn el_count(counts: &[u16], rank: usize) -> Number
+pub fn el_count(counts: &[Index], rank: usize) -> Number
     ensures { λ r. ⌜ r ≡ elCountOf (now (counts .entry)) rank ⌝ }
 {
     if counts.len() == 0 {
@@ -94,7 +97,7 @@ pub fn el_count(counts: &[u16], rank: usize) -> Number
 }
 
 // The number of elements of rank 1.
-pub fn vertex_count(counts: &[u16]) -> Number
+pub fn vertex_count(counts: &[Index]) -> Number
     ensures { λ r. ⌜ r ≡ vertexCountOf (now (counts .entry)) ⌝ }
 {
     el_count(counts, 1)
@@ -102,7 +105,7 @@ pub fn vertex_count(counts: &[u16]) -> Number
 
 // The number of elements of the rank below the top. The nullitope has none: its rank less one wraps, to a rank that is
 // not there.
-pub fn facet_count(counts: &[u16]) -> Number
+pub fn facet_count(counts: &[Index]) -> Number
     ensures { λ r. ⌜ r ≡ facetCountOf (now (counts .entry)) ⌝ }
 {
     let r = rank(counts);
@@ -110,8 +113,8 @@ pub fn facet_count(counts: &[u16]) -> Number
 }
 
 // The shape tests in their order, 1 to 6.
-pub fn shape(counts: &[u16], ends: &[u16], inc: &[u16]) -> Answer
-    ensures { λ r. ⌜ r ≡ shapeTest limits (listing (now (counts .entry)) (now (ends .entry)) (now (inc .entry))) ⌝ }
+pub fn shape(counts: &[Index], ends: &[Index], inc: &[Index]) -> Answer
+    ensures { λ r. ⌜ r ≡ shapeTest limits (held (counts .entry) (ends .entry) (inc .entry)) ⌝ }
 {
     if counts.len() == 0 {
         return inner::plain(refusal::NO_RANKS);

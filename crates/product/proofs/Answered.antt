@@ -14,17 +14,17 @@ use Rattle.listing.specs.Layers.{layers}
 use Rattle.listing.proofs.Answers.{no-of, stops}
 use Rattle.valid.specs.Tests.{isValid}
 use Rattle.valid.specs.Closed.{Closed}
-use Rattle.pairing.specs.Sound.{Sound}
-use Rattle.pairing.specs.Product.{productOf}
-use Rattle.closure.specs.Result.{first, second, nullCase, resultOf, HighEnough}
-use Rattle.closure.proofs.Results.{result-product, result-null, nullitope-closed, both}
-use Rattle.closure.proofs.Sizes.{productOf-ranks, productOf-elements, productOf-incidences, productOf-within}
-use Rattle.closure.proofs.Valid.{valid-sound}
-use Rattle.closure.proofs.Products.{four-closed}
-use Rattle.building.specs.Built.{over}
+use Rattle.product_pairs.specs.Sound.{Sound}
+use Rattle.product_pairs.specs.Product.{productOf}
+use Rattle.product_closure.specs.Result.{first, second, nullCase, resultOf, HighEnough}
+use Rattle.product_closure.proofs.Results.{result-product, result-null, nullitope-closed, both}
+use Rattle.product_closure.proofs.Sizes.{productOf-ranks, productOf-elements, productOf-incidences, productOf-within}
+use Rattle.product_closure.proofs.Valid.{valid-sound}
+use Rattle.product_closure.proofs.Products.{four-closed}
+use Rattle.product_building.specs.Built.{over}
 use Rattle.product.specs.declared.Built.{Built}
 use Rattle.product.specs.Outcome.{productTest, Outcome}
-use Rattle.sizing.proofs.Tested.{Passed}
+use Rattle.product_sizes.proofs.Tested.{Passed}
 use Rattle.product.proofs.Made.{answer-is, built-refused, after-refused, built-full, after-full}
 use Rattle.product.proofs.Chain.{chain-passed}
 

@@ -13,14 +13,14 @@ use Rattle.listing.specs.Listing.{Listing, Limits, limits}
 use Rattle.listing.specs.Cells.{nullitope}
 use Rattle.listing.proofs.Answers.{or-fine, or-stop, or-assoc, or-no, on-or-no, no-of}
 use Rattle.valid.specs.Tests.{isValid}
-use Rattle.pairing.specs.Product.{productOf}
-use Rattle.closure.specs.Result.{nullCase, combCase, resultOf}
-use Rattle.closure.proofs.Results.{result-product, result-null}
+use Rattle.product_pairs.specs.Product.{productOf}
+use Rattle.product_closure.specs.Result.{nullCase, combCase, resultOf}
+use Rattle.product_closure.proofs.Results.{result-product, result-null}
 use Rattle.product.specs.declared.Built.{Built}
-use Rattle.sizing.specs.Sizing.{sizeTest}
+use Rattle.product_sizes.specs.Sizing.{sizeTest}
 use Rattle.product.specs.Outcome.{productTest, Outcome}
 use Rattle.product.specs.Made.{factorsTest, restTest, Made}
-use Rattle.sizing.proofs.Tested.{Passed, sizes-passed}
+use Rattle.product_sizes.proofs.Tested.{Passed, sizes-passed}
 use Rattle.product.proofs.Tests.{factors-valid}
 use Rattle.product.proofs.Made.{answer-is}
 

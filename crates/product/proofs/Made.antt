@@ -10,11 +10,11 @@ use Rattle.listing.specs.Answers.{ifZero}
 use Rattle.order.specs.Sums.{sum}
 use Rattle.listing.specs.Listing.{Listing, before}
 use Rattle.listing.specs.Cells.{nullitope}
-use Rattle.building.specs.Built.{over}
+use Rattle.product_building.specs.Built.{over}
 use Rattle.product.specs.declared.Built.{Built}
-use Rattle.sizing.specs.declared.sizes.Sizes.{Sizes}
+use Rattle.product_sizes.specs.declared.sizes.Sizes.{Sizes}
 use Rattle.product.specs.Outcome.{builtOf, after}
-use Rattle.sizing.specs.Sizing.{Measures}
+use Rattle.product_sizes.specs.Sizing.{Measures}
 use Rattle.product.specs.Made.{Made}
 
 if-not : {A : Type 0} (n : ℕ) (x y : A) → (n ≡ 0 → ⊥) → ifZero n x y ≡ y

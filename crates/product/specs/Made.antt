@@ -13,9 +13,9 @@ use Rattle.listing.specs.Refusals.{leftInvalid, rightInvalid, combOfPoint}
 use Rattle.listing.specs.Answers.{plain, on, _orElse_}
 use Rattle.listing.specs.Listing.{Listing, Limits}
 use Rattle.valid.specs.Tests.{isValid}
-use Rattle.closure.specs.Result.{combCase, resultOf}
+use Rattle.product_closure.specs.Result.{combCase, resultOf}
 use Rattle.product.specs.declared.Built.{Built}
-use Rattle.sizing.specs.Sizing.{sizeTest}
+use Rattle.product_sizes.specs.Sizing.{sizeTest}
 use Rattle.product.specs.Outcome.{builtOf, after}
 
 unfoldable pub factorsTest : Limits → Listing → Listing → Answer

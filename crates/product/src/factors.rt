@@ -1,23 +1,24 @@
 // The tests of the two factors.
 use listing::Answer;
+use listing::Index;
 use listing::inner;
 use listing::refusal;
 ghost use mathlib.Core.Path.{_≡_};
-ghost use Rattle.listing.specs.Listing.{listing, limits};
+ghost use Rattle.listing.specs.Listing.{held, limits};
 ghost use Rattle.product.specs.Made.{factorsTest};
 
 // Whether is_valid accepts the left factor, p, and then the right one, q.
 pub fn check_factors(
-    pcounts: &[u16],
-    pends: &[u16],
-    pinc: &[u16],
-    qcounts: &[u16],
-    qends: &[u16],
-    qinc: &[u16],
+    pcounts: &[Index],
+    pends: &[Index],
+    pinc: &[Index],
+    qcounts: &[Index],
+    qends: &[Index],
+    qinc: &[Index],
 ) -> Answer
     ensures { λ r. ⌜ r ≡ factorsTest limits
-        (listing (now (pcounts .entry)) (now (pends .entry)) (now (pinc .entry)))
-        (listing (now (qcounts .entry)) (now (qends .entry)) (now (qinc .entry))) ⌝ }
+        (held (pcounts .entry) (pends .entry) (pinc .entry))
+        (held (qcounts .entry) (qends .entry) (qinc .entry)) ⌝ }
 {
     let p = valid::is_valid(pcounts, pends, pinc);
     if p.no != 0 {

@@ -3,7 +3,8 @@ mod factors;
 pub mod make;
 
 use listing::Answer;
-ghost use Rattle.listing.specs.Listing.{listing, limits};
+use listing::Index;
+ghost use Rattle.listing.specs.Listing.{held, limits};
 ghost use mathlib.Core.Bool.{true, false};
 ghost use Rattle.product.specs.Outcome.{Outcome};
 
@@ -18,19 +19,19 @@ pub struct Built {
 
 // The duopyramid: all pairs, none left out. The first members are of the right factor, q.
 pub fn duopyramid(
-    pcounts: &[u16],
-    pends: &[u16],
-    pinc: &[u16],
-    qcounts: &[u16],
-    qends: &[u16],
-    qinc: &[u16],
-    counts: &mut [u16],
-    ends: &mut [u16],
-    inc: &mut [u16],
+    pcounts: &[Index],
+    pends: &[Index],
+    pinc: &[Index],
+    qcounts: &[Index],
+    qends: &[Index],
+    qinc: &[Index],
+    counts: &mut [Index],
+    ends: &mut [Index],
+    inc: &mut [Index],
 ) -> Built
     ensures { λ r. ⌜ Outcome limits false false
-        (listing (now (pcounts .entry)) (now (pends .entry)) (now (pinc .entry)))
-        (listing (now (qcounts .entry)) (now (qends .entry)) (now (qinc .entry)))
+        (held (pcounts .entry) (pends .entry) (pinc .entry))
+        (held (qcounts .entry) (qends .entry) (qinc .entry))
         (now (counts .entry)) (now (ends .entry)) (now (inc .entry)) (now (counts .exit)) (now (ends .exit))
         (now (inc .exit)) r ⌝ }
 {
@@ -51,19 +52,19 @@ pub fn duopyramid(
 
 // The duoprism: the pairs without minimal elements, and one added.
 pub fn duoprism(
-    pcounts: &[u16],
-    pends: &[u16],
-    pinc: &[u16],
-    qcounts: &[u16],
-    qends: &[u16],
-    qinc: &[u16],
-    counts: &mut [u16],
-    ends: &mut [u16],
-    inc: &mut [u16],
+    pcounts: &[Index],
+    pends: &[Index],
+    pinc: &[Index],
+    qcounts: &[Index],
+    qends: &[Index],
+    qinc: &[Index],
+    counts: &mut [Index],
+    ends: &mut [Index],
+    inc: &mut [Index],
 ) -> Built
     ensures { λ r. ⌜ Outcome limits true false
-        (listing (now (pcounts .entry)) (now (pends .entry)) (now (pinc .entry)))
-        (listing (now (qcounts .entry)) (now (qends .entry)) (now (qinc .entry)))
+        (held (pcounts .entry) (pends .entry) (pinc .entry))
+        (held (qcounts .entry) (qends .entry) (qinc .entry))
         (now (counts .entry)) (now (ends .entry)) (now (inc .entry)) (now (counts .exit)) (now (ends .exit))
         (now (inc .exit)) r ⌝ }
 {
@@ -84,19 +85,19 @@ pub fn duoprism(
 
 // The duotegum: the pairs without maximal elements, and one added. The first members are of the right factor, q.
 pub fn duotegum(
-    pcounts: &[u16],
-    pends: &[u16],
-    pinc: &[u16],
-    qcounts: &[u16],
-    qends: &[u16],
-    qinc: &[u16],
-    counts: &mut [u16],
-    ends: &mut [u16],
-    inc: &mut [u16],
+    pcounts: &[Index],
+    pends: &[Index],
+    pinc: &[Index],
+    qcounts: &[Index],
+    qends: &[Index],
+    qinc: &[Index],
+    counts: &mut [Index],
+    ends: &mut [Index],
+    inc: &mut [Index],
 ) -> Built
     ensures { λ r. ⌜ Outcome limits false true
-        (listing (now (pcounts .entry)) (now (pends .entry)) (now (pinc .entry)))
-        (listing (now (qcounts .entry)) (now (qends .entry)) (now (qinc .entry)))
+        (held (pcounts .entry) (pends .entry) (pinc .entry))
+        (held (qcounts .entry) (qends .entry) (qinc .entry))
         (now (counts .entry)) (now (ends .entry)) (now (inc .entry)) (now (counts .exit)) (now (ends .exit))
         (now (inc .exit)) r ⌝ }
 {
@@ -117,19 +118,19 @@ pub fn duotegum(
 
 // The duocomb: the pairs without minimal and maximal elements, and one of each added.
 pub fn duocomb(
-    pcounts: &[u16],
-    pends: &[u16],
-    pinc: &[u16],
-    qcounts: &[u16],
-    qends: &[u16],
-    qinc: &[u16],
-    counts: &mut [u16],
-    ends: &mut [u16],
-    inc: &mut [u16],
+    pcounts: &[Index],
+    pends: &[Index],
+    pinc: &[Index],
+    qcounts: &[Index],
+    qends: &[Index],
+    qinc: &[Index],
+    counts: &mut [Index],
+    ends: &mut [Index],
+    inc: &mut [Index],
 ) -> Built
     ensures { λ r. ⌜ Outcome limits true true
-        (listing (now (pcounts .entry)) (now (pends .entry)) (now (pinc .entry)))
-        (listing (now (qcounts .entry)) (now (qends .entry)) (now (qinc .entry)))
+        (held (pcounts .entry) (pends .entry) (pinc .entry))
+        (held (qcounts .entry) (qends .entry) (qinc .entry))
         (now (counts .entry)) (now (ends .entry)) (now (inc .entry)) (now (counts .exit)) (now (ends .exit))
         (now (inc .exit)) r ⌝ }
 {

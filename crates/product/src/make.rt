@@ -1,25 +1,26 @@
 // The chain of tests, and then the builder, once over the two flags.
 use crate::Built;
 use crate::factors;
-use building::build;
 use listing::Answer;
+use listing::Index;
 use listing::inner;
 use listing::refusal;
-use sizing::sizes;
-use sizing::sizes::Sizes;
+use product_building::build;
+use product_sizes::sizes;
+use product_sizes::sizes::Sizes;
 ghost use mathlib.Core.Path.{_≡_};
 ghost use mathlib.Core.Bool.{false, _||_};
 ghost use Prim.Native.Nat.{_≤_};
 ghost use lib.Dec.{eqb};
 ghost use lib.ListN.{length};
-ghost use Rattle.listing.specs.Listing.{Listing, listing, limits, rank};
+ghost use Rattle.listing.specs.Listing.{Listing, held, limits, rank};
 ghost use Rattle.valid.specs.Tests.{isValid};
 ghost use Rattle.listing.specs.Cells.{nullitope};
-ghost use Rattle.pairing.specs.Product.{productOf};
-ghost use Rattle.closure.specs.Result.{nullCase, combCase, resultOf};
-ghost use Rattle.sizing.specs.Sizing.{sizeTest};
+ghost use Rattle.product_pairs.specs.Product.{productOf};
+ghost use Rattle.product_closure.specs.Result.{nullCase, combCase, resultOf};
+ghost use Rattle.product_sizes.specs.Sizing.{sizeTest};
 ghost use Rattle.product.specs.Outcome.{builtOf, Outcome};
-ghost use Rattle.sizing.specs.Sizing.{Usable, Measures};
+ghost use Rattle.product_sizes.specs.Sizing.{Usable, Measures};
 ghost use Rattle.product.specs.Made.{restTest, Made};
 
 // What a refused product answers: nothing is written.
@@ -36,7 +37,7 @@ fn refused(answer: Answer) -> Built
 
 // What a product of these sizes answers once it is written.
 fn written(answer: Answer, s: Sizes) -> Built
-    requires { ⌜ (s .ranks ≤ 16) × (s .elements ≤ 4096) × (s .incidences ≤ 32768) ⌝ }
+    requires { ⌜ (s .ranks ≤ 16) × (s .elements ≤ limits .elements) × (s .incidences ≤ limits .incidences) ⌝ }
     ensures { λ r. ⌜ ((R : Listing) → Measures R s → answer .no ≡ 0 → r ≡ builtOf answer R) ⌝ }
 {
     Built {
@@ -85,7 +86,7 @@ fn is_comb_of_point(min: bool, max: bool, p: usize, q: usize) -> bool
 }
 
 // The nullitope, written out.
-fn put_nullitope(counts: &mut [u16], ends: &mut [u16], inc: &[u16]) -> Built
+fn put_nullitope(counts: &mut [Index], ends: &mut [Index], inc: &[Index]) -> Built
     ensures { λ r. ⌜ Made
         (sizeTest limits nullitope (length (now (counts .entry))) (length (now (ends .entry)))
         (length (now (inc .entry))))
@@ -111,25 +112,25 @@ fn put_nullitope(counts: &mut [u16], ends: &mut [u16], inc: &[u16]) -> Built
 fn product(
     min: bool,
     max: bool,
-    pcounts: &[u16],
-    pends: &[u16],
-    pinc: &[u16],
-    qcounts: &[u16],
-    qends: &[u16],
-    qinc: &[u16],
-    counts: &mut [u16],
-    ends: &mut [u16],
-    inc: &mut [u16],
+    pcounts: &[Index],
+    pends: &[Index],
+    pinc: &[Index],
+    qcounts: &[Index],
+    qends: &[Index],
+    qinc: &[Index],
+    counts: &mut [Index],
+    ends: &mut [Index],
+    inc: &mut [Index],
 ) -> Built
-    requires { ⌜ Usable min max (listing (now pcounts) (now pends) (now pinc)) ⌝ }
-    requires { ⌜ Usable min max (listing (now qcounts) (now qends) (now qinc)) ⌝ }
+    requires { ⌜ Usable min max (held pcounts pends pinc) ⌝ }
+    requires { ⌜ Usable min max (held qcounts qends qinc) ⌝ }
     ensures { λ r. ⌜ Made
         (sizeTest limits
-        (productOf min max (listing (now (pcounts .entry)) (now (pends .entry)) (now (pinc .entry)))
-        (listing (now (qcounts .entry)) (now (qends .entry)) (now (qinc .entry))))
+        (productOf min max (held (pcounts .entry) (pends .entry) (pinc .entry))
+        (held (qcounts .entry) (qends .entry) (qinc .entry)))
         (length (now (counts .entry))) (length (now (ends .entry))) (length (now (inc .entry))))
-        (productOf min max (listing (now (pcounts .entry)) (now (pends .entry)) (now (pinc .entry)))
-        (listing (now (qcounts .entry)) (now (qends .entry)) (now (qinc .entry))))
+        (productOf min max (held (pcounts .entry) (pends .entry) (pinc .entry))
+        (held (qcounts .entry) (qends .entry) (qinc .entry)))
         (now (counts .entry)) (now (ends .entry)) (now (inc .entry)) (now (counts .exit)) (now (ends .exit))
         (now (inc .exit)) r ⌝ }
 {
@@ -162,24 +163,24 @@ fn product(
 fn product_of_valid(
     min: bool,
     max: bool,
-    pcounts: &[u16],
-    pends: &[u16],
-    pinc: &[u16],
-    qcounts: &[u16],
-    qends: &[u16],
-    qinc: &[u16],
-    counts: &mut [u16],
-    ends: &mut [u16],
-    inc: &mut [u16],
+    pcounts: &[Index],
+    pends: &[Index],
+    pinc: &[Index],
+    qcounts: &[Index],
+    qends: &[Index],
+    qinc: &[Index],
+    counts: &mut [Index],
+    ends: &mut [Index],
+    inc: &mut [Index],
 ) -> Built
-    requires { ⌜ isValid limits (listing (now pcounts) (now pends) (now pinc)) .no ≡ 0 ⌝ }
-    requires { ⌜ isValid limits (listing (now qcounts) (now qends) (now qinc)) .no ≡ 0 ⌝ }
+    requires { ⌜ isValid limits (held pcounts pends pinc) .no ≡ 0 ⌝ }
+    requires { ⌜ isValid limits (held qcounts qends qinc) .no ≡ 0 ⌝ }
     ensures { λ r. ⌜ Made
-        (restTest limits min max (listing (now (pcounts .entry)) (now (pends .entry)) (now (pinc .entry)))
-        (listing (now (qcounts .entry)) (now (qends .entry)) (now (qinc .entry)))
+        (restTest limits min max (held (pcounts .entry) (pends .entry) (pinc .entry))
+        (held (qcounts .entry) (qends .entry) (qinc .entry))
         (length (now (counts .entry))) (length (now (ends .entry))) (length (now (inc .entry))))
-        (resultOf min max (listing (now (pcounts .entry)) (now (pends .entry)) (now (pinc .entry)))
-        (listing (now (qcounts .entry)) (now (qends .entry)) (now (qinc .entry))))
+        (resultOf min max (held (pcounts .entry) (pends .entry) (pinc .entry))
+        (held (qcounts .entry) (qends .entry) (qinc .entry)))
         (now (counts .entry)) (now (ends .entry)) (now (inc .entry)) (now (counts .exit)) (now (ends .exit))
         (now (inc .exit)) r ⌝ }
 {
@@ -225,19 +226,19 @@ fn product_of_valid(
 pub fn make(
     min: bool,
     max: bool,
-    pcounts: &[u16],
-    pends: &[u16],
-    pinc: &[u16],
-    qcounts: &[u16],
-    qends: &[u16],
-    qinc: &[u16],
-    counts: &mut [u16],
-    ends: &mut [u16],
-    inc: &mut [u16],
+    pcounts: &[Index],
+    pends: &[Index],
+    pinc: &[Index],
+    qcounts: &[Index],
+    qends: &[Index],
+    qinc: &[Index],
+    counts: &mut [Index],
+    ends: &mut [Index],
+    inc: &mut [Index],
 ) -> Built
     ensures { λ r. ⌜ Outcome limits min max
-        (listing (now (pcounts .entry)) (now (pends .entry)) (now (pinc .entry)))
-        (listing (now (qcounts .entry)) (now (qends .entry)) (now (qinc .entry)))
+        (held (pcounts .entry) (pends .entry) (pinc .entry))
+        (held (qcounts .entry) (qends .entry) (qinc .entry))
         (now (counts .entry)) (now (ends .entry)) (now (inc .entry)) (now (counts .exit)) (now (ends .exit))
         (now (inc .exit)) r ⌝ }
 {

@@ -12,7 +12,7 @@ use denote.Ref.{now}
 use Rattle.listing.specs.Answers.{ifZero}
 use Rattle.listing.specs.Counts.{rankOf, elCountOf, vertexCountOf, facetCountOf}
 use Rattle.listing.specs.Listing.{Listing, Limits, limits}
-use Rattle.changing.specs.Change.{changeAt, padded}
+use Rattle.flag_change.specs.Change.{changeAt, padded}
 use Rattle.flag.specs.Changed.{changeTest, changedOf}
 use Rattle.promises.specs.Entries.{lent, flag, asked, tables}
 use Rattle.promises.specs.Demands.{DemandOne}

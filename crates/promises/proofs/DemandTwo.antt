@@ -14,10 +14,10 @@ use Rattle.listing.specs.Counts.{rankOf, elCountOf, vertexCountOf, facetCountOf
 use Rattle.listing.specs.Shape.{Shaped}
 use Rattle.listing.proofs.Answers.{or-no, no-or}
 use Rattle.listing.proofs.ShapeExact.{shape-exact}
-use Rattle.matching.specs.Incidence.{Incident}
-use Rattle.matching.proofs.IncidenceExact.{incidences-exact}
-use Rattle.diamond.specs.Dyadic.{Diamond, Distinct}
-use Rattle.diamond.proofs.DyadicExact.{dyadic-exact, twice-diamond}
+use Rattle.valid_incidence.specs.Incidence.{Incident}
+use Rattle.valid_incidence.proofs.IncidenceExact.{incidences-exact}
+use Rattle.valid_diamond.specs.Dyadic.{Diamond, Distinct}
+use Rattle.valid_diamond.proofs.DyadicExact.{dyadic-exact, twice-diamond}
 use Rattle.valid.specs.Bounds.{Bounded}
 use Rattle.valid.specs.Tests as tests
 use Rattle.valid.proofs.BoundsExact.{bounded-exact}

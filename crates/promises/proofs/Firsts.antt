@@ -14,9 +14,9 @@ use Rattle.listing.specs.declared.Answer.{Answer}
 use Rattle.listing.specs.Answers.{fine, on, _orElse_, firstIn, firstFor, firstOf}
 use Rattle.listing.specs.Listing.{Listing, count}
 use Rattle.listing.proofs.Answers.{or-fine, or-stop, on-no, of-each}
-use Rattle.searching.specs.Course.{Earlier}
-use Rattle.diamond.specs.Dyadic.{thirdTest}
-use Rattle.diamond.proofs.Counting.{occurs-nil, occurs-cons, still}
+use Rattle.search_theory.specs.Course.{Earlier}
+use Rattle.valid_diamond.specs.Dyadic.{thirdTest}
+use Rattle.valid_diamond.proofs.Counting.{occurs-nil, occurs-cons, still}
 use Rattle.promises.specs.Named.{FirstIn, FirstThird}
 use Rattle.promises.proofs.Broken.{zero-or}
 

@@ -10,11 +10,11 @@ use Rattle.listing.specs.declared.Answer.{Answer}
 use Rattle.listing.specs.Refusals.{loneBetween}
 use Rattle.listing.specs.Answers.{refusal, fine}
 use Rattle.listing.specs.Listing.{Listing, listing, Limits, limits, rank}
-use Rattle.diamond.specs.Dyadic.{DiamondAt}
+use Rattle.valid_diamond.specs.Dyadic.{DiamondAt}
 use Rattle.valid.specs.Ascent.{Ascends}
 use Rattle.valid.specs.Tests.{isValid, closed}
 use Rattle.valid.proofs.ClosedExact.{closed-exact, closed-is-valid-and}
-use Rattle.closure.specs.Result.{HighEnough}
+use Rattle.product_closure.specs.Result.{HighEnough}
 use Rattle.product.specs.declared.Built.{Built}
 use Rattle.product.specs.Outcome.{Outcome}
 use Rattle.promises.specs.Starred.{leakingBox, Row, answered, table}

@@ -16,24 +16,24 @@ use Rattle.listing.specs.Answers.{plain, on, _orElse_}
 use Rattle.listing.specs.Listing.{Listing, Limits, limits, rank, count}
 use Rattle.listing.specs.Shape.{elements, shapeTest}
 use Rattle.listing.proofs.Answers.{or-fine, or-stop, no-of}
-use Rattle.matching.specs.Incidence.{Incident, incidencesTest}
-use Rattle.diamond.specs.Dyadic.{walk, Between, Distinct}
-use Rattle.diamond.proofs.Counting.{occurs-cons, occurs-own}
-use Rattle.diamond.proofs.Twos.{Once, once-head, once-tail}
-use Rattle.diamond.proofs.DyadicExact.{over, over-between, over-once, met-over}
+use Rattle.valid_incidence.specs.Incidence.{Incident, incidencesTest}
+use Rattle.valid_diamond.specs.Dyadic.{walk, Between, Distinct}
+use Rattle.valid_diamond.proofs.Counting.{occurs-cons, occurs-own}
+use Rattle.valid_diamond.proofs.Twos.{Once, once-head, once-tail}
+use Rattle.valid_diamond.proofs.DyadicExact.{over, over-between, over-once, met-over}
 use Rattle.valid.specs.Bounds.{boundedTest}
 use Rattle.valid.specs.Ascent.{ascentTest}
 use Rattle.valid.specs.Tests as tests
 use Rattle.valid.proofs.AscentExact.{ascent-exact, ascends-distinct}
-use Rattle.closure.specs.Result.{combCase, resultOf}
-use Rattle.sizing.specs.Sizing.{sizeTest}
+use Rattle.product_closure.specs.Result.{combCase, resultOf}
+use Rattle.product_sizes.specs.Sizing.{sizeTest}
 use Rattle.product.specs.declared.Built.{Built}
 use Rattle.product.specs.Outcome.{productTest, Outcome}
 use Rattle.product.proofs.Answered.{answers}
-use Rattle.changing.specs.Flags.{flagTest, startTest}
+use Rattle.flag_change.specs.Flags.{flagTest, startTest}
 use Rattle.flag.specs.Changed.{changeTest, changedOf}
-use Rattle.masks.specs.Masks.{maskFits}
-use Rattle.walking.specs.Searched.{foundBy}
+use Rattle.search_masks.specs.Masks.{maskFits}
+use Rattle.search_walk.specs.Searched.{foundBy}
 use Rattle.search.specs.Outcome.{searchTest}
 use Rattle.promises.specs.Entries.{lent, flag, asked, tables}
 use Rattle.promises.specs.Named.{FirstThird, Named, of-shape, of-flags, not-bounded, no-subs, no-sups}

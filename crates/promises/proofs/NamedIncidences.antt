@@ -15,10 +15,10 @@ use Rattle.listing.specs.declared.Answer.{Answer}
 use Rattle.listing.specs.Answers.{refusal, on}
 use Rattle.listing.specs.Listing.{Listing, rank, count, below, before, entries, subs, sups}
 use Rattle.listing.proofs.Answers.{no-or}
-use Rattle.matching.specs.Incidence.{entryTest, alongTest, elementTest, incidencesTest}
-use Rattle.matching.specs.Ways.{listTest}
-use Rattle.matching.proofs.Sequences.{in-some}
-use Rattle.matching.proofs.IncidenceExact.{Down, Up, entry-exact, down-exact, element-exact, below-is}
+use Rattle.valid_incidence.specs.Incidence.{entryTest, alongTest, elementTest, incidencesTest}
+use Rattle.valid_incidence.specs.Ways.{listTest}
+use Rattle.valid_incidence.proofs.Sequences.{in-some}
+use Rattle.valid_incidence.proofs.IncidenceExact.{Down, Up, entry-exact, down-exact, element-exact, below-is}
 use Rattle.promises.specs.Named.{FirstAt, FirstIn, SubBack, LowerAt, UpperAt, IncidentAt, Named}
 use Rattle.promises.specs.Named.{no-subs, no-sups, sub-not-back, sup-not-back, sub-missing, sup-missing}
 use Rattle.promises.proofs.Firsts.{Tells, tells-or, tells-on, tells-cond, tells-in, tells-elements}

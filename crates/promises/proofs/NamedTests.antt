@@ -17,11 +17,11 @@ use Rattle.listing.specs.Answers.{plain, on, _orElse_}
 use Rattle.listing.specs.Listing.{Listing, Limits, rank, count, side}
 use Rattle.listing.specs.Shape.{elements, fills, shapeTest}
 use Rattle.listing.proofs.Answers.{on-no}
-use Rattle.matching.specs.Incidence.{incidencesTest, Incident}
-use Rattle.matching.proofs.IncidenceExact.{incidences-exact}
-use Rattle.diamond.specs.Dyadic.{walk, seenAfter, loneTest, third, lone, sectionsTest, dyadicTest}
-use Rattle.diamond.proofs.Counting.{occurs-nil, third-each, all-seen, sections-exact}
-use Rattle.diamond.proofs.DyadicExact.{there}
+use Rattle.valid_incidence.specs.Incidence.{incidencesTest, Incident}
+use Rattle.valid_incidence.proofs.IncidenceExact.{incidences-exact}
+use Rattle.valid_diamond.specs.Dyadic.{walk, seenAfter, loneTest, third, lone, sectionsTest, dyadicTest}
+use Rattle.valid_diamond.proofs.Counting.{occurs-nil, third-each, all-seen, sections-exact}
+use Rattle.valid_diamond.proofs.DyadicExact.{there}
 use Rattle.valid.specs.Bounds.{boundedTest}
 use Rattle.valid.specs.Ascent.{climbs, sideAscent, elementAscent, ascentTest}
 use Rattle.valid.specs.Tests as tests

@@ -13,8 +13,8 @@ use Rattle.listing.specs.Answers.{refusal, fine, on, _orElse_, firstIn, firstFo
 use Rattle.order.specs.Lists.{has, occurs}
 use Rattle.listing.specs.Listing.{Listing, rank, count, entries, side, subs, sups}
 use Rattle.listing.proofs.Answers.{or-fine, or-stop}
-use Rattle.matching.specs.Incidence.{entryTest, alongTest, elementTest, incidencesTest}
-use Rattle.diamond.specs.Dyadic.{walk, thirdTest, seenAfter, loneTest, sectionsTest, dyadicTest}
+use Rattle.valid_incidence.specs.Incidence.{entryTest, alongTest, elementTest, incidencesTest}
+use Rattle.valid_diamond.specs.Dyadic.{walk, thirdTest, seenAfter, loneTest, sectionsTest, dyadicTest}
 use Rattle.valid.specs.Bounds.{boundedTest}
 use Rattle.valid.specs.Ascent.{climbs, sideAscent, elementAscent, ascentTest}
 use Rattle.promises.proofs.Broken.{zero-or}

@@ -9,7 +9,7 @@ use mathlib.Core.List.{List}
 use Prim.Native.Nat.{ℕ}
 use Rattle.listing.specs.Listing.{Listing, listing, limits}
 use Rattle.product.specs.declared.Built.{Built}
-use Rattle.closure.specs.Result.{resultOf}
+use Rattle.product_closure.specs.Result.{resultOf}
 use Rattle.product.specs.Outcome.{after, Outcome}
 use Rattle.flag.specs.declared.Event.{Event}
 use Rattle.flag.specs.declared.Said.{Said}

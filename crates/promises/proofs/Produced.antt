@@ -9,10 +9,10 @@ use Rattle.listing.specs.Listing.{Listing, listing, limits}
 use Rattle.listing.proofs.Answers.{no-or, no-of}
 use Rattle.listing.proofs.ShapeExact.{shape-exact}
 use Rattle.valid.specs.Tests.{bounded, checkIncidences, isValid}
-use Rattle.closure.specs.Result.{combCase, resultOf}
-use Rattle.closure.proofs.Results.{result-null, result-rank, nullitope-closed, needed}
-use Rattle.closure.proofs.Valid.{valid-sound, product-tests}
-use Rattle.closure.proofs.Pairs.{result-matched, result-low, result-high, result-swapped}
+use Rattle.product_closure.specs.Result.{combCase, resultOf}
+use Rattle.product_closure.proofs.Results.{result-null, result-rank, nullitope-closed, needed}
+use Rattle.product_closure.proofs.Valid.{valid-sound, product-tests}
+use Rattle.product_closure.proofs.Pairs.{result-matched, result-low, result-high, result-swapped}
 use Rattle.product.specs.declared.Built.{Built}
 use Rattle.product.specs.Outcome.{Outcome}
 use Rattle.product.proofs.Made.{built-full, after-full}

@@ -16,22 +16,22 @@ use Rattle.listing.specs.Counts.{counted}
 use Rattle.listing.specs.Shape.{fills, elements, shapeTest, Shaped}
 use Rattle.listing.proofs.Answers.{or-assoc}
 use Rattle.listing.proofs.ShapeExact.{fills-exact}
-use Rattle.matching.specs.Incidence.{Incident, incidencesTest}
-use Rattle.matching.proofs.IncidenceExact.{incidences-exact}
+use Rattle.valid_incidence.specs.Incidence.{Incident, incidencesTest}
+use Rattle.valid_incidence.proofs.IncidenceExact.{incidences-exact}
 use Rattle.order.proofs.Tests.{and-true, or-none}
-use Rattle.diamond.specs.Dyadic.{MetTwice, Diamond, dyadicTest}
-use Rattle.diamond.proofs.DyadicExact.{dyadic-counts, dyadic-exact}
+use Rattle.valid_diamond.specs.Dyadic.{MetTwice, Diamond, dyadicTest}
+use Rattle.valid_diamond.proofs.DyadicExact.{dyadic-counts, dyadic-exact}
 use Rattle.valid.specs.Bounds.{Bounded, boundedTest}
 use Rattle.valid.specs.Ascent.{Ascends, ascentTest}
 use Rattle.valid.specs.Closed.{Closed}
 use Rattle.valid.specs.Tests.{bounded, checkIncidences, isDyadic, isValid, closed}
 use Rattle.valid.proofs.BoundsExact.{bounded-exact}
 use Rattle.valid.proofs.AscentExact.{ascent-exact, ascends-distinct}
-use Rattle.closure.specs.Result.{combCase, resultOf}
-use Rattle.sizing.specs.Sizing.{sizeTest}
+use Rattle.product_closure.specs.Result.{combCase, resultOf}
+use Rattle.product_sizes.specs.Sizing.{sizeTest}
 use Rattle.product.specs.Outcome.{productTest}
-use Rattle.changing.specs.Flags.{flagTest, startTest, IsFlag}
-use Rattle.changing.proofs.FlagExact.{flag-exact}
+use Rattle.flag_change.specs.Flags.{flagTest, startTest, IsFlag}
+use Rattle.flag_change.proofs.FlagExact.{flag-exact}
 use Rattle.flag.specs.Changed.{changeTest}
 use Rattle.promises.specs.Rules.{Rule, FirstBroken, Filled, countRules, shapeRules}
 use Rattle.promises.specs.Rules.{flagRule, changeRules, productRules}

@@ -12,13 +12,13 @@ use Rattle.listing.specs.Answers.{plain, ifZero, on}
 use Rattle.listing.specs.Listing.{Listing, limits, rank}
 use Rattle.listing.proofs.Answers.{or-fine, on-no, on-off}
 use Rattle.valid.specs.Closed.{Closed}
-use Rattle.changing.specs.Flags.{startTest, IsFlag}
-use Rattle.changing.proofs.StartExact.{start-exact}
-use Rattle.searching.specs.Search.{State, More}
-use Rattle.masks.specs.Masks.{maskFits}
-use Rattle.masks.proofs.Ranks.{fits-exact}
+use Rattle.flag_change.specs.Flags.{startTest, IsFlag}
+use Rattle.flag_change.proofs.StartExact.{start-exact}
+use Rattle.search_theory.specs.Search.{State, More}
+use Rattle.search_masks.specs.Masks.{maskFits}
+use Rattle.search_masks.proofs.Ranks.{fits-exact}
 use Rattle.search.specs.declared.Searched.{Searched}
-use Rattle.walking.specs.Searched.{foundBy}
+use Rattle.search_walk.specs.Searched.{foundBy}
 use Rattle.search.specs.Outcome.{refusedAs, foundAs, searchTest, searchedOf, searchedBy, tableAfter, bytesAfter}
 use Rattle.search.specs.Exact.{Inside, Taken, Leads, Promised}
 use Rattle.search.proofs.Exact.{promised}

@@ -10,21 +10,21 @@ use Rattle.listing.specs.Listing.{before, entries}
 use Rattle.listing.specs.Shape.{fills, shapeTest}
 use Rattle.listing.specs.Layers.{gather, derived}
 use Rattle.listing.specs.Written.{joined, table as numbers, listAt, nth, written}
-use Rattle.matching.specs.Incidence.{entryTest, alongTest, elementTest, incidencesTest}
-use Rattle.diamond.specs.Dyadic.{subsOfAll, thirdTest, seenAfter, loneTest, sectionsTest, dyadicTest}
+use Rattle.valid_incidence.specs.Incidence.{entryTest, alongTest, elementTest, incidencesTest}
+use Rattle.valid_diamond.specs.Dyadic.{subsOfAll, thirdTest, seenAfter, loneTest, sectionsTest, dyadicTest}
 use Rattle.valid.specs.Bounds.{boundedTest}
 use Rattle.valid.specs.Ascent.{climbs, elementAscent, ascentTest}
 use Rattle.valid.specs.Tests.{isValid, closed}
-use Rattle.pairing.specs.Trimmed.{trimSize, trimUnder}
-use Rattle.pairing.specs.Paired.{block, offset, position, pairOf, pairAt, leftSubs, rightSubs}
-use Rattle.pairing.specs.Grown.{upTo, minSize, minUnder, maxSize, maxUnder}
-use Rattle.pairing.specs.Product.{product, productOf}
-use Rattle.closure.specs.Result.{nullCase, combCase, resultOf}
-use Rattle.sizing.specs.Sizing.{sizeTest}
+use Rattle.product_pairs.specs.Trimmed.{trimSize, trimUnder}
+use Rattle.product_pairs.specs.Paired.{block, offset, position, pairOf, pairAt, leftSubs, rightSubs}
+use Rattle.product_pairs.specs.Grown.{upTo, minSize, minUnder, maxSize, maxUnder}
+use Rattle.product_pairs.specs.Product.{product, productOf}
+use Rattle.product_closure.specs.Result.{nullCase, combCase, resultOf}
+use Rattle.product_sizes.specs.Sizing.{sizeTest}
 use Rattle.product.specs.Outcome.{productTest}
 use Rattle.order.specs.Tests.{every}
-use Rattle.changing.specs.Flags.{flagAt, flagTest, startTest}
-use Rattle.changing.specs.Change.{common, other, between, changeAt, padded}
+use Rattle.flag_change.specs.Flags.{flagAt, flagTest, startTest}
+use Rattle.flag_change.specs.Change.{common, other, between, changeAt, padded}
 use Rattle.flag.specs.Changed.{changeTest, changedOf}
 use Rattle.promises.specs.Starred.{answered, table}
 

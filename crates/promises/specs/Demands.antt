@@ -27,13 +27,13 @@ use Rattle.listing.specs.declared.Number.{Number}
 use Rattle.listing.specs.Refusals.{bandNo}
 use Rattle.listing.specs.Listing.{Listing, Limits, limits, rank}
 use Rattle.listing.specs.Shape.{Shaped}
-use Rattle.matching.specs.Incidence.{Incident}
-use Rattle.diamond.specs.Dyadic.{Diamond, DiamondAt, Distinct}
+use Rattle.valid_incidence.specs.Incidence.{Incident}
+use Rattle.valid_diamond.specs.Dyadic.{Diamond, DiamondAt, Distinct}
 use Rattle.valid.specs.Bounds.{Bounded}
 use Rattle.valid.specs.Ascent.{Ascends}
 use Rattle.valid.specs.Closed.{Closed}
 use Rattle.product.specs.declared.Built.{Built}
-use Rattle.changing.specs.Change.{Changes, changeAt, padded}
+use Rattle.flag_change.specs.Change.{Changes, changeAt, padded}
 use Rattle.flag.specs.declared.Event.{Event}
 use Rattle.flag.specs.declared.Event.the-variants.{Nothing}
 use Rattle.flag.specs.declared.Said.{Said}

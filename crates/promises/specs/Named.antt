@@ -29,8 +29,8 @@ use Rattle.listing.specs.Refusals.{noRanks, fallingEnds, notBounded, noSubs, no
 use Rattle.listing.specs.Refusals.{subMissing, supMissing, thirdBetween, loneBetween, notAscending, notAFlag, moreFlags}
 use Rattle.listing.specs.Answers.{plain, refusal}
 use Rattle.listing.specs.Listing.{Listing, rank, count, side, subs, sups}
-use Rattle.matching.specs.Incidence.{Incident}
-use Rattle.diamond.specs.Dyadic.{walk, Between, Distinct}
+use Rattle.valid_incidence.specs.Incidence.{Incident}
+use Rattle.valid_diamond.specs.Dyadic.{walk, Between, Distinct}
 use Rattle.valid.specs.Bounds.{Bounded}
 use Rattle.listing.proofs.shape.Reads as shape
 use Rattle.valid.proofs.bounded.Reads as bounded
@@ -38,7 +38,7 @@ use Rattle.valid.proofs.check_incidences.Reads as check-incidences
 use Rattle.valid.proofs.is_dyadic.Reads as is-dyadic
 use Rattle.valid.proofs.is_valid.Reads as is-valid
 use Rattle.valid.proofs.closed.Reads as closed
-use Rattle.searching.specs.Course.{Earlier}
+use Rattle.search_theory.specs.Course.{Earlier}
 use Rattle.flag.proofs.change.Reads as change
 use Rattle.search.proofs.search.Reads as search
 use Rattle.product.specs.declared.Built.{Built}

@@ -19,9 +19,9 @@ use lib.ListN.{length, take, drop}
 use Rattle.listing.specs.Listing.{Listing, listing, limits, rank}
 use Rattle.valid.specs.Closed.{Closed}
 use Rattle.valid.specs.Tests.{bounded, checkIncidences}
-use Rattle.pairing.specs.Trimmed.{bit}
-use Rattle.closure.specs.Result.{first, second, nullCase, resultOf, HighEnough}
-use Rattle.closure.specs.Pairs.{Matched, LowEnd, HighEnd, Swapped}
+use Rattle.product_pairs.specs.Trimmed.{bit}
+use Rattle.product_closure.specs.Result.{first, second, nullCase, resultOf, HighEnough}
+use Rattle.product_closure.specs.Pairs.{Matched, LowEnd, HighEnd, Swapped}
 use Rattle.product.specs.declared.Built.{Built}
 use Rattle.promises.specs.Rules.{Rule, FirstBroken, productRules}
 

@@ -28,14 +28,14 @@ use Rattle.listing.specs.Refusals.{moreFlags, leftInvalid, rightInvalid, combOf
 use Rattle.listing.specs.Refusals.{productIncidences, outputShort}
 use Rattle.listing.specs.Listing.{Listing, Limits, rank, start}
 use Rattle.listing.specs.Shape.{elements}
-use Rattle.matching.specs.Incidence.{Incident}
-use Rattle.diamond.specs.Dyadic.{MetTwice, Diamond}
+use Rattle.valid_incidence.specs.Incidence.{Incident}
+use Rattle.valid_diamond.specs.Dyadic.{MetTwice, Diamond}
 use Rattle.valid.specs.Bounds.{Bounded}
 use Rattle.valid.specs.Ascent.{Ascends}
 use Rattle.valid.specs.Tests.{isValid}
-use Rattle.closure.specs.Result.{combCase, resultOf}
-use Rattle.changing.specs.Flags.{IsFlag}
-use Rattle.searching.specs.Search.{More}
+use Rattle.product_closure.specs.Result.{combCase, resultOf}
+use Rattle.flag_change.specs.Flags.{IsFlag}
+use Rattle.search_theory.specs.Search.{More}
 use Rattle.search.specs.Exact.{Inside, Leads}
 
 pub record Rule : Type 1 where

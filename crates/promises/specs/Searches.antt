@@ -13,9 +13,9 @@ use Prim.Native.Nat.{ℕ, _+_, _≤_}
 use lib.ListN.{length, take}
 use Rattle.listing.specs.Refusals.{moreFlags}
 use Rattle.listing.specs.Listing.{Listing, limits, rank}
-use Rattle.store.specs.Rows.{rows}
+use Rattle.search_store.specs.Rows.{rows}
 use Rattle.search.specs.declared.Searched.{Searched}
-use Rattle.walking.specs.Searched.{foundBy}
+use Rattle.search_walk.specs.Searched.{foundBy}
 use Rattle.search.specs.Outcome.{refusedAs, roomOf}
 use Rattle.search.specs.Exact.{Holds, Finds}
 use Rattle.promises.specs.Rules.{FirstBroken, searchRules}

@@ -24,9 +24,9 @@ use Rattle.listing.specs.Answers.{refusal, plain, fine}
 use Rattle.listing.specs.Listing.{Listing, listing, limits}
 use Rattle.listing.specs.Cells.{nullitope, point, dyad, triangle, nothing, twoMinimal, threeOnTop, oneOnTop, struck}
 use Rattle.valid.specs.Tests.{isValid, closed}
-use Rattle.closure.specs.Result.{resultOf}
+use Rattle.product_closure.specs.Result.{resultOf}
 use Rattle.product.specs.Outcome.{productTest}
-use Rattle.changing.specs.Change.{padded}
+use Rattle.flag_change.specs.Change.{padded}
 use Rattle.flag.specs.declared.Changed.{Changed}
 use Rattle.flag.specs.Changed.{changedOf}
 

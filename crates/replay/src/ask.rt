@@ -1,10 +1,11 @@
 // Each question read from its line and put to the function that it names. The functions are told apart by letters of
 // their names.
 use crate::text;
-use asking::cell;
-use asking::flags;
-use asking::pair;
-use asking::room;
+use listing::Index;
+use replay_asking::cell;
+use replay_asking::flags;
+use replay_asking::pair;
+use replay_asking::room;
 
 // The class of a refusal's number.
 fn class(line: &[u8]) {
@@ -25,12 +26,12 @@ fn next_event(line: &[u8]) {
 }
 
 // A count: rank, vertex_count, facet_count, el_count.
-fn count(line: &[u8], counts: &[u16]) {
+fn count(line: &[u8], counts: &[Index]) {
     cell::count(text::letter(line, 3), counts, text::plain(line, 0) as usize);
 }
 
 // A search with room of the lengths that the line asks for.
-fn search(line: &[u8], counts: &[u16], ends: &[u16], inc: &[u16], first: &[u16]) {
+fn search(line: &[u8], counts: &[Index], ends: &[Index], inc: &[Index], first: &[Index]) {
     let mask = text::narrow(text::plain(line, 0));
     let table = text::plain(line, 1);
     let odd = text::plain(line, 2);
@@ -38,12 +39,12 @@ fn search(line: &[u8], counts: &[u16], ends: &[u16], inc: &[u16], first: &[u16])
 }
 
 // A search with all room, and its events.
-fn events(line: &[u8], counts: &[u16], ends: &[u16], inc: &[u16], first: &[u16]) {
+fn events(line: &[u8], counts: &[Index], ends: &[Index], inc: &[Index], first: &[Index]) {
     flags::events(counts, ends, inc, first, text::narrow(text::plain(line, 0)));
 }
 
 // A question on a flag: change, search, events.
-fn on_flag(line: &[u8], counts: &[u16], ends: &[u16], inc: &[u16], flag: &[u16]) {
+fn on_flag(line: &[u8], counts: &[Index], ends: &[Index], inc: &[Index], flag: &[Index]) {
     match text::letter(line, 0) {
         b'c' => flags::change(counts, ends, inc, flag, text::narrow(text::plain(line, 0))),
         b's' => search(line, counts, ends, inc, flag),
@@ -65,7 +66,7 @@ fn product_letter(line: &[u8]) -> u8 {
 }
 
 // A question on two factors, of which the first is read already, with room of the lengths that the line asks for.
-fn on_factors(line: &[u8], pcounts: &[u16], pends: &[u16], pinc: &[u16]) {
+fn on_factors(line: &[u8], pcounts: &[Index], pends: &[Index], pinc: &[Index]) {
     let mut counts = room::few();
     let mut ends = room::some();
     let mut inc = room::many();
@@ -114,7 +115,7 @@ fn is_on_flag(line: &[u8]) -> bool {
 }
 
 // A question with lists: a cell, and then a flag or the second factor.
-fn on_lists(line: &[u8], counts: &[u16], ends: &[u16], inc: &[u16], flag: &[u16]) {
+fn on_lists(line: &[u8], counts: &[Index], ends: &[Index], inc: &[Index], flag: &[Index]) {
     if is_product(line) {
         on_factors(line, counts, ends, inc);
         return;

@@ -1,5 +1,6 @@
 // Words, numbers and lists out of a line of text. A list is numbers in brackets, where 5*3 stands for 5 5 5. Numbers
 // outside of lists come after all lists.
+use listing::Index;
 ghost use mathlib.Core.Path.{_≡_};
 ghost use Prim.Native.Nat.{_≤_, min};
 ghost use lib.ListN.{length};
@@ -125,7 +126,7 @@ fn later(a: usize, b: usize) -> usize
 }
 
 // Writes a number as often as asked from a place on, as far as there is room, and says where it stopped.
-fn put(out: &mut [u16], from: usize, v: u16, times: u64) -> usize
+fn put(out: &mut [Index], from: usize, v: u16, times: u64) -> usize
     requires { ⌜ from ≤ length (now out) ⌝ }
     ensures { λ r. ⌜ r ≤ length (now (out .exit)) ⌝ }
 {
@@ -157,7 +158,7 @@ fn opening(line: &[u8], k: usize) -> usize {
 }
 
 // The numbers from a place to the closing bracket, into the start of a slice; says how many there are.
-fn fill(line: &[u8], from: usize, out: &mut [u16]) -> usize
+fn fill(line: &[u8], from: usize, out: &mut [Index]) -> usize
     ensures { λ r. ⌜ r ≤ length (now (out .exit)) ⌝ }
 {
     let mut i = from;
@@ -179,7 +180,7 @@ fn fill(line: &[u8], from: usize, out: &mut [u16]) -> usize
 }
 
 // A list of the line, the first being 0, into the start of a slice; says how many numbers it has.
-pub fn list(line: &[u8], k: usize, out: &mut [u16]) -> usize
+pub fn list(line: &[u8], k: usize, out: &mut [Index]) -> usize
     ensures { λ r. ⌜ Counts r (now (out .exit)) ⌝ }
 {
     let from = opening(line, k);

@@ -16,20 +16,20 @@ use lib.Seq.{drop-at, ext-getD}
 use Rattle.order.specs.Steps.{Reach}
 use Rattle.listing.specs.Answers.{fine}
 use Rattle.listing.specs.Listing.{Listing, Limits, rank}
-use Rattle.changing.specs.Flags.{IsFlag}
-use Rattle.searching.specs.Search.{State, Neighbour, More, Kept, Colouring, tone}
-use Rattle.searching.proofs.Once.{in-at}
-use Rattle.searching.proofs.Lookup.{index-only}
-use Rattle.searching.proofs.Grown.{start-even, start-first}
-use Rattle.searching.proofs.Kept.{search-kept}
-use Rattle.searching.proofs.Found.{found-exact, found-count}
-use Rattle.searching.proofs.Coloured.{coloured-bytes}
-use Rattle.searching.proofs.Orientation.{bytes-flip, place-exact}
-use Rattle.searching.proofs.Alike.{came-alike, clash-alike}
-use Rattle.searching.proofs.Course.{search-came, search-clash}
-use Rattle.store.specs.Rows.{rowOf, rows, sameList, flatten}
-use Rattle.store.proofs.Rows.{same-decides, rows-length, rows-at}
-use Rattle.walking.specs.Searched.{neighbours, foundBy}
+use Rattle.flag_change.specs.Flags.{IsFlag}
+use Rattle.search_theory.specs.Search.{State, Neighbour, More, Kept, Colouring, tone}
+use Rattle.search_theory.proofs.Once.{in-at}
+use Rattle.search_theory.proofs.Lookup.{index-only}
+use Rattle.search_theory.proofs.Grown.{start-even, start-first}
+use Rattle.search_theory.proofs.Kept.{search-kept}
+use Rattle.search_theory.proofs.Found.{found-exact, found-count}
+use Rattle.search_theory.proofs.Coloured.{coloured-bytes}
+use Rattle.search_theory.proofs.Orientation.{bytes-flip, place-exact}
+use Rattle.search_theory.proofs.Alike.{came-alike, clash-alike}
+use Rattle.search_theory.proofs.Course.{search-came, search-clash}
+use Rattle.search_store.specs.Rows.{rowOf, rows, sameList, flatten}
+use Rattle.search_store.proofs.Rows.{same-decides, rows-length, rows-at}
+use Rattle.search_walk.specs.Searched.{neighbours, foundBy}
 use Rattle.search.specs.Outcome.{foundAs}
 use Rattle.search.specs.Exact.{Taken, Leads, FirstMet, Repeat, Holds, Finds}
 use Rattle.search.proofs.Flat.{flat-length, flat-row, flat-past}

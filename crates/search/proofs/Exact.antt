@@ -15,18 +15,18 @@ use Rattle.listing.proofs.Answers.{or-stop}
 use Rattle.valid.specs.Closed.{Closed}
 use Rattle.valid.specs.Tests.{closed}
 use Rattle.valid.proofs.ClosedExact.{closed-exact}
-use Rattle.changing.specs.Flags.{IsFlag, flagTest, startTest}
-use Rattle.changing.proofs.FlagExact.{flag-exact}
-use Rattle.changing.proofs.StartExact.{start-exact, start-none}
-use Rattle.searching.specs.Search.{State, More}
-use Rattle.searching.proofs.Found.{over-exact, over-full}
-use Rattle.searching.proofs.Prefix.{prefix}
-use Rattle.store.specs.Rows.{rows, sameList, flatten}
-use Rattle.store.proofs.Rows.{same-decides}
-use Rattle.masks.specs.Masks.{maskFits}
-use Rattle.masks.proofs.Ranks.{fits-exact}
+use Rattle.flag_change.specs.Flags.{IsFlag, flagTest, startTest}
+use Rattle.flag_change.proofs.FlagExact.{flag-exact}
+use Rattle.flag_change.proofs.StartExact.{start-exact, start-none}
+use Rattle.search_theory.specs.Search.{State, More}
+use Rattle.search_theory.proofs.Found.{over-exact, over-full}
+use Rattle.search_theory.proofs.Prefix.{prefix}
+use Rattle.search_store.specs.Rows.{rows, sameList, flatten}
+use Rattle.search_store.proofs.Rows.{same-decides}
+use Rattle.search_masks.specs.Masks.{maskFits}
+use Rattle.search_masks.proofs.Ranks.{fits-exact}
 use Rattle.search.specs.declared.Searched.{Searched}
-use Rattle.walking.specs.Searched.{neighbours, foundBy}
+use Rattle.search_walk.specs.Searched.{neighbours, foundBy}
 use Rattle.search.specs.Outcome.{refusedAs, foundAs, roomOf, tableAfter, bytesAfter}
 use Rattle.search.specs.Exact.{Inside, Taken, Leads, Holds, Finds, room, said, number, After, Promised}
 use Rattle.search.proofs.Leads.{more-leads}

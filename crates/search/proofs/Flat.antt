@@ -7,8 +7,8 @@ use native.Mathlib.Nat.{suc-mul, zero-mul}
 use native.Mathlib.Omega.{arith}
 use lib.ListN.{length, getD, drop, length-append}
 use lib.Seq.{take-at, drop-at, drop-append-add}
-use Rattle.store.specs.Rows.{rowOf, flatten}
-use Rattle.walking.proofs.Neighbours.{All}
+use Rattle.search_store.specs.Rows.{rowOf, flatten}
+use Rattle.search_walk.proofs.Neighbours.{All}
 
 module _ (w : ℕ) where
   -- all have w numbers

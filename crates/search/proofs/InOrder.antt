@@ -8,15 +8,15 @@ use native.Mathlib.Decide.{ℕ-discrete}
 use native.Mathlib.Omega.{arith}
 use lib.ListN.{length, getD}
 use Rattle.listing.specs.Listing.{Listing}
-use Rattle.changing.specs.Change.{changeAt}
-use Rattle.changing.proofs.Halving.{ascending-at, ascending-back}
-use Rattle.searching.specs.Course.{Earlier, Stands, Agrees, Inside, nbr, Came, Clash}
-use Rattle.searching.proofs.Once.{in-at, at-in}
-use Rattle.masks.specs.Masks.{ranksOf}
-use Rattle.masks.proofs.Ranks.{ranks-exact, ranks-ascend}
-use Rattle.walking.specs.Searched.{neighbours}
+use Rattle.flag_change.specs.Change.{changeAt}
+use Rattle.flag_change.proofs.Halving.{ascending-at, ascending-back}
+use Rattle.search_theory.specs.Course.{Earlier, Stands, Agrees, Inside, nbr, Came, Clash}
+use Rattle.search_theory.proofs.Once.{in-at, at-in}
+use Rattle.search_masks.specs.Masks.{ranksOf}
+use Rattle.search_masks.proofs.Ranks.{ranks-exact, ranks-ascend}
+use Rattle.search_walk.specs.Searched.{neighbours}
 use Rattle.search.specs.Exact.{Asked, FirstMet, Repeat}
-use Rattle.walking.proofs.Neighbours.{mem-in, in-mem}
+use Rattle.search_walk.proofs.Neighbours.{mem-in, in-mem}
 
 -- ---- places in lists
 

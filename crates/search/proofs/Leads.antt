@@ -7,15 +7,15 @@ use mathlib.Core.List.{List, Memᴰ·map, Memᴰ·of-map, Memᴰ·cast}
 use Prim.Native.Nat.{ℕ, _<_}
 use Rattle.order.specs.Steps.{Reach, start, next}
 use Rattle.listing.specs.Listing.{Listing, Limits}
-use Rattle.changing.specs.Flags.{IsFlag}
-use Rattle.changing.specs.Change.{changeAt, Changes}
-use Rattle.changing.proofs.Changes.{changes}
-use Rattle.searching.specs.Search.{Neighbour, More, Colouring}
-use Rattle.masks.specs.Masks.{bit, ranksOf}
-use Rattle.masks.proofs.Ranks.{ranks-exact}
-use Rattle.walking.specs.Searched.{neighbours}
+use Rattle.flag_change.specs.Flags.{IsFlag}
+use Rattle.flag_change.specs.Change.{changeAt, Changes}
+use Rattle.flag_change.proofs.Changes.{changes}
+use Rattle.search_theory.specs.Search.{Neighbour, More, Colouring}
+use Rattle.search_masks.specs.Masks.{bit, ranksOf}
+use Rattle.search_masks.proofs.Ranks.{ranks-exact}
+use Rattle.search_walk.specs.Searched.{neighbours}
 use Rattle.search.specs.Exact.{Taken, Leads}
-use Rattle.walking.proofs.Neighbours.{mem-in, in-mem}
+use Rattle.search_walk.proofs.Neighbours.{mem-in, in-mem}
 
 module _ {m : Limits} {L : Listing} {first : List ℕ} {mask : ℕ} (T : Taken m L first mask) where
   -- the change at a rank that is asked for

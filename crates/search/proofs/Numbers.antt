@@ -11,12 +11,12 @@ use Rattle.listing.specs.declared.Answer.{Answer}
 use Rattle.listing.specs.Answers.{refusal, on, ifZero, _orElse_, firstIn, firstFor, firstOf}
 use Rattle.listing.specs.Listing.{Listing, Limits, rank, count, entries, side, subs, sups}
 use Rattle.listing.specs.Shape.{fills, elements, shapeTest}
-use Rattle.matching.specs.Incidence.{entryTest, alongTest, elementTest, incidencesTest}
-use Rattle.diamond.specs.Dyadic.{walk, thirdTest, seenAfter, loneTest, sectionsTest, dyadicTest}
+use Rattle.valid_incidence.specs.Incidence.{entryTest, alongTest, elementTest, incidencesTest}
+use Rattle.valid_diamond.specs.Dyadic.{walk, thirdTest, seenAfter, loneTest, sectionsTest, dyadicTest}
 use Rattle.valid.specs.Bounds.{boundedTest}
 use Rattle.valid.specs.Ascent.{climbs, sideAscent, elementAscent, ascentTest}
 use Rattle.valid.specs.Tests.{closed}
-use Rattle.changing.specs.Flags.{flagTest, startTest}
+use Rattle.flag_change.specs.Flags.{flagTest, startTest}
 
 -- the number of an answer is at most n
 record Most (n : ℕ) (a : Answer) : Type 0 where

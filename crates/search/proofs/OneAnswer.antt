@@ -10,12 +10,12 @@ use native.Mathlib.Omega.{arith}
 use lib.ListN.{length, getD, take, drop, take-append-drop}
 use lib.Seq.{ext-getD, getD-drop}
 use Rattle.listing.specs.Listing.{Listing, rank}
-use Rattle.changing.specs.Change.{changeAt}
-use Rattle.searching.specs.Search.{Once}
-use Rattle.searching.specs.Course.{Earlier}
-use Rattle.searching.proofs.Once.{in-at}
-use Rattle.store.specs.Rows.{rowOf, rows, flatten}
-use Rattle.store.proofs.Rows.{rows-length, rows-at, rows-flat}
+use Rattle.flag_change.specs.Change.{changeAt}
+use Rattle.search_theory.specs.Search.{Once}
+use Rattle.search_theory.specs.Course.{Earlier}
+use Rattle.search_theory.proofs.Once.{in-at}
+use Rattle.search_store.specs.Rows.{rowOf, rows, flatten}
+use Rattle.search_store.proofs.Rows.{rows-length, rows-at, rows-flat}
 use Rattle.search.specs.declared.Searched.{Searched}
 use Rattle.search.specs.Exact.{FirstMet, Repeat, Holds, Finds}
 

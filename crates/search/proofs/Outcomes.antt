@@ -13,18 +13,18 @@ use Rattle.listing.specs.declared.Answer.{Answer}
 use Rattle.listing.specs.Answers.{plain, fine, ifZero, on}
 use Rattle.listing.specs.Listing.{Listing, Limits, rank}
 use Rattle.listing.proofs.Answers.{or-fine, or-stop}
-use Rattle.changing.specs.Flags.{startTest}
-use Rattle.searching.specs.Search.{State}
-use Rattle.store.specs.declared.found.Progress.{Progress}
-use Rattle.store.specs.Rows.{flatten}
-use Rattle.store.specs.Held.{stateOf}
-use Rattle.store.proofs.Rows.{rows-length, rows-flat}
-use Rattle.masks.specs.Masks.{maskFits}
+use Rattle.flag_change.specs.Flags.{startTest}
+use Rattle.search_theory.specs.Search.{State}
+use Rattle.search_store.specs.declared.found.Progress.{Progress}
+use Rattle.search_store.specs.Rows.{flatten}
+use Rattle.search_store.specs.Held.{stateOf}
+use Rattle.search_store.proofs.Rows.{rows-length, rows-flat}
+use Rattle.search_masks.specs.Masks.{maskFits}
 use Rattle.search.specs.declared.Searched.{Searched}
-use Rattle.walking.specs.Searched.{foundBy}
+use Rattle.search_walk.specs.Searched.{foundBy}
 use Rattle.search.specs.Outcome.{refusedAs, foundAs, roomOf, searchTest, searchedOf, after, searchedBy}
 use Rattle.search.specs.Outcome.{tableAfter, bytesAfter}
-use Rattle.walking.specs.Ready.{Ended}
+use Rattle.search_walk.specs.Ready.{Ended}
 use Rattle.search.proofs.Numbers.{start-most}
 
 -- ---- room

@@ -30,14 +30,14 @@ use Rattle.listing.specs.Answers.{plain, fine}
 use Rattle.listing.specs.Listing.{Listing, Limits, rank}
 use Rattle.valid.specs.Closed.{Closed}
 use Rattle.valid.specs.Tests.{closed}
-use Rattle.changing.specs.Flags.{IsFlag}
-use Rattle.changing.specs.Change.{changeAt}
-use Rattle.searching.specs.Search.{Once, More, Colouring, tone}
-use Rattle.searching.specs.Course.{Earlier, Stands, Agrees}
-use Rattle.store.specs.Rows.{rowOf, rows}
-use Rattle.masks.specs.Masks.{bit}
+use Rattle.flag_change.specs.Flags.{IsFlag}
+use Rattle.flag_change.specs.Change.{changeAt}
+use Rattle.search_theory.specs.Search.{Once, More, Colouring, tone}
+use Rattle.search_theory.specs.Course.{Earlier, Stands, Agrees}
+use Rattle.search_store.specs.Rows.{rowOf, rows}
+use Rattle.search_masks.specs.Masks.{bit}
 use Rattle.search.specs.declared.Searched.{Searched}
-use Rattle.walking.specs.Searched.{foundBy}
+use Rattle.search_walk.specs.Searched.{foundBy}
 use Rattle.search.specs.Outcome.{refusedAs, roomOf, searchedBy, tableAfter, bytesAfter}
 
 abbrev pub Inside : Listing → ℕ → Type 0

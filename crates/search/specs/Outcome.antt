@@ -19,12 +19,12 @@ use Rattle.listing.specs.declared.Answer.{Answer}
 use Rattle.listing.specs.Refusals.{outsideRanks, moreFlags}
 use Rattle.listing.specs.Answers.{plain, ifZero, on, _orElse_}
 use Rattle.listing.specs.Listing.{Listing, Limits, rank}
-use Rattle.changing.specs.Flags.{startTest}
-use Rattle.searching.specs.Search.{State}
-use Rattle.store.specs.Rows.{flatten}
-use Rattle.masks.specs.Masks.{maskFits}
+use Rattle.flag_change.specs.Flags.{startTest}
+use Rattle.search_theory.specs.Search.{State}
+use Rattle.search_store.specs.Rows.{flatten}
+use Rattle.search_masks.specs.Masks.{maskFits}
 use Rattle.search.specs.declared.Searched.{Searched}
-use Rattle.walking.specs.Searched.{foundBy}
+use Rattle.search_walk.specs.Searched.{foundBy}
 
 abbrev pub refusedAs : Answer → Searched
 refusedAs a = record { answer = a; count = 0; place = 0; orientable = 0 }

@@ -2,7 +2,7 @@
 use crate::Searched;
 use listing::Answer;
 use listing::inner;
-use store::found::Progress;
+use search_store::found::Progress;
 ghost use mathlib.Core.Path.{_≡_};
 ghost use Rattle.listing.specs.Answers.{fine};
 ghost use Rattle.search.specs.Outcome.{refusedAs, foundAs};

@@ -1,15 +1,16 @@
 // The search for the flags of a cell that changes lead to from a first flag, and for an orientation of them.
 mod answer;
 
-use changing::chain;
+use flag_change::chain;
 use listing::Answer;
+use listing::Index;
 use listing::inner;
 use listing::refusal;
-use masks::mask;
-use store::row;
-use walking::walk;
+use search_masks::mask;
+use search_store::row;
+use search_walk::walk;
 ghost use mathlib.Core.Path.{_≡_};
-ghost use Rattle.listing.specs.Listing.{listing, limits};
+ghost use Rattle.listing.specs.Listing.{held, limits};
 ghost use Rattle.search.specs.Outcome.{searchedBy, tableAfter, bytesAfter};
 
 // What a search answers: a refusal or 0; how many flags there are, how many came before the cell showed itself not
@@ -25,21 +26,21 @@ pub struct Searched {
 // The flags that the changes of a mask lead to from the first flag, written into the table in the order found, one
 // after another, and their orientations into the bytes.
 pub fn search(
-    counts: &[u16],
-    ends: &[u16],
-    inc: &[u16],
-    first: &[u16],
+    counts: &[Index],
+    ends: &[Index],
+    inc: &[Index],
+    first: &[Index],
     mask: u16,
-    table: &mut [u16],
+    table: &mut [Index],
     bytes: &mut [u8],
 ) -> Searched
-    ensures { λ r. ⌜ r ≡ searchedBy limits (listing (now (counts .entry)) (now (ends .entry)) (now (inc .entry)))
+    ensures { λ r. ⌜ r ≡ searchedBy limits (held (counts .entry) (ends .entry) (inc .entry))
         (now (first .entry)) mask (now (table .entry)) (now (bytes .entry)) ⌝ }
     ensures { λ r. ⌜ now (table .exit) ≡ tableAfter limits
-        (listing (now (counts .entry)) (now (ends .entry)) (now (inc .entry))) (now (first .entry)) mask
+        (held (counts .entry) (ends .entry) (inc .entry)) (now (first .entry)) mask
         (now (table .entry)) (now (bytes .entry)) ⌝ }
     ensures { λ r. ⌜ now (bytes .exit) ≡ bytesAfter limits
-        (listing (now (counts .entry)) (now (ends .entry)) (now (inc .entry))) (now (first .entry)) mask
+        (held (counts .entry) (ends .entry) (inc .entry)) (now (first .entry)) mask
         (now (table .entry)) (now (bytes .entry)) ⌝ }
 {
     let a = chain::check_flag(counts, ends, inc, first);

@@ -1,8 +1,9 @@
 // The flags of a cell: how many there are, and whether it is orientable.
+use listing::Index;
 use search::Searched;
 
 // The first n numbers of a slice; none where it is shorter.
-pub fn front<'a>(list: &'a [u16], n: usize) -> &'a [u16] {
+pub fn front<'a>(list: &'a [Index], n: usize) -> &'a [Index] {
     if list.len() < n {
         return &list[..0];
     }
@@ -19,9 +20,9 @@ fn all_changes(top: usize) -> u16 {
 
 // The search by all changes, with room for 256 flags. Its first flag has the first element of each rank: every closed
 // cell of the tour is numbered so that this is a flag. Of another cell no flags would be counted.
-pub fn count(counts: &[u16], ends: &[u16], inc: &[u16]) -> Searched {
-    let first = [0u16; 16];
-    let mut table = [0u16; 4096];
+pub fn count(counts: &[Index], ends: &[Index], inc: &[Index]) -> Searched {
+    let first: [Index; 16] = [0; 16];
+    let mut table: [Index; 4096] = [0; 4096];
     let mut bytes = [0u8; 256];
     search::search(
         counts,

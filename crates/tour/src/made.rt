@@ -1,12 +1,13 @@
 // Cells that are made as products of others.
 use crate::flags;
 use crate::row;
+use listing::Index;
 use product::Built;
 use product::make;
-use words::table;
+use tour_words::table;
 
 // What a product left in its slices, as a row.
-fn written(name: [u8; 30], b: Built, counts: &[u16], ends: &[u16], inc: &[u16]) {
+fn written(name: [u8; 30], b: Built, counts: &[Index], ends: &[Index], inc: &[Index]) {
     if b.answer.no != 0 {
         table::refused(name, b.answer);
         return;
@@ -24,16 +25,16 @@ pub fn show(
     name: [u8; 30],
     min: bool,
     max: bool,
-    pcounts: &[u16],
-    pends: &[u16],
-    pinc: &[u16],
-    qcounts: &[u16],
-    qends: &[u16],
-    qinc: &[u16],
+    pcounts: &[Index],
+    pends: &[Index],
+    pinc: &[Index],
+    qcounts: &[Index],
+    qends: &[Index],
+    qinc: &[Index],
 ) {
-    let mut counts = [0u16; 16];
-    let mut ends = [0u16; 128];
-    let mut inc = [0u16; 256];
+    let mut counts: [Index; 16] = [0; 16];
+    let mut ends: [Index; 128] = [0; 128];
+    let mut inc: [Index; 256] = [0; 256];
     let b = make::make(
         min,
         max,

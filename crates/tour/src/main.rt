@@ -4,7 +4,8 @@ mod made;
 mod names;
 mod row;
 
-use words::print;
+use listing::Index;
+use tour_words::print;
 
 // Each cell has a function of its own: a function with many constants is slow to check.
 
@@ -12,9 +13,9 @@ use words::print;
 fn whole_box() {
     row::show(
         names::BOX,
-        &cells::whole_box::COUNTS,
-        &cells::whole_box::ENDS,
-        &cells::whole_box::INC,
+        &tour_cells::whole_box::COUNTS,
+        &tour_cells::whole_box::ENDS,
+        &tour_cells::whole_box::INC,
     );
 }
 
@@ -22,9 +23,9 @@ fn whole_box() {
 fn leaking_box() {
     row::show(
         names::INSURERS_CELL,
-        &cells::leaking_box::COUNTS,
-        &cells::leaking_box::ENDS,
-        &cells::leaking_box::INC,
+        &tour_cells::leaking_box::COUNTS,
+        &tour_cells::leaking_box::ENDS,
+        &tour_cells::leaking_box::INC,
     );
 }
 
@@ -32,9 +33,9 @@ fn leaking_box() {
 fn lidless_box() {
     row::show(
         names::NO_LID,
-        &cells::lidless_box::COUNTS,
-        &cells::lidless_box::ENDS,
-        &cells::lidless_box::INC,
+        &tour_cells::lidless_box::COUNTS,
+        &tour_cells::lidless_box::ENDS,
+        &tour_cells::lidless_box::INC,
     );
 }
 
@@ -42,9 +43,9 @@ fn lidless_box() {
 fn hemicube() {
     row::show(
         names::HEMICUBE,
-        &cells::hemicube::COUNTS,
-        &cells::hemicube::ENDS,
-        &cells::hemicube::INC,
+        &tour_cells::hemicube::COUNTS,
+        &tour_cells::hemicube::ENDS,
+        &tour_cells::hemicube::INC,
     );
 }
 
@@ -52,9 +53,9 @@ fn hemicube() {
 fn two_minimal() {
     row::show(
         names::TWO_SMALLEST,
-        &cells::two_minimal::COUNTS,
-        &cells::two_minimal::ENDS,
-        &cells::two_minimal::INC,
+        &tour_cells::two_minimal::COUNTS,
+        &tour_cells::two_minimal::ENDS,
+        &tour_cells::two_minimal::INC,
     );
 }
 
@@ -62,9 +63,9 @@ fn two_minimal() {
 fn struck() {
     row::show(
         names::STRUCK,
-        &cells::struck::COUNTS,
-        &cells::struck::ENDS,
-        &cells::struck::INC,
+        &tour_cells::struck::COUNTS,
+        &tour_cells::struck::ENDS,
+        &tour_cells::struck::INC,
     );
 }
 
@@ -72,9 +73,9 @@ fn struck() {
 fn three_on_top() {
     row::show(
         names::THREE_VERTICES,
-        &cells::three_on_top::COUNTS,
-        &cells::three_on_top::ENDS,
-        &cells::three_on_top::INC,
+        &tour_cells::three_on_top::COUNTS,
+        &tour_cells::three_on_top::ENDS,
+        &tour_cells::three_on_top::INC,
     );
 }
 
@@ -82,9 +83,9 @@ fn three_on_top() {
 fn one_on_top() {
     row::show(
         names::ONE_VERTEX,
-        &cells::one_on_top::COUNTS,
-        &cells::one_on_top::ENDS,
-        &cells::one_on_top::INC,
+        &tour_cells::one_on_top::COUNTS,
+        &tour_cells::one_on_top::ENDS,
+        &tour_cells::one_on_top::INC,
     );
 }
 
@@ -92,26 +93,26 @@ fn one_on_top() {
 fn twice_listed() {
     row::show(
         names::VERTEX_TWICE,
-        &cells::twice_listed::COUNTS,
-        &cells::twice_listed::ENDS,
-        &cells::twice_listed::INC,
+        &tour_cells::twice_listed::COUNTS,
+        &tour_cells::twice_listed::ENDS,
+        &tour_cells::twice_listed::INC,
     );
 }
 
 // The nullitope n, the point p, the dyad d and the triangle t, and products of these.
 fn small_and_made(
-    nc: &[u16],
-    ne: &[u16],
-    ni: &[u16],
-    pc: &[u16],
-    pe: &[u16],
-    pi: &[u16],
-    dc: &[u16],
-    de: &[u16],
-    di: &[u16],
-    tc: &[u16],
-    te: &[u16],
-    ti: &[u16],
+    nc: &[Index],
+    ne: &[Index],
+    ni: &[Index],
+    pc: &[Index],
+    pe: &[Index],
+    pi: &[Index],
+    dc: &[Index],
+    de: &[Index],
+    di: &[Index],
+    tc: &[Index],
+    te: &[Index],
+    ti: &[Index],
 ) {
     row::show(names::NULLITOPE, nc, ne, ni);
     row::show(names::POINT, pc, pe, pi);
@@ -130,18 +131,18 @@ fn small_and_made(
 // The small cells, lent for their own rows and for those of their products.
 fn small() {
     small_and_made(
-        &cells::nullitope::COUNTS,
-        &cells::nullitope::ENDS,
-        &cells::nullitope::INC,
-        &cells::point::COUNTS,
-        &cells::point::ENDS,
-        &cells::point::INC,
-        &cells::dyad::COUNTS,
-        &cells::dyad::ENDS,
-        &cells::dyad::INC,
-        &cells::triangle::COUNTS,
-        &cells::triangle::ENDS,
-        &cells::triangle::INC,
+        &tour_cells::nullitope::COUNTS,
+        &tour_cells::nullitope::ENDS,
+        &tour_cells::nullitope::INC,
+        &tour_cells::point::COUNTS,
+        &tour_cells::point::ENDS,
+        &tour_cells::point::INC,
+        &tour_cells::dyad::COUNTS,
+        &tour_cells::dyad::ENDS,
+        &tour_cells::dyad::INC,
+        &tour_cells::triangle::COUNTS,
+        &tour_cells::triangle::ENDS,
+        &tour_cells::triangle::INC,
     );
 }
 

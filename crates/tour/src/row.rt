@@ -1,9 +1,10 @@
 // A row of the table: what the tests and the search say of one cell.
 use crate::flags;
-use words::table;
+use listing::Index;
+use tour_words::table;
 
 // A cell, by its name.
-pub fn show(name: [u8; 30], counts: &[u16], ends: &[u16], inc: &[u16]) {
+pub fn show(name: [u8; 30], counts: &[Index], ends: &[Index], inc: &[Index]) {
     let valid = valid::is_valid(counts, ends, inc);
     let s = flags::count(counts, ends, inc);
     let closed = valid::closed(counts, ends, inc);

@@ -20,8 +20,8 @@ use Rattle.listing.specs.Refusals.{notAscending}
 use Rattle.listing.proofs.Answers.{or-no, no-or, on-no, on-off}
 use Rattle.listing.proofs.Listing.{rank-there}
 use Rattle.order.proofs.Tests.{and-true}
-use Rattle.matching.proofs.Sequences.{at-sides, elements-exact}
-use Rattle.diamond.specs.Dyadic.{Distinct}
+use Rattle.valid_incidence.proofs.Sequences.{at-sides, elements-exact}
+use Rattle.valid_diamond.specs.Dyadic.{Distinct}
 use Rattle.valid.specs.Ascent.{climbs, sideAscent, elementAscent, ascentTest, Ascends}
 
 -- ---- a list, one place at a time

@@ -9,10 +9,10 @@ use Rattle.listing.specs.Listing.{Listing, Limits, rank}
 use Rattle.listing.specs.Shape.{Shaped}
 use Rattle.listing.proofs.Answers.{or-no, no-or}
 use Rattle.listing.proofs.ShapeExact.{shape-exact}
-use Rattle.matching.specs.Incidence.{Incident}
-use Rattle.matching.proofs.IncidenceExact.{incidences-exact}
-use Rattle.diamond.specs.Dyadic.{DiamondAt, Diamond, MetTwice}
-use Rattle.diamond.proofs.DyadicExact.{dyadic-counts, twice-diamond, dyadic-exact}
+use Rattle.valid_incidence.specs.Incidence.{Incident}
+use Rattle.valid_incidence.proofs.IncidenceExact.{incidences-exact}
+use Rattle.valid_diamond.specs.Dyadic.{DiamondAt, Diamond, MetTwice}
+use Rattle.valid_diamond.proofs.DyadicExact.{dyadic-counts, twice-diamond, dyadic-exact}
 use Rattle.valid.specs.Bounds.{Bounded}
 use Rattle.valid.specs.Ascent.{Ascends}
 use Rattle.valid.specs.Tests.{isValid, closed}

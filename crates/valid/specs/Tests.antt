@@ -10,8 +10,8 @@ use Rattle.listing.specs.declared.Answer.{Answer}
 use Rattle.listing.specs.Answers.{_orElse_}
 use Rattle.listing.specs.Listing.{Listing, Limits, rank}
 use Rattle.listing.specs.Shape.{shapeTest}
-use Rattle.matching.specs.Incidence.{incidencesTest}
-use Rattle.diamond.specs.Dyadic.{dyadicTest}
+use Rattle.valid_incidence.specs.Incidence.{incidencesTest}
+use Rattle.valid_diamond.specs.Dyadic.{dyadicTest}
 use Rattle.valid.specs.Bounds.{boundedTest}
 use Rattle.valid.specs.Ascent.{ascentTest}
 

@@ -1,17 +1,18 @@
 // The ascent test, 19, on a listing that is known to be shaped.
 use listing::Answer;
+use listing::Index;
 use listing::inner;
 use listing::refusal;
 ghost use mathlib.Core.Path.{_≡_};
 ghost use Prim.Native.Nat.{_<_};
 ghost use lib.ListN.{length, getD};
 ghost use Rattle.listing.specs.Answers.{firstOf};
-ghost use Rattle.listing.specs.Listing.{listing, limits, before};
+ghost use Rattle.listing.specs.Listing.{held, limits, before};
 ghost use Rattle.listing.specs.Shape.{Shaped};
 ghost use Rattle.valid.specs.Ascent.{climbs as climbsFrom, sideAscent, elementAscent, ascentTest};
 
 // Whether a list strictly ascends: each number is at least `from`, which is one more than the number before it.
-fn climbs(list: &[u16]) -> bool
+fn climbs(list: &[Index]) -> bool
     ensures { λ r. ⌜ r ≡ climbsFrom 0 (now (list .entry)) ⌝ }
 {
     let mut from: usize = 0;
@@ -29,17 +30,17 @@ fn climbs(list: &[u16]) -> bool
 
 // The list at side s of element i of rank r, which begins at place here.
 fn check_side(
-    counts: &[u16],
-    ends: &[u16],
-    inc: &[u16],
+    counts: &[Index],
+    ends: &[Index],
+    inc: &[Index],
     here: usize,
     r: usize,
     i: u16,
     s: usize,
 ) -> Answer
-    requires { ⌜ Shaped limits (listing (now counts) (now ends) (now inc)) ⌝ }
+    requires { ⌜ Shaped limits (held counts ends inc) ⌝ }
     requires { ⌜ (here ≡ before (now counts) r) × (i < getD (now counts) r 0) × (s < 2) ⌝ }
-    ensures { λ a. ⌜ a ≡ sideAscent (listing (now (counts .entry)) (now (ends .entry)) (now (inc .entry))) r i s ⌝ }
+    ensures { λ a. ⌜ a ≡ sideAscent (held (counts .entry) (ends .entry) (inc .entry)) r i s ⌝ }
 {
     if climbs(inner::side_of(ends, inc, here, i, s)) {
         inner::plain(0)
@@ -55,10 +56,17 @@ fn check_side(
 }
 
 // Element i of rank r, which begins at place here: its subs, then its sups.
-fn check_element(counts: &[u16], ends: &[u16], inc: &[u16], here: usize, r: usize, i: u16) -> Answer
-    requires { ⌜ Shaped limits (listing (now counts) (now ends) (now inc)) ⌝ }
+fn check_element(
+    counts: &[Index],
+    ends: &[Index],
+    inc: &[Index],
+    here: usize,
+    r: usize,
+    i: u16,
+) -> Answer
+    requires { ⌜ Shaped limits (held counts ends inc) ⌝ }
     requires { ⌜ (here ≡ before (now counts) r) × (i < getD (now counts) r 0) ⌝ }
-    ensures { λ a. ⌜ a ≡ elementAscent (listing (now (counts .entry)) (now (ends .entry)) (now (inc .entry))) r i ⌝ }
+    ensures { λ a. ⌜ a ≡ elementAscent (held (counts .entry) (ends .entry) (inc .entry)) r i ⌝ }
 {
     let a = check_side(counts, ends, inc, here, r, i, 0);
     if a.no != 0 {
@@ -68,11 +76,11 @@ fn check_element(counts: &[u16], ends: &[u16], inc: &[u16], here: usize, r: usiz
 }
 
 // The elements of rank r, which begins at place here.
-fn check_rank(counts: &[u16], ends: &[u16], inc: &[u16], here: usize, r: usize) -> Answer
-    requires { ⌜ Shaped limits (listing (now counts) (now ends) (now inc)) ⌝ }
+fn check_rank(counts: &[Index], ends: &[Index], inc: &[Index], here: usize, r: usize) -> Answer
+    requires { ⌜ Shaped limits (held counts ends inc) ⌝ }
     requires { ⌜ (here ≡ before (now counts) r) × (r < length (now counts)) ⌝ }
     ensures { λ a. ⌜ a ≡ firstOf
-        (elementAscent (listing (now (counts .entry)) (now (ends .entry)) (now (inc .entry))) r) 0
+        (elementAscent (held (counts .entry) (ends .entry) (inc .entry)) r) 0
         (getD (now (counts .entry)) r 0) ⌝ }
 {
     let n = counts[r];
@@ -88,9 +96,9 @@ fn check_rank(counts: &[u16], ends: &[u16], inc: &[u16], here: usize, r: usize) 
 }
 
 // All elements, by rank and then index.
-pub fn check_all(counts: &[u16], ends: &[u16], inc: &[u16]) -> Answer
-    requires { ⌜ Shaped limits (listing (now counts) (now ends) (now inc)) ⌝ }
-    ensures { λ a. ⌜ a ≡ ascentTest (listing (now (counts .entry)) (now (ends .entry)) (now (inc .entry))) ⌝ }
+pub fn check_all(counts: &[Index], ends: &[Index], inc: &[Index]) -> Answer
+    requires { ⌜ Shaped limits (held counts ends inc) ⌝ }
+    ensures { λ a. ⌜ a ≡ ascentTest (held (counts .entry) (ends .entry) (inc .entry)) ⌝ }
 {
     let mut here: usize = 0;
     let mut r: usize = 0;

@@ -1,5 +1,6 @@
 // Test 1, on a listing that is known to be shaped.
 use listing::Answer;
+use listing::Index;
 use listing::refusal;
 ghost use mathlib.Core.Path.{_≡_};
 ghost use mathlib.Core.List.{List};
@@ -9,7 +10,7 @@ ghost use Rattle.listing.specs.Listing.{listing};
 ghost use Rattle.valid.specs.Bounds.{boundedTest};
 
 // Test 1, on counts that are not empty.
-pub fn check_bounded(counts: &[u16]) -> Answer
+pub fn check_bounded(counts: &[Index]) -> Answer
     requires { ⌜ 0 < length (now counts) ⌝ }
     ensures { λ r. ⌜ ((e i : List ℕ) → r ≡ boundedTest (listing (now (counts .entry)) e i)) ⌝ }
 {

@@ -3,16 +3,17 @@
 pub mod ascent;
 pub mod bounds;
 
-use diamond::dyadic;
 use listing::Answer;
-use matching::incidence;
+use listing::Index;
+use valid_diamond::dyadic;
+use valid_incidence::incidence;
 ghost use mathlib.Core.Path.{_≡_};
-ghost use Rattle.listing.specs.Listing.{listing, limits};
+ghost use Rattle.listing.specs.Listing.{held, limits};
 ghost use Rattle.valid.specs.Tests as tests;
 
 // Whether the listing is valid: bounded, each index matched by one that leads back, and the diamond below the top.
-pub fn is_valid(counts: &[u16], ends: &[u16], inc: &[u16]) -> Answer
-    ensures { λ r. ⌜ r ≡ tests.isValid limits (listing (now (counts .entry)) (now (ends .entry)) (now (inc .entry))) ⌝ }
+pub fn is_valid(counts: &[Index], ends: &[Index], inc: &[Index]) -> Answer
+    ensures { λ r. ⌜ r ≡ tests.isValid limits (held (counts .entry) (ends .entry) (inc .entry)) ⌝ }
 {
     let s = listing::shape(counts, ends, inc);
     if s.no != 0 {
@@ -30,8 +31,8 @@ pub fn is_valid(counts: &[u16], ends: &[u16], inc: &[u16]) -> Answer
 }
 
 // One minimal and one maximal element.
-pub fn bounded(counts: &[u16], ends: &[u16], inc: &[u16]) -> Answer
-    ensures { λ r. ⌜ r ≡ tests.bounded limits (listing (now (counts .entry)) (now (ends .entry)) (now (inc .entry))) ⌝ }
+pub fn bounded(counts: &[Index], ends: &[Index], inc: &[Index]) -> Answer
+    ensures { λ r. ⌜ r ≡ tests.bounded limits (held (counts .entry) (ends .entry) (inc .entry)) ⌝ }
 {
     let s = listing::shape(counts, ends, inc);
     if s.no != 0 {
@@ -41,9 +42,9 @@ pub fn bounded(counts: &[u16], ends: &[u16], inc: &[u16]) -> Answer
 }
 
 // Whether subs and sups match up, and all refer to elements that are there.
-pub fn check_incidences(counts: &[u16], ends: &[u16], inc: &[u16]) -> Answer
+pub fn check_incidences(counts: &[Index], ends: &[Index], inc: &[Index]) -> Answer
     ensures { λ r. ⌜ r ≡ tests.checkIncidences limits
-        (listing (now (counts .entry)) (now (ends .entry)) (now (inc .entry))) ⌝ }
+        (held (counts .entry) (ends .entry) (inc .entry)) ⌝ }
 {
     let s = listing::shape(counts, ends, inc);
     if s.no != 0 {
@@ -53,9 +54,9 @@ pub fn check_incidences(counts: &[u16], ends: &[u16], inc: &[u16]) -> Answer
 }
 
 // The diamond at the ranks below the top. It means something only where subs and sups match up: that is tested first.
-pub fn is_dyadic(counts: &[u16], ends: &[u16], inc: &[u16]) -> Answer
+pub fn is_dyadic(counts: &[Index], ends: &[Index], inc: &[Index]) -> Answer
     ensures { λ r. ⌜ r ≡ tests.isDyadic limits
-        (listing (now (counts .entry)) (now (ends .entry)) (now (inc .entry))) ⌝ }
+        (held (counts .entry) (ends .entry) (inc .entry)) ⌝ }
 {
     let s = listing::shape(counts, ends, inc);
     if s.no != 0 {
@@ -69,8 +70,8 @@ pub fn is_dyadic(counts: &[u16], ends: &[u16], inc: &[u16]) -> Answer
 }
 
 // Whether the listing is closed: valid, its lists ascending, and the diamond at the top as well.
-pub fn closed(counts: &[u16], ends: &[u16], inc: &[u16]) -> Answer
-    ensures { λ r. ⌜ r ≡ tests.closed limits (listing (now (counts .entry)) (now (ends .entry)) (now (inc .entry))) ⌝ }
+pub fn closed(counts: &[Index], ends: &[Index], inc: &[Index]) -> Answer
+    ensures { λ r. ⌜ r ≡ tests.closed limits (held (counts .entry) (ends .entry) (inc .entry)) ⌝ }
 {
     let s = listing::shape(counts, ends, inc);
     if s.no != 0 {

@@ -3,7 +3,7 @@
 use native.Mathlib.Omega.{arith}
 use borrow.Author.Needs.{needs}
 use Rattle.listing.proofs.Answers.{then-stop, no-of}
-use Rattle.changing.proofs.StartExact.{start-exact}
+use Rattle.flag_change.proofs.StartExact.{start-exact}
 use Rattle.flag.specs.Changed.{changeTest}
 use Rattle.flag.proofs.ChangeAnswers.{change-fine, change-lowest, change-highest}
 use Rattle.flag.proofs.check_change.Statement.{statement}

@@ -10,12 +10,12 @@ use lib.ListN.{length}
 use Rattle.listing.proofs.Answers.{no-of}
 use Rattle.listing.specs.Listing.{Listing, listing, limits, rank}
 use Rattle.valid.specs.Closed.{Closed}
-use Rattle.changing.proofs.StartExact.{start-exact}
-use Rattle.changing.specs.Flags.{startTest, IsFlag}
-use Rattle.masks.specs.Masks.{maskFits}
-use Rattle.masks.proofs.Ranks.{fits-ranks}
-use Rattle.walking.specs.Ready.{Ended}
-use Rattle.walking.specs.Searched.{foundBy}
+use Rattle.flag_change.proofs.StartExact.{start-exact}
+use Rattle.flag_change.specs.Flags.{startTest, IsFlag}
+use Rattle.search_masks.specs.Masks.{maskFits}
+use Rattle.search_masks.proofs.Ranks.{fits-ranks}
+use Rattle.search_walk.specs.Ready.{Ended}
+use Rattle.search_walk.specs.Searched.{foundBy}
 use Rattle.search.specs.Outcome.{refusedAs, roomOf}
 use Rattle.search.proofs.Outcomes.{room-is, room-fits, outcome-start, outcome-mask, outcome-over, outcome-found}
 use Rattle.search.proofs.search.Statement.{statement}

@@ -4,7 +4,7 @@ use native.Mathlib.Omega.{arith}
 use borrow.Author.Needs.{needs}
 use Rattle.listing.proofs.Answers.{no-of, then-stop, then-go}
 use Rattle.listing.proofs.ShapeExact.{shaped}
-use Rattle.matching.proofs.IncidenceExact.{incidences-exact}
+use Rattle.valid_incidence.proofs.IncidenceExact.{incidences-exact}
 use Rattle.valid.specs.Tests.{closed}
 use Rattle.valid.proofs.closed.Statement.{statement}
 use Rattle.valid.proofs.closed.Tie as tie

@@ -3,7 +3,7 @@
 use borrow.Author.Needs.{needs}
 use Rattle.listing.proofs.Answers.{no-of, then-stop, then-go}
 use Rattle.listing.proofs.ShapeExact.{shaped}
-use Rattle.matching.proofs.IncidenceExact.{incidences-exact}
+use Rattle.valid_incidence.proofs.IncidenceExact.{incidences-exact}
 use Rattle.valid.specs.Tests.{isValid}
 use Rattle.valid.proofs.is_valid.Statement.{statement}
 use Rattle.valid.proofs.is_valid.Tie as tie

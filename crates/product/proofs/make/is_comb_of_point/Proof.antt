@@ -2,7 +2,7 @@
 -- Assumes nothing.
 use mathlib.Core.Path.{_∙_}
 use borrow.Author.Needs.{needs}
-use Rattle.closure.specs.Result.{combCase}
+use Rattle.product_closure.specs.Result.{combCase}
 use Rattle.product.proofs.make.is_comb_of_point.Statement.{statement}
 use Rattle.product.proofs.make.is_comb_of_point.Tie as tie
 

@@ -2,7 +2,7 @@
 -- Assumes nothing.
 use mathlib.Core.Path.{_∙_}
 use borrow.Author.Needs.{needs}
-use Rattle.closure.specs.Result.{nullCase}
+use Rattle.product_closure.specs.Result.{nullCase}
 use Rattle.product.proofs.make.is_null.Statement.{statement}
 use Rattle.product.proofs.make.is_null.Tie as tie
 

@@ -6,12 +6,12 @@ use borrow.Author.Needs.{needs}
 use lib.ListN.{length}
 use Rattle.listing.specs.Listing.{Listing, listing, limits}
 use Rattle.listing.proofs.Answers.{no-of}
-use Rattle.pairing.specs.Product.{productOf}
-use Rattle.sizing.specs.Sizing.{sizeTest}
-use Rattle.sizing.specs.Sizing.{Measures}
-use Rattle.sizing.proofs.Planned.{built-is, build-asked}
-use Rattle.sizing.proofs.Parts.{usable-shaped, usable-high}
-use Rattle.sizing.proofs.Tested.{Passed, sizes-passed}
+use Rattle.product_pairs.specs.Product.{productOf}
+use Rattle.product_sizes.specs.Sizing.{sizeTest}
+use Rattle.product_sizes.specs.Sizing.{Measures}
+use Rattle.product_sizes.proofs.Planned.{built-is, build-asked}
+use Rattle.product_sizes.proofs.Parts.{usable-shaped, usable-high}
+use Rattle.product_sizes.proofs.Tested.{Passed, sizes-passed}
 use Rattle.product.proofs.Made.{made-refused, made-written}
 use Rattle.product.proofs.make.product.Statement.{statement}
 use Rattle.product.proofs.make.product.Tie as tie

@@ -7,9 +7,9 @@ use borrow.Author.Needs.{needs}
 use Rattle.listing.specs.declared.Answer.{Answer}
 use Rattle.listing.specs.Listing.{Listing, listing}
 use Rattle.valid.proofs.ClosedExact.{valid-exact}
-use Rattle.closure.proofs.Results.{needed}
-use Rattle.closure.specs.Result.{nullCase, combCase}
-use Rattle.sizing.specs.Sizing.{Usable}
+use Rattle.product_closure.proofs.Results.{needed}
+use Rattle.product_closure.specs.Result.{nullCase, combCase}
+use Rattle.product_sizes.specs.Sizing.{Usable}
 use Rattle.product.proofs.Chain.{comb-decides, null-made, first-made, second-made}
 use Rattle.product.proofs.Made.{made-refused}
 use Rattle.product.proofs.make.product_of_valid.Statement.{statement}

@@ -7,8 +7,8 @@ use lib.ListN.{length, length-set}
 use Rattle.listing.specs.Listing.{limits}
 use Rattle.listing.proofs.Answers.{no-of}
 use Rattle.listing.specs.Cells.{nullitope}
-use Rattle.sizing.proofs.Tested.{Passed, sizes-passed}
-use Rattle.sizing.specs.Sizing.{sizeTest}
+use Rattle.product_sizes.proofs.Tested.{Passed, sizes-passed}
+use Rattle.product_sizes.specs.Sizing.{sizeTest}
 use Rattle.product.proofs.Made.{made-refused, made-written, nullitope-measures, one-set, two-set}
 use Rattle.product.proofs.make.put_nullitope.Statement.{statement}
 use Rattle.product.proofs.make.put_nullitope.Tie as tie

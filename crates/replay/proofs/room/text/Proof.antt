@@ -1,5 +1,5 @@
 -- `text`. By the length of a list of one number repeated: nothing is computed. Assumes nothing.
-use Rattle.saying.proofs.Counting.{repeated}
+use Rattle.replay_saying.proofs.Counting.{repeated}
 use Rattle.replay.proofs.room.text.Statement.{statement}
 use Rattle.replay.proofs.room.text.Tie as tie
 

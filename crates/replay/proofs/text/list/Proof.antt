@@ -1,5 +1,5 @@
 -- `list`. What `fill` says, as a count. Assumes nothing.
-use Rattle.saying.proofs.Counting.{counted}
+use Rattle.replay_saying.proofs.Counting.{counted}
 use borrow.Author.Needs.{needs}
 use Rattle.replay.proofs.text.list.Statement.{statement}
 use Rattle.replay.proofs.text.list.Tie as tie

@@ -10,7 +10,7 @@ use Rattle.listing.specs.Answers.{firstOf}
 use Rattle.listing.specs.Listing.{listing, before}
 use Rattle.listing.proofs.Answers.{of-return, of-turn, of-done}
 use Rattle.listing.proofs.Listing.{before-zero, before-next}
-use Rattle.matching.proofs.Places.{few-before}
+use Rattle.valid_incidence.proofs.Places.{few-before}
 use Rattle.valid.specs.Ascent.{elementAscent, ascentTest}
 use Rattle.valid.proofs.ascent.check_all.Statement.{statement}
 use Rattle.valid.proofs.ascent.check_all.Tie as tie

@@ -1,0 +1,177 @@
+-- The change of a flag of a closed listing: between the neighbours of each rank lie exactly two elements, the flag's
+-- and one other, and the change puts that one in.
+-- Assumes nothing.
+use mathlib.Core.Path.{_≡_, refl, sym, ap, _∙_}
+use mathlib.Core.List.{List, [], _∷_}
+use mathlib.Core.Logic.{_↔_, _≢_, _⊎_, inl, inr}
+use Prim.Native.Nat.{ℕ, _+_, _-_, _<_}
+use native.Mathlib.Omega.{arith}
+use native.Mathlib.Decide.{ℕ-discrete}
+use lib.ListN.{getD, set}
+use lib.Seq.{getD-set-same, set-set, set-getD}
+use Rattle.order.specs.Lists.{In}
+use Rattle.order.specs.Steps.{ChangedAt}
+use Rattle.order.specs.Diamond.{OneOther}
+use Rattle.listing.specs.Listing.{Listing, Limits, count, rank, subs}
+use Rattle.valid_diamond.specs.Dyadic.{Between, Two, DiamondAt, Diamond}
+use Rattle.valid.specs.Closed.{Closed}
+use Rattle.flag_change.specs.Flags.{IsFlag}
+use Rattle.flag_change.specs.Change.{other, between, changeAt, Changes}
+use Rattle.flag_change.proofs.Common.{common-in, other-same, other-found}
+use Rattle.flag_change.proofs.Replaced.{changed-set, changed-is, changed-apart, between-set, set-flag}
+
+-- ---- the other of two
+
+-- of the members e and o of a list, the first that is not e is o
+other-is : (e o : ℕ) (l : List ℕ) → In o l → o ≢ e → ((x : ℕ) → In x l → (x ≡ e) ⊎ (x ≡ o)) → other e l ≡ o
+unfolding In
+other-is e o [] h d only = absurd h
+other-is e o (x ∷ l) h d only =
+    go (λ k. other-is e o l k d (λ y m. only y (inr m))) h (ℕ-discrete x e) (only x (inl refl))
+  where
+    go : (In o l → other e l ≡ o) → (o ≡ x) ⊎ In o l → Dec (x ≡ e) → (x ≡ e) ⊎ (x ≡ o) → other e (x ∷ l) ≡ o
+    go ih (inl w) (yes z) u = absurd (d (w ∙ z))
+    go ih (inr k) (yes z) u = other-same e x l z ∙ ih k
+    go ih k (no z) (inl w) = absurd (z w)
+    go ih k (no z) (inr w) = other-found e x l z ∙ w
+
+-- of two, the one that is not y
+one-other : {P : ℕ → Type 0} → Two P → (y : ℕ) → P y → OneOther P y
+one-other {P} t y h = go (t .no-third y h)
+  where
+    go : (y ≡ t .one) ⊎ (y ≡ t .two) → OneOther P y
+    go (inl e) = record {
+      other = t .two;
+      differs = λ w. t .apart (sym (w ∙ e));
+      holds = t .second;
+      only = λ w k. rw e (t .no-third w k);
+    }
+    go (inr e) = record {
+      other = t .one;
+      differs = λ w. t .apart (w ∙ e);
+      holds = t .first;
+      only = λ w k. swap (t .no-third w k);
+    }
+      where
+        swap : {w : ℕ} → (w ≡ t .one) ⊎ (w ≡ t .two) → (w ≡ y) ⊎ (w ≡ t .one)
+        swap (inl u) = inr u
+        swap (inr u) = inl (u ∙ sym e)
+
+-- ---- what lies between
+
+module _ {m : Limits} (L : Listing) (C : Closed m L) (r : ℕ) (p : 0 < r) (q : r < rank L) where
+  module _ (f : List ℕ) (F : IsFlag L f) where
+    low-exists : getD f (r - 1) 0 < count L (r - 1)
+    low-exists = F .exists (r - 1) (omega (arith, F .one-each))
+
+    high-exists : getD f (r + 1) 0 < count L (r + 1)
+    high-exists = F .exists (r + 1) (omega (arith, F .one-each))
+
+    -- an element under the upper neighbour exists
+    mid-exists : (x : ℕ) → In x (subs L (r + 1) (getD f (r + 1) 0)) → x < count L r
+    mid-exists x h =
+        let e : r + 1 - 1 ≡ r = omega arith in
+        rw e at (C .incident .sub-back (r + 1) (getD f (r + 1) 0) x high-exists h .1)
+
+    -- the elements between the neighbours, as the diamond has them
+    between-is : (x : ℕ) → In x (between L r f) ↔ Between L (r + 1) (getD f (r + 1) 0) (getD f (r - 1) 0) x
+    unfolding between
+    between-is x =
+        let e : r + 1 - 1 ≡ r = omega arith in
+        let d : r - 1 + 1 ≡ r = omega arith in
+        rw e (
+          λ h.
+              let k = common-in x _ _ .0 h in
+              (k .1, rw d at (C .incident .sup-back (r - 1) (getD f (r - 1) 0) x low-exists (k .0) .1)),
+          λ h. common-in x _ _ .1 (C .incident .sub-back r x (getD f (r - 1) 0) (mid-exists x (h .0)) (h .1) .2, h .0),
+        )
+
+    -- the flag's own element is one of them
+    stands : In (getD f r 0) (between L r f)
+    stands =
+        let e : r + 1 - 1 ≡ r = omega arith in
+        let d : r - 1 + 1 ≡ r = omega arith in
+        let u : In (getD f (r - 1) 0) (subs L r (getD f r 0))
+        = rw d at (F .under (r - 1) (omega (arith, F .one-each))) in
+        between-is (getD f r 0) .1 (rw e (F .under r (omega (arith, F .one-each)), u))
+
+    two : Two (λ x. In x (between L r f))
+    unfolding Diamond DiamondAt
+    two =
+        let t = C .diamond (r + 1) (omega arith) (omega arith) (getD f (r + 1) 0) (getD f (r - 1) 0) (getD f r 0)
+        high-exists (between-is (getD f r 0) .0 stands) in
+        record {
+          one = t .one;
+          two = t .two;
+          apart = t .apart;
+          first = between-is (t .one) .1 (t .first);
+          second = between-is (t .two) .1 (t .second);
+          no-third = λ w h. t .no-third w (between-is w .0 h);
+        }
+
+    the-other : OneOther (λ x. In x (between L r f)) (getD f r 0)
+    the-other = one-other two (getD f r 0) stands
+
+    -- the number that the change puts in
+    abbrev new : ℕ
+    new = other (getD f r 0) (between L r f)
+
+    new-is : new ≡ the-other .other
+    new-is =
+        other-is (getD f r 0) (the-other .other) (between L r f)
+        (the-other .holds) (the-other .differs) (the-other .only)
+
+    new-differs : new ≢ getD f r 0
+    new-differs = rw new-is (the-other .differs)
+
+    changed-flag : IsFlag L (changeAt L r f)
+    unfolding changeAt
+    changed-flag =
+        let e : r + 1 - 1 ≡ r = omega arith in
+        let h : In new (between L r f) = rw new-is (the-other .holds) in
+        let b : In new (subs L (r + 1) (getD f (r + 1) 0)) × In (getD f (r - 1) 0) (subs L r new)
+        = rw e at (between-is new .0 h) in
+        set-flag L f r p q F new (mid-exists new (b .0)) (b .1) (b .0)
+
+    changed-at : ChangedAt r f (changeAt L r f)
+    unfolding changeAt
+    changed-at = changed-set f r new (omega (arith, F .one-each)) (λ e. new-differs (sym e))
+
+    -- seen from the new flag, the old element is the other one
+    old-is : other new (between L r f) ≡ getD f r 0
+    old-is =
+        other-is new (getD f r 0) (between L r f) stands (λ e. new-differs (sym e))
+        (λ x h. swap (the-other .only x h))
+      where
+        swap : {x : ℕ} → (x ≡ getD f r 0) ⊎ (x ≡ the-other .other) → (x ≡ new) ⊎ (x ≡ getD f r 0)
+        swap (inl e) = inr e
+        swap (inr e) = inl (e ∙ sym new-is)
+
+    changed-back : changeAt L r (changeAt L r f) ≡ f
+    unfolding changeAt
+    changed-back =
+        rw (getD-set-same f r new 0 (omega (arith, F .one-each)), between-set L f r p q new, old-is, set-set f r)
+        (set-getD f r 0)
+
+  module _ (f : List ℕ) (F : IsFlag L f) where
+    changed-only : (g : List ℕ) → IsFlag L g → ChangedAt r f g → g ≡ changeAt L r f
+    unfolding changeAt
+    changed-only g G c = changed-is c ∙ ap (set f r) (go (the-other f F .only (getD g r 0) between-g))
+      where
+        between-g : In (getD g r 0) (between L r f)
+        between-g = rw (← between-set L f r p q (getD g r 0), ← changed-is c) (stands g G)
+
+        go : (getD g r 0 ≡ getD f r 0) ⊎ (getD g r 0 ≡ the-other f F .other) → getD g r 0 ≡ new f F
+        go (inl e) = absurd (changed-apart c e)
+        go (inr e) = e ∙ sym (new-is f F)
+
+    -- A flag of a closed listing has exactly one change at each rank between the ends, and making it twice leads back.
+    pub changes : Changes L f r
+    changes = record {
+      two-between = two f F;
+      one-stands = stands f F;
+      is-flag = changed-flag f F;
+      changed = changed-at f F;
+      back = changed-back f F;
+      only = changed-only;
+    }

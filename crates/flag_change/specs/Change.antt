@@ -1,0 +1,52 @@
+-- The change of a flag at one rank.
+--
+-- common      the numbers of one list that another has too, in their order
+-- other       the first number of a list that is not e; 0 where there is none
+-- between     the elements between those of a flag at the ranks r - 1 and r + 1
+-- changeAt    the flag with the other of those at rank r
+-- Neighbours  the numbers at the ranks r - 1 and r + 1 are elements that exist
+-- Changes     of exactly two elements between, one stands in the flag; the change is a flag again, differs from it at
+--             rank r exactly, leads back when it is made again, and is the only flag that differs so
+-- padded      a flag as a record of 16 numbers, 0 above the top
+use mathlib.Core.Path.{_≡_}
+use mathlib.Core.Bool.{cond}
+use mathlib.Core.List.{List, [], _∷_, _++_}
+use Prim.Native.Nat.{ℕ, _+_, _-_, _<_}
+use lib.Dec.{eqb}
+use lib.ListN.{length, getD, set, replicate}
+use Rattle.order.specs.Lists.{In, has}
+use Rattle.order.specs.Steps.{ChangedAt}
+use Rattle.listing.specs.Listing.{Listing, count, subs, sups}
+use Rattle.valid_diamond.specs.Dyadic.{Two}
+use Rattle.flag_change.specs.Flags.{IsFlag}
+
+unfoldable pub common : List ℕ → List ℕ → List ℕ
+common [] m = []
+common (x ∷ l) m = cond (has m x) (x ∷ common l m) (common l m)
+
+unfoldable pub other : ℕ → List ℕ → ℕ
+other e [] = 0
+other e (x ∷ l) = cond (eqb x e) (other e l) x
+
+unfoldable pub between : Listing → ℕ → List ℕ → List ℕ
+between L r f = common (sups L (r - 1) (getD f (r - 1) 0)) (subs L (r + 1) (getD f (r + 1) 0))
+
+unfoldable pub changeAt : Listing → ℕ → List ℕ → List ℕ
+changeAt L r f = set f r (other (getD f r 0) (between L r f))
+
+pub record Neighbours (L : Listing) (f : List ℕ) (r : ℕ) : Type 0 where
+  pub over-lowest : 0 < r
+  pub under-highest : r + 1 < length f
+  pub lower : getD f (r - 1) 0 < count L (r - 1)
+  pub upper : getD f (r + 1) 0 < count L (r + 1)
+
+pub record Changes (L : Listing) (f : List ℕ) (r : ℕ) : Type 0 where
+  pub two-between : Two (λ x. In x (between L r f))
+  pub one-stands : In (getD f r 0) (between L r f)
+  pub is-flag : IsFlag L (changeAt L r f)
+  pub changed : ChangedAt r f (changeAt L r f)
+  pub back : changeAt L r (changeAt L r f) ≡ f
+  pub only : (g : List ℕ) → IsFlag L g → ChangedAt r f g → g ≡ changeAt L r f
+
+unfoldable pub padded : List ℕ → List ℕ
+padded f = f ++ replicate (16 - length f) 0

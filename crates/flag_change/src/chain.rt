@@ -1,0 +1,220 @@
+// What the entries, and the crates above, call to test a chain of elements and to change it at one rank. Most of these
+// functions ask that the listing is known to be shaped or closed.
+use listing::Answer;
+use listing::Index;
+use listing::inner;
+use listing::refusal;
+use valid_incidence::incidence;
+ghost use mathlib.Core.Path.{_≡_};
+ghost use Prim.Native.Nat.{_+_, _-_, _≤_, _<_};
+ghost use lib.ListN.{length, getD};
+ghost use Rattle.order.specs.Lists.{has, Ascending};
+ghost use Rattle.listing.specs.Listing.{width, held, limits, before};
+ghost use Rattle.listing.specs.Shape.{Shaped};
+ghost use Rattle.valid.specs.Ascent.{Ascends};
+ghost use Rattle.valid.specs.Closed.{Closed};
+ghost use Rattle.flag_change.specs.Flags.{flagAt, flagTest, startTest, IsFlag};
+ghost use Rattle.flag_change.specs.Change.{common, other, between, changeAt, padded, Neighbours};
+
+// Whether an index that exists stands in the flag at rank r, which begins at place here, and over what stands below it.
+fn stands_at(
+    counts: &[Index],
+    ends: &[Index],
+    inc: &[Index],
+    flag: &[Index],
+    here: usize,
+    r: usize,
+) -> bool
+    requires { ⌜ Shaped limits (held counts ends inc) ⌝ }
+    requires { ⌜ (here ≡ before (now counts) r) × (r < length (now counts)) ⌝ }
+    requires { ⌜ length (now flag) ≡ length (now counts) ⌝ }
+    ensures { λ t. ⌜ t ≡ flagAt (held (counts .entry) (ends .entry) (inc .entry))
+        (now (flag .entry)) r ⌝ }
+{
+    let x = flag[r];
+    if counts[r] <= x {
+        return false;
+    }
+    if r == 0 {
+        return true;
+    }
+    incidence::contains(inner::side_of(ends, inc, here, x, 0), flag[r - 1])
+}
+
+// Whether the numbers are a flag: one existing index per rank, each a sub of the next.
+pub fn is_flag(counts: &[Index], ends: &[Index], inc: &[Index], flag: &[Index]) -> bool
+    requires { ⌜ Shaped limits (held counts ends inc) ⌝ }
+    ensures { λ t. ⌜ t ≡ flagTest (held (counts .entry) (ends .entry) (inc .entry))
+        (now (flag .entry)) ⌝ }
+{
+    if flag.len() != counts.len() {
+        return false;
+    }
+    let mut here: usize = 0;
+    let mut r: usize = 0;
+    while r < counts.len() {
+        if !stands_at(counts, ends, inc, flag, here, r) {
+            return false;
+        }
+        here += inner::wide(counts[r]);
+        r += 1;
+    }
+    true
+}
+
+// What a change or a search asks before all else: the closed test, and that the numbers are a flag.
+pub fn check_flag(counts: &[Index], ends: &[Index], inc: &[Index], flag: &[Index]) -> Answer
+    ensures { λ a. ⌜ a ≡ startTest limits (held (counts .entry) (ends .entry) (inc .entry))
+        (now (flag .entry)) ⌝ }
+{
+    let a = valid::closed(counts, ends, inc);
+    if a.no != 0 {
+        return a;
+    }
+    if is_flag(counts, ends, inc, flag) {
+        return inner::plain(0);
+    }
+    inner::plain(refusal::NOT_A_FLAG)
+}
+
+// The place where rank r begins.
+pub fn place_of(counts: &[Index], r: usize) -> usize
+    requires { ⌜ (r ≤ length (now counts)) × (before (now counts) r < width) ⌝ }
+    ensures { λ p. ⌜ p ≡ before (now (counts .entry)) r ⌝ }
+{
+    let mut p: usize = 0;
+    let mut k: usize = 0;
+    while k < r {
+        p += inner::wide(counts[k]);
+        k += 1;
+    }
+    p
+}
+
+// Whether x is one of the numbers of an ascending list, by halving: if it is, it stands
+// from lo up to, not including, hi.
+fn is_found(list: &[Index], x: u16) -> bool
+    requires { ⌜ Ascending (now list) ⌝ }
+    ensures { λ t. ⌜ t ≡ has (now (list .entry)) x ⌝ }
+{
+    let mut lo: usize = 0;
+    let mut hi = list.len();
+    while lo < hi {
+        let mid = lo + (hi - lo) / 2;
+        let y = list[mid];
+        if y < x {
+            lo = mid + 1;
+        } else if x < y {
+            hi = mid;
+        } else {
+            return true;
+        }
+    }
+    false
+}
+
+// The same. An end's list is mostly that of all indices: there x stands at the place x.
+fn holds(list: &[Index], x: u16) -> bool
+    requires { ⌜ Ascending (now list) ⌝ }
+    ensures { λ t. ⌜ t ≡ has (now (list .entry)) x ⌝ }
+{
+    let p = inner::wide(x);
+    if list.len() <= p {
+        return is_found(list, x);
+    }
+    if list[p] != x {
+        return is_found(list, x);
+    }
+    true
+}
+
+// The first number of one list that another, ascending one holds too and that is not e; 0 where there is none.
+fn other_among(short: &[Index], long: &[Index], e: u16) -> u16
+    requires { ⌜ Ascending (now long) ⌝ }
+    ensures { λ x. ⌜ x ≡ other e (common (now (short .entry)) (now (long .entry))) ⌝ }
+{
+    let mut i: usize = 0;
+    while i < short.len() {
+        let x = short[i];
+        if x == e {
+            i += 1;
+        } else if holds(long, x) {
+            return x;
+        } else {
+            i += 1;
+        }
+    }
+    0
+}
+
+// The first number that two ascending lists share and that is not e; 0 where there is none. The shorter list is walked:
+// the other may be an end's, with thousands of numbers.
+pub fn other_between(below: &[Index], above: &[Index], e: u16) -> u16
+    requires { ⌜ Ascending (now below) ⌝ }
+    requires { ⌜ Ascending (now above) ⌝ }
+    ensures { λ x. ⌜ x ≡ other e (common (now (below .entry)) (now (above .entry))) ⌝ }
+{
+    if below.len() <= above.len() {
+        return other_among(below, above, e);
+    }
+    other_among(above, below, e)
+}
+
+// The index that the change at rank r puts in: the other of the two elements between those at the ranks r - 1, which
+// begins at place low, and r + 1, which begins at place high.
+pub fn change_index(
+    counts: &[Index],
+    ends: &[Index],
+    inc: &[Index],
+    flag: &[Index],
+    r: usize,
+    low: usize,
+    high: usize,
+) -> u16
+    requires { ⌜ Shaped limits (held counts ends inc) ⌝ }
+    requires { ⌜ Ascends (held counts ends inc) ⌝ }
+    requires { ⌜ (low ≡ before (now counts) (r - 1)) × (high ≡ before (now counts) (r + 1)) ⌝ }
+    requires { ⌜ Neighbours (held counts ends inc) (now flag) r ⌝ }
+    ensures { λ x. ⌜ x ≡ other (getD (now (flag .entry)) r 0)
+        (between (held (counts .entry) (ends .entry) (inc .entry)) r (now (flag .entry))) ⌝ }
+{
+    let below = inner::side_of(ends, inc, low, flag[r - 1], 1);
+    let above = inner::side_of(ends, inc, high, flag[r + 1], 0);
+    other_between(below, above, flag[r])
+}
+
+// A flag as a record of 16 numbers, 0 above the top.
+pub fn pad(flag: &[Index]) -> [Index; 16]
+    requires { ⌜ length (now flag) ≤ 16 ⌝ }
+    ensures { λ a. ⌜ a ≡ padded (now (flag .entry)) ⌝ }
+{
+    let mut a: [Index; 16] = [0; 16];
+    let mut k: usize = 0;
+    while k < flag.len() {
+        a[k] = flag[k];
+        k += 1;
+    }
+    a
+}
+
+// The flag after the change at rank r, as a record of 16 numbers.
+pub fn changed_at(
+    counts: &[Index],
+    ends: &[Index],
+    inc: &[Index],
+    flag: &[Index],
+    r: usize,
+) -> [Index; 16]
+    requires { ⌜ Closed limits (held counts ends inc) ⌝ }
+    requires { ⌜ IsFlag (held counts ends inc) (now flag) ⌝ }
+    requires { ⌜ (0 < r) × (r < length (now counts) - 1) ⌝ }
+    ensures { λ a. ⌜ a ≡ padded (changeAt (held (counts .entry) (ends .entry) (inc .entry)) r
+        (now (flag .entry))) ⌝ }
+{
+    let low = place_of(counts, r - 1);
+    let high = place_of(counts, r + 1);
+    let x = change_index(counts, ends, inc, flag, r, low, high);
+    let mut new = pad(flag);
+    new[r] = x;
+    new
+}

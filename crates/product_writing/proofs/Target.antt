@@ -1,0 +1,75 @@
+-- The layers of the product: how many elements there are, of which ranks, and the lists of the elements added.
+-- Assumes nothing.
+use mathlib.Core.Path.{_≡_, ap, _∙_}
+use mathlib.Core.Bool.{Bool, true}
+use mathlib.Core.List.{List, []}
+use Prim.Native.Nat.{ℕ, suc, _+_, _-_, _*_, _<_}
+use native.Mathlib.Omega.{arith}
+use lib.ListN.{length}
+use Rattle.order.specs.Sums.{sum}
+use Rattle.listing.specs.Layers.{Layers}
+use Rattle.listing.specs.Written.{table}
+use Rattle.product_pairs.specs.Trimmed.{bit}
+use Rattle.product_pairs.specs.Paired.{block, paired}
+use Rattle.product_pairs.specs.Grown.{upTo}
+use Rattle.product_places.specs.Factors.{Factor}
+use Rattle.product_places.specs.Places.{pairsIn, pairsTo}
+use Rattle.product_writing.specs.Pairs.{factorLayers, target, listsOf, sizeOf}
+use Rattle.product_writing.proofs.Sizes.{grown-sum, low-subs, low-sups, high-subs, high-sups}
+
+module _ (P Q : Factor) (hp : 0 < length (P .counts)) (hq : 0 < length (Q .counts)) where
+  abbrev p : List ℕ
+  p = P .counts
+
+  abbrev q : List ℕ
+  q = Q .counts
+
+  -- how many ranks the pairs have
+  abbrev n : ℕ
+  n = length p + length q - 1
+
+  abbrev M : Layers
+  M = paired (factorLayers P) (factorLayers Q)
+
+  ranks : suc (M .top) ≡ n
+  ranks = omega arith
+
+  pairs-sum : sum (M .size) (suc (M .top)) ≡ pairsTo p q n
+  unfolding pairsTo block
+  pairs-sum = ap (sum (λ r. pairsIn p q r (suc r))) ranks
+
+  pub pairs-table : table (M .size) (suc (M .top)) ≡ table (λ r. pairsIn p q r (suc r)) n
+  unfolding block
+  pairs-table = ap (table (λ r. pairsIn p q r (suc r))) ranks
+
+  pairs-top : M .size (M .top) ≡ pairsIn p q (n - 1) n
+  unfolding block
+  pairs-top =
+      let e : M .top ≡ n - 1 = omega arith in
+      let f : suc (n - 1) ≡ n = omega arith in
+      ap (λ (r : ℕ). pairsIn p q r (suc r)) e ∙ ap (pairsIn p q (n - 1)) f
+
+  module _ (min max : Bool) where
+    pub target-size : sum (target min max P Q .size) (suc (target min max P Q .top)) ≡ sizeOf min max p q
+    unfolding target sizeOf
+    target-size = omega (arith, grown-sum min max M, pairs-sum)
+
+  -- the element added below: nothing under it, and all lowest pairs over it
+  module _ (max : Bool) where
+    pub lists-low : listsOf true max P Q 0 ≡ []
+    unfolding listsOf target
+    lists-low = low-subs max M
+
+    pub lists-over-low : length (listsOf true max P Q 1) ≡ pairsIn p q 0 1
+    unfolding listsOf target block
+    lists-over-low = low-sups max M
+
+  -- the element added above: all highest pairs under it, and nothing over it
+  module _ (min : Bool) where
+    pub lists-high : listsOf min true P Q (2 * (bit min + pairsTo p q n)) ≡ upTo (pairsIn p q (n - 1) n)
+    unfolding listsOf target
+    lists-high = rw (← pairs-sum, ← pairs-top) (high-subs M min)
+
+    pub lists-over-high : length (listsOf min true P Q (2 * (bit min + pairsTo p q n) + 1)) ≡ 0
+    unfolding listsOf target
+    lists-over-high = rw (← pairs-sum) (high-sups M min)

@@ -1,0 +1,41 @@
+// Questions on counts, on one cell, and on the number of a refusal.
+use listing::Answer;
+use listing::Index;
+use listing::Number;
+use replay_saying::say;
+
+// The four counts by the fourth letter: rank, vertex_count, facet_count, el_count.
+fn count_of(letter: u8, counts: &[Index], r: usize) -> Number {
+    match letter {
+        b'k' => listing::rank(counts),
+        b't' => listing::vertex_count(counts),
+        b'e' => listing::facet_count(counts),
+        _ => listing::el_count(counts, r),
+    }
+}
+
+// A count.
+pub fn count(letter: u8, counts: &[Index], r: usize) {
+    say::count(count_of(letter, counts, r));
+}
+
+// The tests by the fourth letter: bounded, check_incidences, is_dyadic, closed, is_valid.
+fn answer_of(letter: u8, counts: &[Index], ends: &[Index], inc: &[Index]) -> Answer {
+    match letter {
+        b'n' => valid::bounded(counts, ends, inc),
+        b'c' => valid::check_incidences(counts, ends, inc),
+        b'd' => valid::is_dyadic(counts, ends, inc),
+        b's' => valid::closed(counts, ends, inc),
+        _ => valid::is_valid(counts, ends, inc),
+    }
+}
+
+// A test.
+pub fn test(letter: u8, counts: &[Index], ends: &[Index], inc: &[Index]) {
+    say::answer(answer_of(letter, counts, ends, inc));
+}
+
+// The class of a refusal's number.
+pub fn class(no: u16) {
+    say::number(listing::band_number(listing::class(no)) as u64);
+}

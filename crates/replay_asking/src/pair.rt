@@ -1,0 +1,133 @@
+// Questions on products.
+use crate::room;
+use listing::Index;
+use product::Built;
+use replay_saying::say;
+
+// Whether minimal elements are left out, by the fifth letter: of the duoprism and the duocomb.
+fn leaves_min(letter: u8) -> bool {
+    match letter {
+        b'r' | b'o' => true,
+        _ => false,
+    }
+}
+
+// Whether maximal elements are left out, by the fifth letter: of the duotegum and the duocomb.
+fn leaves_max(letter: u8) -> bool {
+    match letter {
+        b'e' | b'o' => true,
+        _ => false,
+    }
+}
+
+// What a product answered.
+fn built(b: Built) {
+    say::answer(b.answer);
+    say::number(b.counts as u64);
+    say::number(b.ends as u64);
+    say::number(b.inc as u64);
+}
+
+// As many of a slice's numbers as a product says that it wrote.
+fn written<'a>(list: &'a [Index], n: u16) -> &'a [Index] {
+    let k = n as usize;
+    if list.len() < k {
+        return list;
+    }
+    &list[0..k]
+}
+
+// What is_valid and closed say of the listing that a product wrote, and its counts.
+fn tests(b: Built, counts: &[Index], ends: &[Index], inc: &[Index]) {
+    let c = written(counts, b.counts);
+    let e = written(ends, b.ends);
+    let i = written(inc, b.inc);
+    say::answer(valid::is_valid(c, e, i));
+    say::answer(valid::closed(c, e, i));
+    say::list(c);
+}
+
+// All that the three slices hold.
+fn lists(counts: &[Index], ends: &[Index], inc: &[Index]) {
+    say::list(counts);
+    say::list(ends);
+    say::list(inc);
+}
+
+// What a product left in its slices: all of it or, where it is to be tested, what the tests say; of a refused one
+// nothing then.
+fn left(tested: bool, b: Built, counts: &[Index], ends: &[Index], inc: &[Index]) {
+    if !tested {
+        lists(counts, ends, inc);
+        return;
+    }
+    if b.answer.no == 0 {
+        tests(b, counts, ends, inc);
+    }
+}
+
+// The product that the letter stands for, and what it left in the slices lent.
+fn product_in(
+    letter: u8,
+    tested: bool,
+    pcounts: &[Index],
+    pends: &[Index],
+    pinc: &[Index],
+    qcounts: &[Index],
+    qends: &[Index],
+    qinc: &[Index],
+    counts: &mut [Index],
+    ends: &mut [Index],
+    inc: &mut [Index],
+) {
+    let b = product::make::make(
+        leaves_min(letter),
+        leaves_max(letter),
+        pcounts,
+        pends,
+        pinc,
+        qcounts,
+        qends,
+        qinc,
+        &mut *counts,
+        &mut *ends,
+        &mut *inc,
+    );
+    built(b);
+    left(tested, b, counts, ends, inc);
+}
+
+// The product that the letter stands for, with room of these lengths, as far as there is so much.
+pub fn product(
+    letter: u8,
+    tested: bool,
+    pcounts: &[Index],
+    pends: &[Index],
+    pinc: &[Index],
+    qcounts: &[Index],
+    qends: &[Index],
+    qinc: &[Index],
+    clength: u64,
+    elength: u64,
+    ilength: u64,
+) {
+    let mut counts = room::few();
+    let mut ends = room::some();
+    let mut inc = room::many();
+    let c = room::words(clength, &counts);
+    let e = room::words(elength, &ends);
+    let i = room::words(ilength, &inc);
+    product_in(
+        letter,
+        tested,
+        pcounts,
+        pends,
+        pinc,
+        qcounts,
+        qends,
+        qinc,
+        &mut counts[..c],
+        &mut ends[..e],
+        &mut inc[..i],
+    );
+}

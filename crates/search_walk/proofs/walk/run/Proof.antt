@@ -1,0 +1,113 @@
+-- The loop's invariant: each row in use is a flag, and working the flags from the kth on leads from here to the same
+-- state as working all of them led to from the start. The measure is what is left of the room.
+-- Assumes nothing.
+use Prim.Native.Nat.{_-_}
+use native.Mathlib.Omega.{arith}
+use Rattle.listing.specs.Listing.{Listing, listing}
+use Rattle.search_walk.proofs.Runs.{Running, running-start, running-next, running-stop, running-end}
+use Rattle.search_walk.proofs.walk.run.Statement.{statement}
+use Rattle.search_walk.proofs.walk.run.Tie as tie
+
+abbrev Inv-loop : tie.InvT-loop
+Inv-loop counts ends inc places weights table₀ bytes₀ heads₀ next₀ mask room s₀ k₀ table bytes heads next s k =
+    Running (listing counts ends inc) room mask table₀ bytes₀ s₀ table bytes heads next s k
+
+abbrev μ-loop : tie.MeasureT-loop
+μ-loop counts ends inc places weights table₀ bytes₀ heads₀ next₀ mask room s₀ k₀ table bytes heads next s k = room - k
+
+abbrev L : tie.Start Inv-loop μ-loop → Listing
+L s = listing (s .args .counts .now) (s .args .ends .now) (s .args .inc .now)
+
+loop-holds : tie.Need-loop-holds Inv-loop μ-loop
+loop-holds c =
+    let s = c .before .before .before .before .before in
+    running-start (L s) (s .pre .0 .closed) _ _ (s .pre .1 .0) (s .pre .1 .1 .0) (s .pre .1 .1 .1)
+
+same-length : tie.Need-same-length Inv-loop μ-loop
+same-length c = c .before .before .before .loop .inv .moved .rest .long
+
+same-length-2 : tie.Need-same-length-2 Inv-loop μ-loop
+same-length-2 c = c .before .before .before .loop .inv .moved .rest .bytes-long
+
+returns : tie.Need-returns Inv-loop μ-loop
+returns c =
+    let s = c .before .before .before .before .before .before .before .before .before in
+    running-stop (L s) (s .pre .0 .closed) _ _ (s .pre .1 .0) (c .before .before .before .loop .inv) (c .if2 .taken)
+
+work-requires : tie.Need-work-requires Inv-loop μ-loop
+work-requires c κs =
+    let s = c .before .before .before .before .before .before .before .before .before .before .before .before .before in
+    let K = c .before .before .before .before .before .before .before .loop .inv in (
+      s .pre .0,
+      (
+        s .pre .1 .0,
+        (
+          K .moved .held,
+          (
+            K .flags,
+            (
+              c .before .before .before .before .before .if1 .taken,
+              c .before .before .before .before .if2 .left,
+            ),
+          ),
+        ),
+      ),
+    )
+
+add-k : tie.Need-add-k Inv-loop μ-loop
+add-k c =
+    let K = c .before .before .before .before .before .before .before .before .before .before .before .before .loop .inv
+    in omega (
+      arith,
+      c .before .before .before .before .before .before .before .before .before .before .if1 .taken,
+      K .moved .held .fits,
+      K .moved .held .room-few,
+    )
+
+loop-less : tie.Need-loop-less Inv-loop μ-loop
+loop-less c =
+    let K = c .before .before .before .before .before .before .before .before .before .before .before .before .loop .inv
+    in omega (
+      arith,
+      c .before .before .before .before .before .before .before .before .before .before .if1 .taken,
+      K .moved .held .fits,
+    )
+
+loop-again : tie.Need-loop-again Inv-loop μ-loop
+loop-again c =
+    let s = c .before .before .before .before .before .before .before .before .before .before .before .before .before
+    .before .before .before .before .before in
+    running-next (L s) (s .pre .0 .closed) _ _ (s .pre .1 .0)
+    (c .before .before .before .before .before .before .before .before .before .before .before .before .loop
+    .inv) (c .before .before .before .before .before .before .before .before .before .if2 .left)
+    (c .before .before .before .before .before .before .before .before .before .before .if1 .taken)
+    (c .before .before .before .before .work .ensures)
+
+same-length-3 : tie.Need-same-length-3 Inv-loop μ-loop
+same-length-3 c = c .before .before .loop .inv .moved .rest .long
+
+same-length-4 : tie.Need-same-length-4 Inv-loop μ-loop
+same-length-4 c = c .before .before .loop .inv .moved .rest .bytes-long
+
+returns-2 : tie.Need-returns-2 Inv-loop μ-loop
+returns-2 c =
+    let s = c .before .before .before .before .before .before .before .before in
+    running-end (L s) (s .pre .0 .closed) _ _ (s .pre .1 .0) (c .before .before .loop .inv) (c .if1 .left)
+
+pub run-spec : {M : Type 1} → statement M
+run-spec =
+    tie.close
+    (tie.spec
+    Inv-loop
+    μ-loop
+    loop-holds
+    same-length
+    same-length-2
+    returns
+    work-requires
+    add-k
+    loop-less
+    loop-again
+    same-length-3
+    same-length-4
+    returns-2)

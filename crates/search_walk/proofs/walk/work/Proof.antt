@@ -1,0 +1,239 @@
+-- The loop's invariant: the flag at hand is as it was at first, and meeting the changes that are left leads from here
+-- to the same state as meeting all of them led to from the start. The measure is the mask that is left.
+-- Assumes nothing.
+use mathlib.Core.Bool.{true}
+use mathlib.Core.Path.{_≡_, refl, sym, _∙_}
+use Prim.Native.Nat.{_-_, _<_}
+use native.Mathlib.Omega.{arith}
+use borrow.Author.Tests.{ltb-true, ltb-false}
+use borrow.Author.Needs.{needs}
+use lib.Pow.{pow-pos}
+use lib.ListN.{length, getD, take}
+use Rattle.listing.specs.Listing.{Listing, listing}
+use Rattle.search_theory.specs.Search.{meetAll}
+use Rattle.search_store.specs.Held.{stateOf}
+use Rattle.search_store.specs.Rows.{sameList, rowOf}
+use Rattle.search_store.proofs.Rows.{row-end}
+use Rattle.search_masks.proofs.Low.{low-fits}
+use Rattle.search_walk.specs.Ready.{AtHand}
+use Rattle.search_walk.specs.Searched.{neighbours}
+use Rattle.search_walk.proofs.Works.{Working, working-start, working-rank, working-next, working-stop, working-end}
+use Rattle.search_walk.proofs.walk.work.Statement.{statement}
+use Rattle.search_walk.proofs.walk.work.Tie as tie
+
+abbrev Inv-loop : tie.InvT-loop
+Inv-loop counts ends inc places weights table₀ bytes₀ heads₀ next₀ mask k room w at flag₀ sum byte left₀ s₀ table bytes
+    heads next flag left s =
+    (flag ≡ flag₀) × Working (listing counts ends inc) room table₀ bytes₀ s₀ (1 - getD bytes₀ k 0)
+    (rowOf (length counts) table₀ k)
+    (meetAll sameList room (1 - getD bytes₀ k 0) (stateOf (length counts) table₀ bytes₀ s₀)
+    (neighbours (listing counts ends inc) mask (rowOf (length counts) table₀ k))) table bytes heads next left s
+
+abbrev μ-loop : tie.MeasureT-loop
+μ-loop counts ends inc places weights table₀ bytes₀ heads₀ next₀ mask k room w at flag₀ sum byte left₀ s₀ table bytes
+    heads next flag left s = left
+
+abbrev L : tie.Start Inv-loop μ-loop → Listing
+L s = listing (s .args .counts .now) (s .args .ends .now) (s .args .inc .now)
+
+-- the flag at hand is row k, and the byte is the one that row k does not have
+row-is : (c : tie.At-loop Inv-loop μ-loop) → let s =
+    c .before .before .before .before .before .before .before .before .before .before .before .before .before .before in
+    take (length (s .args .counts .now)) (c .loop .flag) ≡ rowOf (length (s .args .counts .now)) (s .args .table .now)
+    (s .args .k)
+row-is c =
+    rw (c .loop .inv .0)
+    (rw (c .before .before .before .before .before .before .before .before .wide .ensures .0) at
+    (c .before .before .before .before .before .get-row .ensures .1))
+
+byte-is : (c : tie.At-loop Inv-loop μ-loop) → let s =
+    c .before .before .before .before .before .before .before .before .before .before .before .before .before .before in
+    c .before .flipped .result ≡ 1 - getD (s .args .bytes .now) (s .args .k) 0
+byte-is c =
+    rw (c .before .before .before .before .before .before .before .before .wide .ensures .0) at
+    (c .before .flipped .ensures)
+
+hand : (c : tie.At-loop Inv-loop μ-loop)
+    → AtHand (L
+    (c .before .before .before .before .before .before .before .before .before .before .before .before .before
+    .before)) (c .loop .flag) (c .before .before .before .sum-of .result)
+hand c =
+    let s = c .before .before .before .before .before .before .before .before .before .before .before .before .before
+    .before in
+    record {
+      sixteen = rw (c .loop .inv .0) (c .before .before .before .before .before .get-row .ensures .0);
+      is-flag = rw (row-is c) (s .pre .1 .1 .1 .0 (s .args .k) (s .pre .1 .1 .1 .1 .0));
+      sum-is = rw (c .loop .inv .0) (c .before .before .before .sum-of .ensures .0);
+      small = c .before .before .before .sum-of .ensures .1;
+    }
+
+-- some change is left
+some-left : (c : tie.After-any-left Inv-loop μ-loop) → c .any-left .result ≡ true → 0 < c .before .loop .left
+some-left c e = ltb-true 0 (c .before .loop .left) (sym (c .any-left .ensures) ∙ e)
+
+wide-requires : tie.Need-wide-requires Inv-loop μ-loop
+wide-requires c κs = search needs
+
+get-row-requires : tie.Need-get-row-requires Inv-loop μ-loop
+get-row-requires c κs = let s = c .before .before .before .before .before .before .before .before in (
+  s .pre .0 .closed .shaped .few-ranks,
+  rw (c .before .before .wide .ensures .0)
+      (omega (
+        arith,
+        row-end (s .args .k) (s .args .start .count) (length (s .args .counts .now)) (s .pre .1 .1 .1 .1 .0),
+        s .pre .1 .1 .0 .indexed .fits,
+      )),
+  refl,
+)
+
+sum-of-requires : tie.Need-sum-of-requires Inv-loop μ-loop
+sum-of-requires c κs =
+    let s = c .before .before .before .before .before .before .before .before .before .before in
+    (s .pre .0 .closed .shaped .few-ranks, c .before .get-row .ensures .0, s .pre .0 .weighs)
+
+slice-read-flipped : tie.Need-slice-read-flipped Inv-loop μ-loop
+slice-read-flipped c =
+    let s = c .before .before .before .before .before .before .before .before .before .before .before .before in
+    omega (
+      arith,
+      c .before .before .before .before .before .before .wide .ensures .0,
+      s .pre .1 .1 .1 .1 .0,
+      s .pre .1 .1 .0 .fits,
+      s .pre .1 .1 .0 .room-bytes,
+    )
+
+flipped-requires : tie.Need-flipped-requires Inv-loop μ-loop
+flipped-requires c κs = search needs
+
+loop-holds : tie.Need-loop-holds Inv-loop μ-loop
+loop-holds c =
+    let s = c .before .before .before .before .before .before .before .before .before .before .before .before .before in
+    (refl, working-start (L s) _ _ _ (s .args .mask) (s .pre .1 .1 .0) (omega arith) (s .pre .1 .0))
+
+any-left-requires : tie.Need-any-left-requires Inv-loop μ-loop
+any-left-requires c κs = search needs
+
+same-length : tie.Need-same-length Inv-loop μ-loop
+same-length c = c .before .before .before .loop .inv .1 .moved .rest .long
+
+same-length-2 : tie.Need-same-length-2 Inv-loop μ-loop
+same-length-2 c = c .before .before .before .loop .inv .1 .moved .rest .bytes-long
+
+returns : tie.Need-returns Inv-loop μ-loop
+returns c = working-stop _ _ _ _ (c .before .before .before .loop .inv .1) (c .if2 .taken)
+
+lowest-requires : tie.Need-lowest-requires Inv-loop μ-loop
+lowest-requires c κs = some-left (c .before .before) (c .before .if1 .taken)
+
+without-requires : tie.Need-without-requires Inv-loop μ-loop
+without-requires c κs = (
+  c .lowest .ensures .1,
+  rw (c .lowest .ensures .0)
+      (low-fits 16 _ (some-left (c .before .before .before) (c .before .before .if1 .taken))
+      (c .before .before .before .before .loop .inv .1 .small)),
+)
+
+try-next-requires : tie.Need-try-next-requires Inv-loop μ-loop
+try-next-requires c κs =
+    let s = c .before .before .before .before .before .before .before .before .before .before .before .before .before
+    .before .before .before .before .before .before .before .before .before .before .before in (
+      s .pre .0,
+      (
+        hand (c .before .before .before .before .before .before .before .before .before .before),
+        (
+          working-rank (L s) _ _ _
+              (c .before .before .before .before .before .before .before .before .before .before .loop .inv .1)
+              (some-left (c .before .before .before .before .before .before .before .before .before)
+              (c .before .before .before .before .before .before .before .before .if1 .taken))
+              (c .before .before .before .before .before .before .lowest .result)
+              (c .before .before .before .before .before .before .lowest .ensures .0),
+          (
+            c .before .before .before .before .before .before .before .before .before .before .loop .inv .1 .moved
+                .held,
+            c .before .before .before .before .before .before .before .if2 .left,
+          ),
+        ),
+      ),
+    )
+
+loop-less : tie.Need-loop-less Inv-loop μ-loop
+loop-less c =
+    omega (
+      arith,
+      c .before .before .before .before .before .before .before .before .before .before .without .ensures,
+      pow-pos (c .before .before .before .before .before .before .before .before .before .before .before .lowest
+          .result),
+      some-left
+          (c .before .before .before .before .before .before .before .before .before .before .before .before
+          .before .before)
+          (c .before .before .before .before .before .before .before .before .before .before .before
+          .before .before .if1 .taken),
+    )
+
+loop-again : tie.Need-loop-again Inv-loop μ-loop
+loop-again c =
+    let s = c .before .before .before .before .before .before .before .before .before .before .before .before .before
+    .before .before .before .before .before .before .before .before .before .before .before .before .before .before
+    .before .before in (
+      c .before .before .before .before .try-next .ensures .0
+          ∙ c .before .before .before .before .before .before .before .before .before .before .before .before .before
+          .before .before .loop .inv .0,
+      working-next (L s) _ _ _
+          (c .before .before .before .before .before .before .before .before .before .before .before .before .before
+          .before .before .loop .inv .1)
+          (some-left
+          (c .before .before .before .before .before .before .before .before .before .before .before .before
+          .before .before)
+          (c .before .before .before .before .before .before .before .before .before .before .before
+          .before .before .if1 .taken))
+          (c .before .before .before .before .before .before .before .before .before .before
+          .before .lowest .result)
+          (c .before .before .before .before .before .before .before .before .before
+          .before .before .lowest .ensures .0)
+          (c .before .before .before .before .before .before .before .before
+          .before .before .without .result)
+          (c .before .before .before .before .before .before .before
+          .before .before .before .without .ensures)
+          (rw (
+            byte-is
+                (c .before .before .before .before .before .before .before .before .before .before .before .before
+                .before .before .before),
+            row-is (c .before .before .before .before .before .before .before .before .before .before .before
+                .before .before .before .before),
+          ) at (c .before .before .before .before .try-next .ensures .1)),
+    )
+
+same-length-3 : tie.Need-same-length-3 Inv-loop μ-loop
+same-length-3 c = c .before .before .loop .inv .1 .moved .rest .long
+
+same-length-4 : tie.Need-same-length-4 Inv-loop μ-loop
+same-length-4 c = c .before .before .loop .inv .1 .moved .rest .bytes-long
+
+returns-2 : tie.Need-returns-2 Inv-loop μ-loop
+returns-2 c = let z = ltb-false 0 (c .before .before .loop .left) (sym (c .before .any-left .ensures) ∙ c .if1 .left) in
+    working-end _ _ _ _ (c .before .before .loop .inv .1) (omega arith)
+
+pub work-spec : {M : Type 1} → statement M
+work-spec =
+    tie.close
+    (tie.spec
+    Inv-loop
+    μ-loop
+    wide-requires
+    get-row-requires
+    sum-of-requires
+    slice-read-flipped
+    flipped-requires
+    loop-holds
+    any-left-requires
+    same-length
+    same-length-2
+    returns
+    lowest-requires
+    without-requires
+    try-next-requires
+    loop-less
+    loop-again
+    same-length-3
+    same-length-4
+    returns-2)

@@ -1,0 +1,272 @@
+// The search on a listing that is known to be closed: flags are kept in the table in the order found, and worked in
+// that order.
+use flag::Orientation;
+use flag_change::chain;
+use listing::Index;
+use listing::inner;
+use listing::limit;
+use search_masks::mask;
+use search_store::found;
+use search_store::found::Progress;
+use search_store::index;
+use search_store::row;
+ghost use mathlib.Core.Path.{_≡_};
+ghost use mathlib.Core.Bool.{false};
+ghost use mathlib.Core.List.{List};
+ghost use Prim.Native.Nat.{ℕ, _-_, _*_, _≤_, _<_};
+ghost use lib.ListN.{length, getD, take};
+ghost use Rattle.listing.specs.Listing.{held, limits, rank};
+ghost use Rattle.valid.specs.Closed.{Closed};
+ghost use Rattle.flag_change.specs.Flags.{IsFlag};
+ghost use Rattle.flag_change.specs.Change.{changeAt};
+ghost use Rattle.search_theory.specs.Search.{meet as meetIn, meetAll, run as runIn};
+ghost use Rattle.search_store.specs.Rows.{rowOf, sameList};
+ghost use Rattle.search_store.specs.Held.{stateOf, Held, Moved};
+ghost use Rattle.search_walk.specs.Searched.{neighbours, foundBy};
+ghost use Rattle.search_walk.specs.Ready.{Ended, AllFlags, Places, Within, Ready, AtHand};
+
+// The byte of the other orientation.
+fn flipped(byte: u8) -> u8
+    ensures { λ b. ⌜ b ≡ 1 - byte ⌝ }
+{
+    Orientation::of_byte(byte).flip().byte()
+}
+
+// The places where the ranks begin.
+fn places_of(counts: &[Index]) -> [usize; limit::RANKS]
+    requires { ⌜ length (now counts) ≤ 16 ⌝ }
+    ensures { λ a. ⌜ Places (now (counts .entry)) a ⌝ }
+{
+    let mut a = [0usize; limit::RANKS];
+    let mut here: usize = 0;
+    let mut r: usize = 0;
+    while r < counts.len() {
+        a[r] = here;
+        here += inner::wide(counts[r]);
+        r += 1;
+    }
+    a
+}
+
+// The change at rank r of the flag at hand, of which sum is the sum, is met; then the flag at hand is as it was.
+fn try_next(
+    counts: &[Index],
+    ends: &[Index],
+    inc: &[Index],
+    places: &[usize; limit::RANKS],
+    weights: &[usize; limit::RANKS],
+    table: &mut [Index],
+    bytes: &mut [u8],
+    heads: &mut [u16; index::HASHES],
+    next: &mut [u16; limit::FLAGS],
+    flag: &mut [Index; limit::RANKS],
+    sum: usize,
+    r: u16,
+    byte: u8,
+    room: usize,
+    s: Progress,
+) -> Progress
+    requires { ⌜ Ready (held counts ends inc) (now places) (now weights) ⌝ }
+    requires { ⌜ AtHand (held counts ends inc) (now flag) sum ⌝ }
+    requires { ⌜ (0 < r) × (r < rank (held counts ends inc)) ⌝ }
+    requires { ⌜ Held (length (now counts)) room (now table) (now bytes) (now heads) (now next) (s .count) ⌝ }
+    requires { ⌜ s .over ≡ false ⌝ }
+    ensures { λ p. ⌜ now (flag .exit) ≡ now (flag .entry) ⌝ }
+    ensures { λ p. ⌜ Moved (length (now (counts .entry))) room (now (table .entry)) (now (bytes .entry)) s
+        (now (table .exit)) (now (bytes .exit)) (now (heads .exit)) (now (next .exit)) p
+        (meetIn sameList room byte (stateOf (length (now (counts .entry))) (now (table .entry)) (now (bytes .entry)) s)
+        (changeAt (held (counts .entry) (ends .entry) (inc .entry)) r
+        (take (length (now (counts .entry))) (now (flag .entry))))) ⌝ }
+{
+    let w = counts.len();
+    let at = inner::wide(r);
+    let old = flag[at];
+    let new = chain::change_index(
+        counts,
+        ends,
+        inc,
+        &*flag,
+        at,
+        places[at - 1],
+        places[at + 1],
+    );
+    let h = index::hash_changed(sum, weights[at], old, new);
+    flag[at] = new;
+    let t = found::meet(table, bytes, heads, next, flag, w, h, byte, room, s);
+    flag[at] = old;
+    t
+}
+
+// The changes of flag k that the mask asks for are met, from the lowest rank upward.
+fn work(
+    counts: &[Index],
+    ends: &[Index],
+    inc: &[Index],
+    places: &[usize; limit::RANKS],
+    weights: &[usize; limit::RANKS],
+    table: &mut [Index],
+    bytes: &mut [u8],
+    heads: &mut [u16; index::HASHES],
+    next: &mut [u16; limit::FLAGS],
+    mask: u16,
+    k: u16,
+    room: usize,
+    start: Progress,
+) -> Progress
+    requires { ⌜ Ready (held counts ends inc) (now places) (now weights) ⌝ }
+    requires { ⌜ Within (held counts ends inc) mask ⌝ }
+    requires { ⌜ Held (length (now counts)) room (now table) (now bytes) (now heads) (now next) (start .count) ⌝ }
+    requires { ⌜ AllFlags (held counts ends inc) (now table) (start .count) ⌝ }
+    requires { ⌜ (k < start .count) × (start .over ≡ false) ⌝ }
+    ensures { λ p. ⌜ Moved (length (now (counts .entry))) room (now (table .entry)) (now (bytes .entry)) start
+        (now (table .exit)) (now (bytes .exit)) (now (heads .exit)) (now (next .exit)) p
+        (meetAll sameList room (1 - getD (now (bytes .entry)) k 0)
+        (stateOf (length (now (counts .entry))) (now (table .entry)) (now (bytes .entry)) start)
+        (neighbours (held (counts .entry) (ends .entry) (inc .entry)) mask
+        (rowOf (length (now (counts .entry))) (now (table .entry)) k))) ⌝ }
+{
+    let w = counts.len();
+    let at = inner::wide(k);
+    let mut flag: [Index; limit::RANKS] = [0; limit::RANKS];
+    row::get_row(&*table, at, w, &mut flag);
+    let sum = index::sum_of(&flag, w, weights);
+    let byte = flipped(bytes[at]);
+    let mut left = mask;
+    let mut s = start;
+    while mask::any_left(left) {
+        if s.over {
+            return s;
+        }
+        let r = mask::lowest(left);
+        left = mask::without(left, r);
+        s = try_next(
+            counts,
+            ends,
+            inc,
+            places,
+            weights,
+            table,
+            bytes,
+            heads,
+            next,
+            &mut flag,
+            sum,
+            r,
+            byte,
+            room,
+            s,
+        );
+    }
+    s
+}
+
+// The flags are worked in the order found, until none is left or one more turned up than there is room for.
+fn run(
+    counts: &[Index],
+    ends: &[Index],
+    inc: &[Index],
+    places: &[usize; limit::RANKS],
+    weights: &[usize; limit::RANKS],
+    table: &mut [Index],
+    bytes: &mut [u8],
+    heads: &mut [u16; index::HASHES],
+    next: &mut [u16; limit::FLAGS],
+    mask: u16,
+    room: usize,
+    start: Progress,
+) -> Progress
+    requires { ⌜ Ready (held counts ends inc) (now places) (now weights) ⌝ }
+    requires { ⌜ Within (held counts ends inc) mask ⌝ }
+    requires { ⌜ Held (length (now counts)) room (now table) (now bytes) (now heads) (now next) (start .count) ⌝ }
+    requires { ⌜ AllFlags (held counts ends inc) (now table) (start .count) ⌝ }
+    ensures { λ p. ⌜ ((a : List ℕ) → Moved (length (now (counts .entry))) room (now (table .entry)) (now (bytes .entry))
+        start (now (table .exit)) (now (bytes .exit)) (now (heads .exit)) (now (next .exit)) p
+        (runIn sameList room (neighbours (held (counts .entry) (ends .entry) (inc .entry)) mask) a
+        0 (stateOf (length (now (counts .entry))) (now (table .entry)) (now (bytes .entry)) start))) ⌝ }
+{
+    let mut s = start;
+    let mut k: u16 = 0;
+    while k < s.count {
+        if s.over {
+            return s;
+        }
+        s = work(
+            counts,
+            ends,
+            inc,
+            places,
+            weights,
+            table,
+            bytes,
+            heads,
+            next,
+            mask,
+            k,
+            room,
+            s,
+        );
+        k += 1;
+    }
+    s
+}
+
+// The search from the first flag.
+pub fn search_from(
+    counts: &[Index],
+    ends: &[Index],
+    inc: &[Index],
+    first: &[Index],
+    mask: u16,
+    table: &mut [Index],
+    bytes: &mut [u8],
+    room: usize,
+) -> Progress
+    requires { ⌜ Closed limits (held counts ends inc) ⌝ }
+    requires { ⌜ IsFlag (held counts ends inc) (now first) ⌝ }
+    requires { ⌜ Within (held counts ends inc) mask ⌝ }
+    requires { ⌜ (room * length (now counts) ≤ length (now table)) × (room ≤ length (now bytes))
+        × (room ≤ limits .flags) ⌝ }
+    ensures { λ p. ⌜ Ended (length (now (counts .entry))) room (now (table .entry)) (now (bytes .entry))
+        (now (table .exit)) (now (bytes .exit)) p
+        (foundBy (held (counts .entry) (ends .entry) (inc .entry)) (now (first .entry)) mask
+        room) ⌝ }
+{
+    let w = counts.len();
+    let places = places_of(counts);
+    let weights = index::weights();
+    let mut heads = [0u16; index::HASHES];
+    let mut next = [0u16; limit::FLAGS];
+    let flag = chain::pad(first);
+    let h = index::sum_of(&flag, w, &weights) % index::HASHES;
+    let none = Progress {
+        count: 0,
+        place: 0,
+        over: false,
+    };
+    let s = found::meet(
+        table,
+        bytes,
+        &mut heads,
+        &mut next,
+        &flag,
+        w,
+        h,
+        0,
+        room,
+        none,
+    );
+    run(
+        counts,
+        ends,
+        inc,
+        &places,
+        &weights,
+        table,
+        bytes,
+        &mut heads,
+        &mut next,
+        mask,
+        room,
+        s,
+    )
+}

@@ -1,0 +1,83 @@
+// A table of cells, a row for each: its name, its elements by rank, is_valid, flags, orientable, closed.
+use crate::print::blank;
+use crate::print::end;
+use crate::print::number;
+use crate::print::text;
+use listing::Answer;
+use listing::Index;
+use listing::inner;
+
+// A number of up to two digits, to the right, and a blank; blanks for 0.
+fn right(n: u16) {
+    if n < 10 {
+        blank();
+    }
+    if n == 0 {
+        blank();
+    } else {
+        number(n);
+    }
+    blank();
+}
+
+// How many elements there are at each rank, of up to five; blanks for the ranks that are not there.
+fn elements(counts: &[Index]) {
+    right(inner::count_at(counts, 0));
+    right(inner::count_at(counts, 1));
+    right(inner::count_at(counts, 2));
+    right(inner::count_at(counts, 3));
+    right(inner::count_at(counts, 4));
+}
+
+// What is_valid says.
+fn valid(no: u16) {
+    if no == 0 {
+        text(b" accepts     ");
+    } else {
+        text(b" refuses     ");
+    }
+}
+
+// How many flags there are, 0 if none were counted, and whether the cell is orientable.
+fn flags(count: u16, orientable: u8) {
+    if count == 0 {
+        text(b"  -  -           ");
+    } else {
+        if count < 100 {
+            blank();
+        }
+        right(count);
+        if orientable == 0 {
+            text(b" no          ");
+        } else {
+            text(b" yes         ");
+        }
+    }
+}
+
+// A cell: its counts, the number that is_valid answers, its flags, 0 if none were counted, whether it is orientable,
+// and what closed answers.
+pub fn row(
+    name: [u8; 30],
+    counts: &[Index],
+    verdict: u16,
+    count: u16,
+    orientable: u8,
+    closed: Answer,
+) {
+    text(&name);
+    blank();
+    elements(counts);
+    valid(verdict);
+    flags(count, orientable);
+    crate::answer(closed, listing::rank(counts).value);
+    end();
+}
+
+// A cell that was not made: there is nothing to count or to test.
+pub fn refused(name: [u8; 30], a: Answer) {
+    text(&name);
+    text(b"  -              -             -  -           ");
+    crate::answer(a, 0);
+    end();
+}

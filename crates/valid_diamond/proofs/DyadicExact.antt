@@ -1,0 +1,128 @@
+-- Test 3 and the diamond. Where test 2 passes, test 3 answers 0 exactly if each index that a walk meets is met twice;
+-- where moreover no list holds an index twice, exactly if the diamond holds at the ranks that it looks at.
+-- Assumes nothing.
+use mathlib.Core.Path.{_≡_, refl, sym, _∙_}
+use mathlib.Core.Logic.{_↔_, Iff·symm, Iff·trans, _⊎_, inl, inr}
+use mathlib.Core.Bool.{Bool, true, false, cond}
+use mathlib.Core.List.{List, [], _∷_}
+use Prim.Native.Nat.{ℕ, _+_, _-_, _≤_, _<_}
+use native.Mathlib.Omega.{arith}
+use lib.ListN.{length}
+use Rattle.order.specs.Lists.{In, has, occurs}
+use Rattle.order.proofs.Lists.{append-in, in-left, in-right, has-yes, has-no}
+use Rattle.order.proofs.Lists.{occurs-none, occurs-some, occurs-append}
+use Rattle.listing.specs.Listing.{Listing, count, before, subs}
+use Rattle.valid_incidence.specs.Incidence.{Incident}
+use Rattle.valid_incidence.proofs.Sequences.{elements-exact}
+use Rattle.valid_diamond.specs.Dyadic.{subsOfAll, walk, sectionsTest, dyadicTest}
+use Rattle.valid_diamond.specs.Dyadic.{Between, Two, DiamondAt, Diamond, Distinct, MetTwice}
+use Rattle.valid_diamond.proofs.Walks.{subsOf}
+use Rattle.valid_diamond.proofs.Counting.{occurs-nil, sections-exact}
+use Rattle.valid_diamond.proofs.Twos.{Once, keep, in-keep, once-keep, two-exact, two-map}
+
+-- ---- what a walk meets
+
+module _ (ends inc : List ℕ) (b x : ℕ) where
+  abbrev walkOf : List ℕ → List ℕ
+  walkOf l = subsOfAll ends inc b l
+
+  abbrev of : ℕ → List ℕ
+  of s = subsOf ends inc b s
+
+  in-walk : (l : List ℕ) → In x (walkOf l) → (s : ℕ) × In s l × In x (of s)
+  unfolding subsOfAll In
+  in-walk [] m = absurd m
+  in-walk (s ∷ l) m = go (in-walk l) (append-in x (of s) (walkOf l) m)
+    where
+      go : (In x (walkOf l) → (t : ℕ) × In t l × In x (of t)) → In x (of s) ⊎ In x (walkOf l)
+          → (t : ℕ) × ((t ≡ s) ⊎ In t l) × In x (of t)
+      go ih (inl k) = (s, inl refl, k)
+      go ih (inr k) = let p = ih k in (p .0, inr (p .1), p .2)
+
+  walk-in : (s : ℕ) (l : List ℕ) → In s l → In x (of s) → In x (walkOf l)
+  unfolding subsOfAll In
+  walk-in s [] m k = absurd m
+  walk-in s (t ∷ l) (inl e) k = in-left x (of t) (walkOf l) (rw e at k)
+  walk-in s (t ∷ l) (inr m) k = in-right x (of t) (walkOf l) (walk-in s l m k)
+
+  -- where no list repeats it, an index is met once for each list that has it
+  abbrev having : ℕ → Bool
+  having s = has (of s) x
+
+  walk-occurs : (l : List ℕ) → ((s : ℕ) → In s l → occurs x (of s) ≤ 1) → occurs x (walkOf l) ≡ length (keep having l)
+  unfolding subsOfAll keep In
+  walk-occurs [] d = occurs-nil x
+  walk-occurs (s ∷ l) d =
+      occurs-append x (of s) (walkOf l) ∙ go (having s) refl (walk-occurs l (λ t m. d t (inr m)))
+    where
+      go : (c : Bool) → having s ≡ c → occurs x (walkOf l) ≡ length (keep having l)
+          → occurs x (of s) + occurs x (walkOf l) ≡ length (cond (having s) (s ∷ keep having l) (keep having l))
+      go true e ih = rw e (omega (arith, d s (inl refl), occurs-some x (of s) .1 (has-yes x (of s) .0 e)))
+      go false e ih = rw e (omega (arith, occurs-none x (of s) .1 (has-no x (of s) .0 e)))
+
+-- ---- counted by occurrence
+
+module _ (L : Listing) (I : Incident L) where
+  -- what lies two ranks lower is there
+  pub there : (r i x : ℕ) → i < count L r → In x (walk L r i) → x < count L (r - 2)
+  there r i x h m =
+      let p = in-walk (L .ends) (L .inc) (before (L .counts) (r - 1)) x (subs L r i) m in
+      let e : r - 1 - 1 ≡ r - 2 = omega arith in
+      rw e at (I .sub-back (r - 1) (p .0) x (I .sub-back r i (p .0) h (p .1) .1) (p .2) .1)
+
+  -- Where test 2 passes, test 3 answers 0 exactly if each index that a walk meets is met twice.
+  pub dyadic-counts : (h : ℕ) → dyadicTest L h .no ≡ 0 ↔ MetTwice L h
+  unfolding dyadicTest MetTwice
+  dyadic-counts h =
+      let e = elements-exact L (sectionsTest L) 2 (h + 1) in (
+        λ z r i x low high k m. sections-exact L r i (λ y. there r i y k) .0 (e .0 z r i low (omega arith) k) x m,
+        λ a. e .1 (λ r i low high k.
+            sections-exact L r i (λ y. there r i y k) .1 (λ x m. a r i x low (omega arith) k m)),
+      )
+
+-- ---- the diamond
+
+-- an element's subs that lie over x
+abbrev pub over : Listing → ℕ → ℕ → ℕ → List ℕ
+over L r i x = keep (λ s. has (subs L (r - 1) s) x) (subs L r i)
+
+pub over-between : (L : Listing) (r i x s : ℕ) → In s (over L r i x) ↔ Between L r i x s
+over-between L r i x s = (
+  λ m. let p = in-keep _ s (subs L r i) .0 m in (p .0, has-yes x (subs L (r - 1) s) .0 (p .1)),
+  λ b. in-keep _ s (subs L r i) .1 (b .0, has-yes x (subs L (r - 1) s) .1 (b .1)),
+)
+
+module _ (L : Listing) (I : Incident L) (D : Distinct L) where
+  module _ (r i x : ℕ) (k : i < count L r) where
+    pub over-once : Once (over L r i x)
+    unfolding Distinct
+    over-once = once-keep _ (subs L r i) (λ s. D 0 r i s (omega arith) k)
+
+    pub met-over : occurs x (walk L r i) ≡ length (over L r i x)
+    unfolding Distinct
+    met-over =
+        walk-occurs (L .ends) (L .inc) (before (L .counts) (r - 1)) x (subs L r i)
+        (λ s m. D 0 (r - 1) s x (omega arith) (I .sub-back r i s k m .1))
+
+    -- met twice: exactly two lie between
+    twice-two : occurs x (walk L r i) ≡ 2 ↔ Two (Between L r i x)
+    twice-two =
+        let t = two-exact (over L r i x) over-once in (
+          λ e. two-map (over-between L r i x) (t .0 (sym met-over ∙ e)),
+          λ p. met-over ∙ t .1 (two-map (λ s. Iff·symm (over-between L r i x s)) p),
+        )
+
+  pub twice-diamond : (h : ℕ) → MetTwice L h ↔ Diamond L h
+  unfolding MetTwice Diamond DiamondAt
+  twice-diamond h = (
+    λ a r low high i x s k b.
+        let m = walk-in (L .ends) (L .inc) _ x s (subs L r i) (b .0) (b .1) in
+        twice-two r i x k .0 (a r i x low high k m),
+    λ a r i x low high k m.
+        let p = in-walk (L .ends) (L .inc) (before (L .counts) (r - 1)) x (subs L r i) m in
+        twice-two r i x k .1 (a r low high i x (p .0) k (p .1, p .2)),
+  )
+
+  -- Where test 2 passes and no list holds an index twice, test 3 answers 0 exactly if the diamond holds.
+  pub dyadic-exact : (h : ℕ) → dyadicTest L h .no ≡ 0 ↔ Diamond L h
+  dyadic-exact h = Iff·trans (dyadic-counts L I h) (twice-diamond h)

@@ -1,0 +1,112 @@
+-- Invariant: r is at least 2, the rank below r begins at place b, and the answer to the whole is the answer from rank r
+-- on. Measure: the ranks left.
+-- Assumes nothing.
+use mathlib.Core.Path.{_≡_, refl}
+use Prim.Native.Nat.{_+_, _-_, _≤_}
+use native.Mathlib.Omega.{arith}
+use borrow.Author.Needs.{needs}
+use lib.ListN.{getD}
+use Rattle.listing.specs.Answers.{firstOf}
+use Rattle.listing.specs.Listing.{listing, before}
+use Rattle.listing.proofs.Answers.{of-return, of-turn, of-done}
+use Rattle.listing.proofs.Listing.{before-zero, before-next}
+use Rattle.valid_incidence.proofs.Places.{before-step, few-before}
+use Rattle.valid_diamond.specs.Dyadic.{sectionsTest, dyadicTest}
+use Rattle.valid_diamond.proofs.dyadic.check_up_to.Statement.{statement}
+use Rattle.valid_diamond.proofs.dyadic.check_up_to.Tie as tie
+
+abbrev Inv-loop : tie.InvT-loop
+Inv-loop counts ends inc high b₀ r₀ b r =
+    (2 ≤ r)
+    × (b ≡ before counts (r - 1))
+    × (dyadicTest (listing counts ends inc) high
+    ≡ firstOf (λ q. firstOf (sectionsTest (listing counts ends inc) q) 0 (getD counts q 0)) r (high + 1))
+
+abbrev μ-loop : tie.MeasureT-loop
+μ-loop counts ends inc high b₀ r₀ b r = high + 1 - r
+
+shared-slice-read-wide : tie.Need-shared-slice-read-wide Inv-loop μ-loop
+shared-slice-read-wide c = search needs
+
+wide-requires : tie.Need-wide-requires Inv-loop μ-loop
+wide-requires c κs = search needs
+
+loop-holds : tie.Need-loop-holds Inv-loop μ-loop
+unfolding dyadicTest
+loop-holds c =
+    let l = c .before .before .before .before .before .args .counts .now in
+    (omega arith, omega (arith, before-next l 0, before-zero l), refl)
+
+check-rank-requires : tie.Need-check-rank-requires Inv-loop μ-loop
+check-rank-requires c κs =
+    let s = c .before .before .before .before .before .before .before in
+    let v = c .before .loop .inv in
+    (s .pre .0, (s .pre .1 .0, (v .1, v .0, omega arith)))
+
+returns : tie.Need-returns Inv-loop μ-loop
+returns c =
+    let d = c .before .before in
+    of-return _ _ _ _ _ (d .before .before .loop .inv .2) (d .check-rank .ensures) (omega arith) (c .if1 .taken)
+
+sub-wide : tie.Need-sub-wide Inv-loop μ-loop
+sub-wide c = search needs
+
+mul-wide : tie.Need-mul-wide Inv-loop μ-loop
+mul-wide c = search needs
+
+shared-slice-read-wide-2 : tie.Need-shared-slice-read-wide-2 Inv-loop μ-loop
+shared-slice-read-wide-2 c = search needs
+
+wide-requires-2 : tie.Need-wide-requires-2 Inv-loop μ-loop
+wide-requires-2 c κs = search needs
+
+add-b : tie.Need-add-b Inv-loop μ-loop
+add-b c =
+    let s = c .before .before .before .before .before .before .before .before .before .before .before .before in
+    let l = s .args .counts .now in
+    let r = c .before .before .before .before .before .before .loop .r in
+    let f = few-before (listing l (s .args .ends .now) (s .args .inc .now)) (s .pre .0) r in
+    omega (arith, before-step l r (omega arith), f)
+
+add-r : tie.Need-add-r Inv-loop μ-loop
+add-r c = search needs
+
+loop-less : tie.Need-loop-less Inv-loop μ-loop
+loop-less c = search needs
+
+loop-again : tie.Need-loop-again Inv-loop μ-loop
+loop-again c =
+    let d = c .before .before .before .before in
+    let l = d .before .before .before .before .before .before .before .before .args .counts .now in
+    let r = d .before .before .loop .r in
+    let e : r + 1 - 1 ≡ r = omega arith in
+    let t = of-turn _ _ _ _ _ (d .before .before .loop .inv .2) (d .check-rank .ensures) in
+    (omega arith, rw e (omega (arith, before-step l r (omega arith))), t (omega arith) (c .before .before .if1 .left))
+
+plain-requires : tie.Need-plain-requires Inv-loop μ-loop
+plain-requires c κs = search needs
+
+returns-2 : tie.Need-returns-2 Inv-loop μ-loop
+returns-2 c = of-done _ _ _ _ _ (c .before .before .loop .inv .2) (c .plain .ensures) (omega arith)
+
+pub check-up-to-spec : {M : Type 1} → statement M
+check-up-to-spec =
+    tie.close
+    (tie.spec
+    Inv-loop
+    μ-loop
+    shared-slice-read-wide
+    wide-requires
+    loop-holds
+    check-rank-requires
+    returns
+    sub-wide
+    mul-wide
+    shared-slice-read-wide-2
+    wide-requires-2
+    add-b
+    add-r
+    loop-less
+    loop-again
+    plain-requires
+    returns-2)
