@@ -1,70 +1,27 @@
 -- Which numbers the parts of the tests can answer.
 -- Assumes nothing.
-use mathlib.Core.Path.{_≡_, refl}
-use mathlib.Core.Logic.{_⊎_, inl, inr}
-use mathlib.Core.Bool.{Bool, true, false, cond, not, _&&_}
+use mathlib.Core.Bool.{not, _&&_}
 use mathlib.Core.List.{List, [], _∷_}
-use Prim.Native.Nat.{ℕ, zero, suc, _+_, _-_, _*_, _≤_}
+use Prim.Native.Nat.{ℕ, _+_, _-_, _*_, _≤_}
 use lib.Dec.{leb, ltb, eqb}
 use lib.ListN.{length}
 use native.Mathlib.Omega.{arith}
-use Rattle.listing.specs.declared.Answer.{Answer}
-use Rattle.listing.specs.Answers.{refusal, fine, on, _orElse_, firstIn, firstFor, firstOf}
 use Rattle.order.specs.Lists.{has, occurs}
+use Rattle.listing.specs.declared.Answer.{Answer}
+use Rattle.listing.specs.Answers.{refusal, fine, on}
 use Rattle.listing.specs.Listing.{Listing, rank, count, entries, side, subs, sups}
-use Rattle.listing.proofs.Answers.{or-fine, or-stop}
+use Rattle.listing.proofs.Among.{Among, among-fine, among-or, among-cond, among-is, among-on, among-in, among-of}
 use Rattle.valid_incidence.specs.Incidence.{entryTest, alongTest, elementTest, incidencesTest}
 use Rattle.valid_diamond.specs.Dyadic.{walk, thirdTest, seenAfter, loneTest, sectionsTest, dyadicTest}
 use Rattle.valid.specs.Bounds.{boundedTest}
 use Rattle.valid.specs.Ascent.{climbs, sideAscent, elementAscent, ascentTest}
-use Rattle.promises.proofs.Broken.{zero-or}
 
--- a refusal has one of the numbers from low to high
-pub record Among (low high : ℕ) (a : Answer) : Type 0 where
-  pub numbers : (a .no ≡ 0 → ⊥) → (low ≤ a .no) × (a .no ≤ high)
-
-module _ {low high : ℕ} where
-  among-fine : Among low high fine
-  among-fine = record { numbers = λ s. absurd (s refl) }
-
-  among-or : {x y : Answer} → Among low high x → Among low high y → Among low high (x orElse y)
-  among-or {x} {y} p q = go (zero-or (x .no))
-    where
-      go : (x .no ≡ 0) ⊎ (x .no ≡ 0 → ⊥) → Among low high (x orElse y)
-      go (inl z) = rw (or-fine x y z) q
-      go (inr s) = rw (or-stop x y s) p
-
-  among-cond : (t : Bool) (x y : Answer) → Among low high x → Among low high y → Among low high (cond t x y)
-  among-cond true x y p q = p
-  among-cond false x y p q = q
-
-  module _ (n : ℕ) (l : low ≤ n) (h : n ≤ high) where
-    among-is : (a b c d : ℕ) → Among low high (refusal n a b c d)
-    among-is a b c d = record { numbers = λ s. (l, h) }
-
-    among-on : (t : Bool) (a b c d : ℕ) → Among low high (on t (refusal n a b c d))
-    among-on t a b c d = among-cond t (refusal n a b c d) fine (among-is a b c d) among-fine
-
-  module _ (f : ℕ → Answer) (each : (k : ℕ) → Among low high (f k)) where
-    among-in : (l : List ℕ) → Among low high (firstIn f l)
-    unfolding firstIn
-    among-in [] = among-fine
-    among-in (x ∷ l) = among-or (each x) (among-in l)
-
-    among-for : (i k : ℕ) → Among low high (firstFor f i k)
-    unfolding firstFor
-    among-for i zero = among-fine
-    among-for i (suc k) = among-or (each i) (among-for (suc i) k)
-
-    among-of : (i n : ℕ) → Among low high (firstOf f i n)
-    unfolding firstOf
-    among-of i n = among-for i (n - i)
-
-    among-third : (seen l : List ℕ) → Among low high (thirdTest f seen l)
-    unfolding thirdTest
-    among-third seen [] = among-fine
-    among-third seen (x ∷ l) =
-        among-or (among-cond (leb 2 (occurs x seen)) (f x) fine (each x) among-fine) (among-third (x ∷ seen) l)
+module _ {low high : ℕ} (f : ℕ → Answer) (each : (k : ℕ) → Among low high (f k)) where
+  among-third : (seen l : List ℕ) → Among low high (thirdTest f seen l)
+  unfolding thirdTest
+  among-third seen [] = among-fine
+  among-third seen (x ∷ l) =
+      among-or (among-cond (leb 2 (occurs x seen)) (f x) fine (each x) among-fine) (among-third (x ∷ seen) l)
 
 -- Test 1 refuses with 10.
 pub bounded-numbers : (L : Listing) → Among 10 10 (boundedTest L)

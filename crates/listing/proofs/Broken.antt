@@ -8,10 +8,10 @@ use Prim.Native.Nat.{ℕ, zero, suc, _≤_, _<_}
 use native.Mathlib.Omega.{arith}
 use borrow.Author.Tests.{le-ltb, ltb-false, not-false}
 use lib.Dec.{ltb}
 use Rattle.listing.specs.declared.Answer.{Answer}
 use Rattle.listing.specs.Answers.{plain, on, _orElse_}
 use Rattle.listing.proofs.Answers.{or-fine, or-stop, or-assoc}
-use Rattle.promises.specs.Rules.{Rule, rules, FirstBroken}
+use Rattle.listing.specs.Rules.{Rule, rules, FirstBroken}
 
 -- ---- a test that answers 0 exactly if a rule holds, and else one of the rule's numbers
 
