@@ -1,7 +1,6 @@
-//! The means of trying the library: what it is asked, an unproved model of it, and cells to ask about.
+//! The means of trying Flumedrac: what it is asked, an unproved model of it, and cells to ask about.
 
 pub mod cells;
-#[cfg(linked)]
 pub mod guarded;
 pub mod library;
 pub mod limit;
@@ -10,13 +9,14 @@ pub mod question;
 pub mod random;
 pub mod text;
 
-pub use library::{Kind, Library, Test};
+pub use guarded::Guarded;
+pub use library::{build, Archive, Kind, Library, Outputs, Test};
 pub use limit::limit_memory;
 pub use model::{Break, Model};
 pub use question::{reply_to, Question, Reply};
 pub use random::Random;
 
-use crate::{Listing, Slices};
+use flumedrac::{Listing, Slices};
 
 /// Three owned slices, whether or not they are a listing.
 #[derive(Clone, Debug, Default, PartialEq, Eq, Hash)]

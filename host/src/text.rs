@@ -2,9 +2,9 @@
 
 use std::fmt::{self, Display, Write};
 
-use super::library::{Kind, Test};
-use super::question::{Question, Reply};
-use super::Raw;
+use crate::library::{Kind, Test};
+use crate::question::{Question, Reply};
+use crate::Raw;
 
 /// Numbers in brackets.
 struct List<'a>(&'a [u16]);
@@ -179,8 +179,8 @@ impl Reply {
 #[cfg(test)]
 mod tests {
     use super::*;
-    use crate::trial::Model;
-    use crate::Listing;
+    use crate::Model;
+    use flumedrac::Listing;
 
     /// Questions and replies are read as they were written.
     #[test]

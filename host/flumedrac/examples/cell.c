@@ -1,7 +1,8 @@
 /*
- * Tests a cell from C: a tetrahedron whose bottom face is missing. is_valid does not see it, closed does.
+ * Tests a cell from C: a tetrahedron whose bottom face is missing. is_valid does not see it, closed does. In the
+ * project's folder, after 'rt staticlib flumedrac':
  *
- *   cc -std=c99 -Iinclude host/examples/cell.c target/staticlib/libflumedrac.a -o cell && ./cell
+ *   cc -std=c99 -Iinclude host/flumedrac/examples/cell.c target/staticlib/libflumedrac.a -o target/cell && target/cell
  */
 #include <stdio.h>
 
@@ -29,56 +30,23 @@ static const uint16_t inc[] = {
     0, 1, 2                                                                 /* the whole: its faces */
 };
 
+/* An answer in words. What the fields a, b, c and d are stands in the header, beside the refusal's number. */
 static void say(const char *test, fd_answer answer)
 {
-    printf("%s: ", test);
-    switch (answer.no) {
-    case FD_ACCEPTED:
-        printf("accepted\n");
-        break;
-    case FD_NOT_BOUNDED:
-        printf("there are %d minimal and %d maximal elements instead of one and one\n", answer.a, answer.b);
-        break;
-    case FD_NO_SUBS:
-        printf("element %d of rank %d has no subs\n", answer.b, answer.a);
-        break;
-    case FD_NO_SUPS:
-        printf("element %d of rank %d has no sups\n", answer.b, answer.a);
-        break;
-    case FD_SUB_NOT_BACK:
-        printf("element %d of rank %d lists the sub %d, which does not list it back\n", answer.b, answer.a, answer.c);
-        break;
-    case FD_SUP_NOT_BACK:
-        printf("element %d of rank %d lists the sup %d, which does not list it back\n", answer.b, answer.a, answer.c);
-        break;
-    case FD_SUB_MISSING:
-        printf("element %d of rank %d lists the sub %d, which does not exist\n", answer.b, answer.a, answer.c);
-        break;
-    case FD_SUP_MISSING:
-        printf("element %d of rank %d lists the sup %d, which does not exist\n", answer.b, answer.a, answer.c);
-        break;
-    case FD_THIRD_BETWEEN:
-        printf("more than two elements lie between element %d of rank %d and element %d of rank %d\n", answer.b,
-               answer.a, answer.d, answer.c);
-        break;
-    case FD_LONE_BETWEEN:
-        printf("only one element lies between element %d of rank %d and element %d of rank %d\n", answer.b, answer.a,
-               answer.d, answer.c);
-        break;
-    case FD_NOT_ASCENDING:
-        printf("the %s of element %d of rank %d do not ascend\n", answer.c == FD_SUBS ? "subs" : "sups", answer.b,
-               answer.a);
-        break;
-    default:
-        printf("the three slices are no listing (%d)\n", answer.no);
-    }
+    printf("%s: %s", test, fd_refusal_text(answer.no));
+    if (fd_class(answer.no) == FD_CLASS_STRUCTURE)
+        printf(" (%d: %d, %d, %d, %d)", answer.no, answer.a, answer.b, answer.c, answer.d);
+    printf("\n");
 }
 
 int main(void)
 {
     fd_number faces = fd_facet_count(counts, LENGTH(counts));
+    fd_answer closed = fd_closed(counts, LENGTH(counts), ends, LENGTH(ends), inc, LENGTH(inc));
     printf("a cell with %d faces\n", (int)faces.value);
     say("is_valid", fd_is_valid(counts, LENGTH(counts), ends, LENGTH(ends), inc, LENGTH(inc)));
-    say("closed", fd_closed(counts, LENGTH(counts), ends, LENGTH(ends), inc, LENGTH(inc)));
+    say("closed", closed);
+    if (closed.no == FD_LONE_BETWEEN && closed.a == 2)
+        printf("edge %d lies in only one face: the cell leaks there\n", closed.b);
     return 0;
 }

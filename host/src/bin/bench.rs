@@ -9,8 +9,8 @@
 use std::any::Any;
 use std::hint::black_box;
 
-use flumedrac::trial::{cells, limit_memory, Kind, Library, Model, Test};
 use flumedrac::{Listing, MAX_ELEMENTS, MAX_FLAGS, MAX_INCIDENCES, MAX_RANKS};
+use flumedrac_trial::{cells, limit_memory, Archive, Kind, Library, Model, Test};
 
 #[cfg(oracle)]
 extern crate oracle_optimised as oracle;
@@ -142,7 +142,7 @@ fn product_row<'a>(library: &'a dyn Library, name: &str, kind: Kind, p: &'a List
     let mut slices = [vec![0; MAX_RANKS], vec![0; 2 * MAX_ELEMENTS], vec![0; MAX_INCIDENCES]];
     let ours: Work<'a> = Box::new(move |_| {
         let [counts, ends, inc] = &mut slices;
-        let built = library.product(kind, p.slices(), q.slices(), counts, ends, inc);
+        let built = library.product(kind, p.slices(), q.slices(), [counts, ends, inc]);
         assert_eq!(built.answer.no, 0);
     });
     #[cfg(oracle)]
@@ -269,11 +269,6 @@ fn main() {
         println!("The unproved model, {runs} runs: these are not the library's times.\n");
         return tables(&Model::default(), runs);
     }
-    #[cfg(linked)]
-    {
-        println!("{runs} runs of each, ours and the Rust's in turn.\n");
-        tables(&flumedrac::trial::library::Archive, runs)
-    }
-    #[cfg(not(linked))]
-    println!("The archive was not found when this was built; --model tries this program without it.")
+    println!("{runs} runs of each, ours and the Rust's in turn.\n");
+    tables(&Archive, runs);
 }

@@ -8,7 +8,7 @@
 //! --rounds sets how many damaged and random listings are tried, --small asks less of everything. --write-replay
 //! writes the replay list.
 //!
-//! Status 0: no differences. 1: some. 2: no archive to ask, or no Rust files to compare with.
+//! Status 0: no differences. 1: some. 2: no Rust files to compare with, or an option that is not known.
 
 mod damage;
 mod inputs;
@@ -23,7 +23,7 @@ mod tally;
 
 use std::process::ExitCode;
 
-use flumedrac::trial::{limit_memory, Break, Library, Model};
+use flumedrac_trial::{limit_memory, Archive, Break, Guarded, Library, Model};
 
 use inputs::Scale;
 use replay::Replay;
@@ -87,19 +87,11 @@ fn main() -> ExitCode {
     }
 }
 
-#[cfg(linked)]
 fn archive(options: &Options) -> ExitCode {
-    use flumedrac::trial::{guarded::Guarded, library::Archive};
     match options.guarded {
         true => compare(&Guarded::default(), "the archive, its slices guarded", options),
         false => compare(&Archive, "the archive", options),
     }
-}
-
-#[cfg(not(linked))]
-fn archive(_: &Options) -> ExitCode {
-    println!("The archive was not found when this was built; --model tries this program without it.");
-    ExitCode::from(2)
 }
 
 fn compare(library: &dyn Library, name: &str, options: &Options) -> ExitCode {
