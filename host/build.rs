@@ -1,5 +1,6 @@
 //! Finds the oracle and says so to the code, as `cfg(oracle)`: it is what `oracle/build.sh` makes in `target/oracle`, or
-//! in `target/TARGET/oracle` for another target. Without it the programs say so, and compare by plain conditions alone.
+//! in `target/TARGET/oracle` where a target is named. Without it the programs say so, and compare by plain conditions
+//! alone.
 
 use std::env;
 use std::path::{Path, PathBuf};
@@ -10,11 +11,16 @@ fn main() {
     let here = PathBuf::from(env::var_os("CARGO_MANIFEST_DIR").expect("cargo says where the package is"));
     let target = env::var("TARGET").expect("cargo says what it builds for");
     let native = env::var("HOST").as_ref() == Ok(&target);
-    let oracle = if native { here.join("target/oracle") } else { here.join("target").join(target).join("oracle") };
-    if found(&oracle.join("liboracle_checked.rlib")) && found(&oracle.join("liboracle_optimised.rlib")) {
+    let named = here.join("target").join(target).join("oracle");
+    let folders = [native.then(|| here.join("target/oracle")), Some(named)];
+    if let Some(oracle) = folders.into_iter().flatten().find(|folder| has_oracle(folder)) {
         println!("cargo::rustc-cfg=oracle");
         println!("cargo::rustc-link-search=all={}", oracle.display());
     }
+}
+
+fn has_oracle(folder: &Path) -> bool {
+    ["liboracle_checked.rlib", "liboracle_optimised.rlib"].iter().all(|name| found(&folder.join(name)))
 }
 
 /// Whether a file is there; cargo asks again once that changes.

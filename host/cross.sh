@@ -42,16 +42,16 @@ command=${1:-help}
 [ $# -eq 0 ] || shift
 cd "$here"
 case $command in
-test) cargo test --release --features linked "$@" ;;
+test) cargo test --release "$@" ;;
 examples)
-    cargo run --release --features linked --example prism
-    "$CC" -std=c99 -Wall -Wextra -pedantic -Werror -I../include examples/cell.c \
+    cargo run --release --example prism
+    "$CC" -std=c99 -Wall -Wextra -pedantic -Werror -I../include flumedrac/examples/cell.c \
         "${FLUMEDRAC_LIB:-../target/staticlib}/libflumedrac.a" -o target/$target/cell
     $FLUMEDRAC_RUN target/$target/cell
     ;;
 oracle) oracle/build.sh "$@" ;;
 compare | bench)
-    cargo build --release --features linked --bin "$command"
+    cargo build --release --bin "$command"
     limited $FLUMEDRAC_RUN target/$target/release/"$command" "$@"
     ;;
 run) $FLUMEDRAC_RUN "$@" ;;

@@ -74,7 +74,7 @@ fn main() -> ExitCode {
         }
     };
     if !oracle::PRESENT {
-        println!("The Rust files are not built (host/oracle/build.sh); only plain conditions are compared.");
+        println!("The Rust files are not built (host/oracle/build.sh FOLDER); only plain conditions are compared.");
     }
     println!("seed {}", options.seed);
     if options.breaks {
