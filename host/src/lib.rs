@@ -3,18 +3,18 @@
 pub mod cells;
 pub mod guarded;
 pub mod library;
-pub mod limit;
 pub mod model;
 pub mod question;
 pub mod random;
+pub mod start;
 pub mod text;
 
 pub use guarded::Guarded;
 pub use library::{build, Archive, Kind, Library, Outputs, Test};
-pub use limit::limit_memory;
 pub use model::{Break, Model};
 pub use question::{reply_to, Question, Reply};
 pub use random::Random;
+pub use start::{limit_memory, misused};
 
 use flumedrac::{Listing, Slices};
 

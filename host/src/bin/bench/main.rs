@@ -13,7 +13,7 @@ mod times;
 
 use std::process::ExitCode;
 
-use flumedrac_trial::{limit_memory, Archive, Library, Model};
+use flumedrac_trial::{limit_memory, misused, Archive, Library, Model};
 
 use rows::{Measured, Row, Rows};
 use times::{written, Summary};
@@ -108,24 +108,21 @@ fn tables(library: &dyn Library, options: &Options) {
     print(Rows(library), options.runs);
 }
 
-fn main() -> ExitCode {
-    limit_memory(2000);
-    let options = match options() {
-        Ok(options) => options,
-        Err(what) => {
-            eprintln!("{what}");
-            return ExitCode::from(2);
-        }
-    };
+fn bench(options: &Options) -> ExitCode {
     if !rust::PRESENT {
         println!("The Rust files are not built (host/oracle/build.sh FOLDER); only the library is measured.\n");
     }
     if options.model {
         println!("The unproved model, {} runs: these are not the library's times.\n", options.runs);
-        tables(&Model::default(), &options);
+        tables(&Model::default(), options);
     } else {
         println!("{} runs of each, ours and the Rust's in turn.\n", options.runs);
-        tables(&Archive, &options);
+        tables(&Archive, options);
     }
     ExitCode::SUCCESS
+}
+
+fn main() -> ExitCode {
+    limit_memory(2000);
+    options().map_or_else(misused, |options| bench(&options))
 }

@@ -23,7 +23,7 @@ mod tally;
 
 use std::process::ExitCode;
 
-use flumedrac_trial::{limit_memory, Archive, Break, Guarded, Library, Model};
+use flumedrac_trial::{limit_memory, misused, Archive, Break, Guarded, Library, Model};
 
 use inputs::Scale;
 use replay::Replay;
@@ -66,13 +66,11 @@ fn options() -> Result<Options, String> {
 
 fn main() -> ExitCode {
     limit_memory(1000);
-    let options = match options() {
-        Ok(options) => options,
-        Err(what) => {
-            eprintln!("{what}");
-            return ExitCode::from(2);
-        }
-    };
+    options().map_or_else(misused, |options| ask(&options))
+}
+
+/// Asks whom the options name.
+fn ask(options: &Options) -> ExitCode {
     if !oracle::PRESENT {
         println!("The Rust files are not built (host/oracle/build.sh FOLDER); only plain conditions are compared.");
     }
@@ -81,9 +79,9 @@ fn main() -> ExitCode {
         return breaks(options.seed);
     }
     match (options.fault, options.model) {
-        (Some(fault), _) => compare(&Model::broken(fault), &format!("the model with {}", fault.name()), &options),
-        (None, true) => compare(&Model::default(), "the model", &options),
-        (None, false) => archive(&options),
+        (Some(fault), _) => compare(&Model::broken(fault), &format!("the model with {}", fault.name()), options),
+        (None, true) => compare(&Model::default(), "the model", options),
+        (None, false) => archive(options),
     }
 }
 
