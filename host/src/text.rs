@@ -108,7 +108,7 @@ impl<'a> Words<'a> {
         let mut list = vec![];
         for item in inside.split_whitespace() {
             let (number, times) = item.split_once('*').unwrap_or((item, "1"));
-            list.extend(std::iter::repeat(number.parse::<u16>().ok()?).take(times.parse().ok()?));
+            list.extend(std::iter::repeat_n(number.parse::<u16>().ok()?, times.parse().ok()?));
         }
         Some(list)
     }
