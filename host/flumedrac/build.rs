@@ -36,24 +36,27 @@ fn archive() -> Result<PathBuf, String> {
         true => Ok(archive),
         false => Err(format!(
             "Flumedrac's archive is not there: {}\n\
-             Make it: run 'rt staticlib flumedrac' in the project's folder, which writes target/staticlib.\n\
+             Make it by 'rt staticlib flumedrac' in {}, which writes target/staticlib/libflumedrac.a.\n\
              Or have FLUMEDRAC_LIB name the folder that libflumedrac.a lies in.",
-            archive.display()
+            archive.display(),
+            project().display()
         )),
     }
+}
+
+/// The project's folder: this package is its host/flumedrac.
+fn project() -> PathBuf {
+    let here = PathBuf::from(env::var_os("CARGO_MANIFEST_DIR").expect("cargo says where the package is"));
+    here.ancestors().nth(2).expect("the package lies two folders deep").to_path_buf()
 }
 
 /// The folder that the archive is looked for in. A build script is not told where cargo was started, so a relative name
 /// would be taken from this package's folder, which is hardly what was meant: it is refused.
 fn folder() -> Result<PathBuf, String> {
-    let Some(named) = env::var_os("FLUMEDRAC_LIB").map(PathBuf::from) else {
-        let here = PathBuf::from(env::var_os("CARGO_MANIFEST_DIR").expect("cargo says where the package is"));
-        let project = here.ancestors().nth(2).expect("the package is host/flumedrac of the project");
-        return Ok(project.join("target/staticlib"));
-    };
-    match named.is_absolute() {
-        true => Ok(named),
-        false => Err(format!(
+    match env::var_os("FLUMEDRAC_LIB").map(PathBuf::from) {
+        None => Ok(project().join("target/staticlib")),
+        Some(named) if named.is_absolute() => Ok(named),
+        Some(named) => Err(format!(
             "FLUMEDRAC_LIB is '{}'. It must be an absolute path, one that begins at the root: \
              FLUMEDRAC_LIB=\"$PWD/folder\", say.",
             named.display()
