@@ -313,10 +313,10 @@ FD_INLINE const char *fd_refusal_text(uint16_t no)
 }
 
 /*
- * EMPTY SLICES. The functions of the archive ask for pointers that are not null, also where the length is 0; an empty
- * vector of C++ has a null pointer all the same. So a call by name goes through a function below, which gives the
- * archive's an address of its own for every slice of length 0 and else changes nothing. A pointer to a function, a name
- * in parentheses as in (fd_closed)(..), and other languages reach the archive's function itself.
+ * EMPTY SLICES. The archive's functions ask for pointers that are not null, also where the length is 0; but an empty
+ * vector of C++ has a null pointer. So a call by name goes through a function below, which passes all on as it is, only
+ * for a slice of length 0 the address of a number that is never looked at. A pointer to a function, a name in
+ * parentheses as in (fd_closed)(..), and other languages reach the archive's function itself.
  */
 FD_INLINE const uint16_t *fd_lent_numbers(const uint16_t *numbers, size_t length)
 {
@@ -385,8 +385,7 @@ FD_INLINE fd_changed fd_change_guarded(FD_LISTING(), const uint16_t *flag, size_
 }
 
 FD_INLINE fd_searched fd_search_guarded(FD_LISTING(), const uint16_t *first, size_t first_len, uint16_t mask,
-                                            uint16_t *table, size_t table_len, uint8_t *orientations,
-                                            size_t orientations_len)
+                                        uint16_t *table, size_t table_len, uint8_t *orientations, size_t orientations_len)
 {
     return fd_search(FD_LENT_LISTING(), fd_lent_numbers(first, first_len), first_len, mask,
                      fd_lent_room(table, table_len), table_len, fd_lent_bytes(orientations, orientations_len),
