@@ -1,6 +1,6 @@
-//! Finds the oracle and says so to the code, as `cfg(oracle)`: it is what `oracle/build.sh` makes in `target/oracle`, or
-//! in `target/TARGET/oracle` where a target is named. Without it the programs say so, and compare by plain conditions
-//! alone.
+//! Finds the oracle and says so to the code, as `cfg(oracle)`. It is what `oracle/build.sh` made in `target/oracle`, or
+//! in `target/TARGET/oracle` where a target was named. Without it the programs say so, and compare by plain
+//! conditions alone.
 
 use std::env;
 use std::path::{Path, PathBuf};

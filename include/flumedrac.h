@@ -385,7 +385,8 @@ FD_INLINE fd_changed fd_change_guarded(FD_LISTING(), const uint16_t *flag, size_
 }
 
 FD_INLINE fd_searched fd_search_guarded(FD_LISTING(), const uint16_t *first, size_t first_len, uint16_t mask,
-                                        uint16_t *table, size_t table_len, uint8_t *orientations, size_t orientations_len)
+                                        uint16_t *table, size_t table_len, uint8_t *orientations,
+                                        size_t orientations_len)
 {
     return fd_search(FD_LENT_LISTING(), fd_lent_numbers(first, first_len), first_len, mask,
                      fd_lent_room(table, table_len), table_len, fd_lent_bytes(orientations, orientations_len),

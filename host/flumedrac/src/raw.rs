@@ -35,7 +35,7 @@ macro_rules! tests {
 /// The products.
 macro_rules! products {
     ($($name:ident $function:ident;)*) => {
-        $(#[doc = concat!("What `", stringify!($function), "` answers, with the product in `counts`, `ends` and `inc`.")]
+        $(#[doc = concat!("What `", stringify!($function), "` answers, with the product in the last three slices.")]
         pub fn $name(
             p: Slices<'_>, q: Slices<'_>, counts: &mut [u16], ends: &mut [u16], inc: &mut [u16],
         ) -> Built {
