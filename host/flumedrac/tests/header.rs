@@ -54,15 +54,24 @@ impl Language {
         command
     }
 
-    /// What a program prints that is made of one file and the archive.
-    fn prints(&self, file: &Path) -> String {
-        let name = format!("{}-{}", file.file_stem().expect("a name").to_string_lossy(), self.standard);
+    /// What a program prints that is made of one file and the archive, or what stands in for it.
+    fn prints(&self, file: &Path, library: &Path) -> String {
+        let stem = |path: &Path| path.file_stem().expect("a name").to_string_lossy().into_owned();
+        let name = format!("{}-{}{}", stem(file), stem(library), self.standard);
         let program = Path::new(env!("CARGO_TARGET_TMPDIR")).join(name);
-        run(self.compiler(file).arg(env!("FLUMEDRAC_ARCHIVE")).arg("-o").arg(&program));
+        let mut compiler = self.compiler(file);
+        if library.extension().is_some_and(|ending| ending == "c") {
+            compiler.args(["-x", self.kind]);
+        }
+        run(compiler.arg(library).arg("-o").arg(&program));
         let start = std::env::var("FLUMEDRAC_RUN").unwrap_or_default();
         let mut words = start.split_whitespace().map(Into::into).chain([program.into_os_string()]);
         run(Command::new(words.next().expect("the program at least")).args(words))
     }
+}
+
+fn archive() -> &'static Path {
+    Path::new(env!("FLUMEDRAC_ARCHIVE"))
 }
 
 /// The lines that a C program prints, made of statements.
@@ -71,7 +80,7 @@ fn printed(name: &str, statements: &str) -> Vec<String> {
         format!("#include <stdio.h>\n#include \"flumedrac.h\"\nint main(void)\n{{\n{statements}\n    return 0;\n}}\n");
     let file = Path::new(env!("CARGO_TARGET_TMPDIR")).join(format!("{name}.c"));
     fs::write(&file, source).expect("a file can be written");
-    C99.prints(&file).lines().map(str::to_owned).collect()
+    C99.prints(&file, archive()).lines().map(str::to_owned).collect()
 }
 
 /// Every refusal that Rust knows: its number and its name in capitals, with FD before it.
@@ -201,12 +210,16 @@ fn triangle_in_the_header() {
     assert_eq!(triangle.closed(), Ok(()));
 }
 
-/// The pointer of an empty slice may be null; the archive's own functions can be reached all the same.
+/// The pointer of an empty slice may be null; the archive's own functions can be reached all the same. The archive is
+/// never given a null pointer: what stands in for it would answer 99.
 #[test]
 fn empty_slices_from_c_and_cpp() {
     for language in [C99, C11, CPP11, CPP17] {
-        let lines = language.prints(&own("tests/empty.c"));
-        assert_eq!(lines, "1 1 1 1\n1 0 1 0 1 0 1 0 1 0\n1 20 1 22\n36 36 30 0 1 2 0\n0 0\n", "{}", language.standard);
+        let (calls, stubs) = (own("tests/empty.c"), own("tests/stubs.c"));
+        let said = language.prints(&calls, archive());
+        assert_eq!(said, "1 1 1 1\n1 0 1 0 1 0 1 0 1 0\n1 20 1 22\n36 36 30 0 1 2 0\n0 0\n", "{}", language.standard);
+        let given = language.prints(&calls, &stubs);
+        assert!(given.split_whitespace().all(|number| number == "0"), "{}: {given}", language.standard);
     }
 }
 
@@ -214,7 +227,7 @@ fn empty_slices_from_c_and_cpp() {
 #[test]
 fn example_in_c() {
     assert_eq!(
-        C99.prints(&own("examples/cell.c")),
+        C99.prints(&own("examples/cell.c"), archive()),
         "a cell with 3 faces\n\
          is_valid: nothing is refused\n\
          closed: only one element lies between two that are two ranks apart (18: 2, 3, 4, 0)\n\
