@@ -14,14 +14,13 @@ pub const MAX_INCIDENCES: usize = 32768;
 pub const MAX_FLAGS: usize = 16384;
 
 /// Three lent slices, whether or not they are a listing.
-///
-/// * `counts`: the number of elements of each rank, rank 0 first;
-/// * `ends`: for each element, by rank and then index, where its subs end in `inc` and where its sups end;
-/// * `inc`: the indices, an element's subs and then its sups.
 #[derive(Clone, Copy, Debug, PartialEq, Eq)]
 pub struct Slices<'a> {
+    /// The number of elements of each rank, rank 0 first.
     pub counts: &'a [u16],
+    /// For each element, by rank and then index, where its subs end in `inc` and where its sups end.
     pub ends: &'a [u16],
+    /// The indices: an element's subs, one rank lower, and then its sups, one rank higher.
     pub inc: &'a [u16],
 }
 
@@ -56,7 +55,6 @@ impl Listing {
     /// assert_eq!(Listing::new(vec![1, 1], vec![0, 1, 2], vec![0, 0]), Err(Refusal::WrongEnds));
     /// # Ok::<(), Refusal>(())
     /// ```
-    #[cfg(linked)]
     pub fn new(counts: Vec<u16>, ends: Vec<u16>, inc: Vec<u16>) -> Result<Self, Refusal> {
         let listing = Self { counts, ends, inc };
         match Refusal::check(crate::raw::bounded(listing.slices())) {

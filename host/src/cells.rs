@@ -1,8 +1,8 @@
 //! Cells to ask about.
 
-use super::library::{Kind, Library};
-use super::Model;
-use crate::{Listing, MAX_ELEMENTS, MAX_INCIDENCES, MAX_RANKS};
+use flumedrac::Listing;
+
+use crate::{build, Kind, Library, Model, Raw};
 
 /// The listing with these subs: for each rank, for each element.
 pub fn listing(subs: Vec<Vec<Vec<u16>>>) -> Listing {
@@ -105,14 +105,8 @@ pub fn product(kind: Kind, p: &Listing, q: &Listing) -> Listing {
 
 /// A product as the model builds it, if it does.
 pub fn try_product(kind: Kind, p: &Listing, q: &Listing) -> Option<Listing> {
-    let mut counts = vec![0; MAX_RANKS];
-    let mut ends = vec![0; 2 * MAX_ELEMENTS];
-    let mut inc = vec![0; MAX_INCIDENCES];
-    let built = Model::default().product(kind, p.slices(), q.slices(), &mut counts, &mut ends, &mut inc);
-    counts.truncate(built.counts as usize);
-    ends.truncate(built.ends as usize);
-    inc.truncate(built.inc as usize);
-    (built.answer.no == 0).then(|| Listing::with_shape(counts, ends, inc))
+    let (answer, Raw { counts, ends, inc }) = build(&Model::default(), kind, p, q);
+    (answer.no == 0).then(|| Listing::new(counts, ends, inc).expect("a product has the right shape"))
 }
 
 /// The flags of a closed listing that are reached from its first flag, as many as the limit allows.

@@ -6,9 +6,10 @@
 
 use std::ptr;
 
-use super::library::{Archive, Kind, Library, Test};
-use crate::ffi::{Answer, Built, Changed, Cursor, Event, Number, Searched};
-use crate::Slices;
+use flumedrac::ffi::{Answer, Built, Changed, Cursor, Event, Number, Searched};
+use flumedrac::Slices;
+
+use crate::library::{Archive, Kind, Library, Outputs, Test};
 
 extern "C" {
     fn mmap(at: *mut u8, length: usize, allowed: i32, how: i32, file: i32, offset: i64) -> *mut u8;
@@ -169,19 +170,12 @@ impl Library for Guarded {
         event
     }
 
-    fn product(
-        &self,
-        kind: Kind,
-        p: Slices<'_>,
-        q: Slices<'_>,
-        counts: &mut [u16],
-        ends: &mut [u16],
-        inc: &mut [u16],
-    ) -> Built {
+    fn product(&self, kind: Kind, p: Slices<'_>, q: Slices<'_>, outputs: Outputs<'_>) -> Built {
+        let [counts, ends, inc] = outputs;
         let (built, new) = both(|at| {
             let lent = (self.listing(0, at, p), self.listing(3, at, q));
             let [counts, ends, inc] = [self.lend(6, at, counts), self.lend(7, at, ends), self.lend(8, at, inc)];
-            let built = Archive.product(kind, lent.0, lent.1, counts, ends, inc);
+            let built = Archive.product(kind, lent.0, lent.1, [&mut *counts, &mut *ends, &mut *inc]);
             unchanged(lent, (p, q));
             (built, [counts.to_vec(), ends.to_vec(), inc.to_vec()])
         });

@@ -2,10 +2,11 @@
 
 use std::collections::HashMap;
 
+use flumedrac::ffi::{Answer, Built};
+use flumedrac::{Slices, MAX_ELEMENTS, MAX_INCIDENCES, MAX_RANKS};
+
 use super::{layers, Break, Element, Layers, Model};
-use crate::ffi::{Answer, Built};
-use crate::trial::library::{Kind, Test};
-use crate::{Slices, MAX_ELEMENTS, MAX_INCIDENCES, MAX_RANKS};
+use crate::library::{Kind, Outputs, Test};
 
 /// The elements of a product: pairs of ranks and indices, by rank. The added ends are no pairs.
 type Pair = (usize, usize, usize, usize);
@@ -165,7 +166,7 @@ impl Model {
         }
     }
 
-    pub(super) fn answer_product(&self, kind: Kind, p: Slices<'_>, q: Slices<'_>, mut lent: [&mut [u16]; 3]) -> Built {
+    pub(super) fn answer_product(&self, kind: Kind, p: Slices<'_>, q: Slices<'_>, mut lent: Outputs<'_>) -> Built {
         let slices = match self.product_slices(kind, p, q) {
             Ok(slices) => slices,
             Err(answer) => {

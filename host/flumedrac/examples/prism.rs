@@ -1,11 +1,10 @@
 //! Builds a prism as the duoprism of a dyad and a triangle, tests it, and walks its flags.
 //!
-//!   cargo run --example prism
+//!   cargo run --release --example prism
 
-#[cfg(linked)]
+use flumedrac::{duoprism, Listing, Orientation};
+
 fn main() -> Result<(), Box<dyn std::error::Error>> {
-    use flumedrac::{duoprism, Listing, Orientation};
-
     let prism = duoprism(&Listing::dyad(), &Listing::polygon(3)?)?;
     let counts = prism.slices().counts;
     println!("a prism: {} vertices, {} edges, {} faces", counts[1], counts[2], counts[3]);
@@ -34,9 +33,4 @@ fn main() -> Result<(), Box<dyn std::error::Error>> {
             Ok(())
         }
     }
-}
-
-#[cfg(not(linked))]
-fn main() {
-    println!("The archive libflumedrac.a was not found: make it by 'rt staticlib flumedrac'.");
 }

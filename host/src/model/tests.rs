@@ -1,8 +1,9 @@
 //! The tests: shape, bounds, incidences, the diamond, ascent, and the five that are made of them.
 
+use flumedrac::{Slices, MAX_ELEMENTS, MAX_INCIDENCES, MAX_RANKS};
+
 use super::{layers, refuse, Break, Layers, Model, Refused};
-use crate::trial::library::Test;
-use crate::{Slices, MAX_ELEMENTS, MAX_INCIDENCES, MAX_RANKS};
+use crate::library::Test;
 
 impl Model {
     pub(super) fn shape(&self, l: Slices<'_>) -> Refused {

@@ -35,7 +35,7 @@ macro_rules! tests {
 /// The products.
 macro_rules! products {
     ($($name:ident $function:ident;)*) => {
-        $(#[doc = concat!("What `", stringify!($function), "` answers.")]
+        $(#[doc = concat!("What `", stringify!($function), "` answers, with the product in the last three slices.")]
         pub fn $name(
             p: Slices<'_>, q: Slices<'_>, counts: &mut [u16], ends: &mut [u16], inc: &mut [u16],
         ) -> Built {
@@ -78,41 +78,26 @@ tests! {
 }
 
 /// What `fd_change` answers.
+#[rustfmt::skip]
 pub fn change(l: Slices<'_>, flag: &[u16], r: u16) -> Changed {
     // Safety: each slice is its pointer and its length.
     unsafe {
         ffi::fd_change(
-            l.counts.as_ptr(),
-            l.counts.len(),
-            l.ends.as_ptr(),
-            l.ends.len(),
-            l.inc.as_ptr(),
-            l.inc.len(),
-            flag.as_ptr(),
-            flag.len(),
-            r,
+            l.counts.as_ptr(), l.counts.len(), l.ends.as_ptr(), l.ends.len(), l.inc.as_ptr(), l.inc.len(),
+            flag.as_ptr(), flag.len(), r,
         )
     }
 }
 
-/// What `fd_search` answers.
+/// What `fd_search` answers, with the flags found in `table` and their orientations in `orientations`.
+#[rustfmt::skip]
 pub fn search(l: Slices<'_>, first: &[u16], mask: u16, table: &mut [u16], orientations: &mut [u8]) -> Searched {
     // Safety: each slice is its pointer and its length; those lent to be written overlap no other.
     unsafe {
         ffi::fd_search(
-            l.counts.as_ptr(),
-            l.counts.len(),
-            l.ends.as_ptr(),
-            l.ends.len(),
-            l.inc.as_ptr(),
-            l.inc.len(),
-            first.as_ptr(),
-            first.len(),
-            mask,
-            table.as_mut_ptr(),
-            table.len(),
-            orientations.as_mut_ptr(),
-            orientations.len(),
+            l.counts.as_ptr(), l.counts.len(), l.ends.as_ptr(), l.ends.len(), l.inc.as_ptr(), l.inc.len(),
+            first.as_ptr(), first.len(), mask,
+            table.as_mut_ptr(), table.len(), orientations.as_mut_ptr(), orientations.len(),
         )
     }
 }
@@ -123,7 +108,7 @@ pub fn sign(orientation: u8) -> f64 {
     unsafe { ffi::fd_sign(orientation) }
 }
 
-/// What `fd_next_event` answers.
+/// What `fd_next_event` answers; moves the cursor by one event.
 pub fn next_event(cursor: &mut Cursor, count: u16, place: u16) -> Event {
     // Safety: the cursor is lent for this call alone.
     unsafe { ffi::fd_next_event(cursor, count, place) }

@@ -8,22 +8,31 @@ use crate::ffi::Answer;
 /// Two elements two ranks apart.
 #[derive(Clone, Copy, Debug, PartialEq, Eq, Hash)]
 pub struct Section {
+    /// The rank of the lower element.
     pub low_rank: u16,
+    /// The index of the lower element.
     pub low_index: u16,
+    /// The rank of the higher element.
     pub high_rank: u16,
+    /// The index of the higher element.
     pub high_index: u16,
 }
 
 /// Which of an element's two lists is meant.
 #[derive(Clone, Copy, Debug, PartialEq, Eq, Hash)]
 pub enum Side {
+    /// The elements directly under it.
     Subs,
+    /// The elements directly over it.
     Sups,
 }
 
-/// The classes of refusals.
+/// The classes of refusals. Later releases may have more.
+#[non_exhaustive]
 #[derive(Clone, Copy, Debug, PartialEq, Eq, Hash)]
 pub enum Class {
+    /// None of the others: a number outside their bands.
+    Other,
     /// The three slices are no listing.
     Shape,
     /// The listing is one, but not of a cell.
@@ -34,7 +43,7 @@ pub enum Class {
     Products,
 }
 
-/// Why something was refused, with the place where it was seen first.
+/// Why something was refused, with the place where it was seen first. Later releases have more.
 ///
 /// ```
 /// use flumedrac::{Class, Refusal};
@@ -43,34 +52,122 @@ pub enum Class {
 /// assert_eq!(refusal.class(), Class::Structure);
 /// assert_eq!(refusal.to_string(), "element 5 of rank 2 has no subs");
 /// ```
+#[non_exhaustive]
 #[derive(Clone, Copy, Debug, PartialEq, Eq, Hash)]
 pub enum Refusal {
+    /// 1: there are no ranks.
     NoRanks,
+    /// 2: there are more ranks than [`MAX_RANKS`](crate::MAX_RANKS).
     OverRanks,
+    /// 3: there are more elements than [`MAX_ELEMENTS`](crate::MAX_ELEMENTS).
     OverElements,
+    /// 4: there are not two ends for each element.
     WrongEnds,
+    /// 5: there are more incidences than [`MAX_INCIDENCES`](crate::MAX_INCIDENCES).
     OverIncidences,
+    /// 6: the ends fall, or the last one is not the number of incidences.
     FallingEnds,
-    NotBounded { minimal: u16, maximal: u16 },
-    NoSubs { rank: u16, index: u16 },
-    NoSups { rank: u16, index: u16 },
-    SubNotBack { rank: u16, index: u16, entry: u16 },
-    SupNotBack { rank: u16, index: u16, entry: u16 },
-    SubMissing { rank: u16, index: u16, entry: u16 },
-    SupMissing { rank: u16, index: u16, entry: u16 },
-    ThirdBetween { section: Section },
-    LoneBetween { section: Section },
-    NotAscending { rank: u16, index: u16, side: Side },
+    /// 10: the lowest rank or the top rank does not have one element.
+    NotBounded {
+        /// How many elements rank 0 has.
+        minimal: u16,
+        /// How many elements the top rank has.
+        maximal: u16,
+    },
+    /// 11: an element above rank 0 lists nothing under it.
+    NoSubs {
+        /// The rank of the element.
+        rank: u16,
+        /// Its index.
+        index: u16,
+    },
+    /// 12: an element below the top rank lists nothing over it.
+    NoSups {
+        /// The rank of the element.
+        rank: u16,
+        /// Its index.
+        index: u16,
+    },
+    /// 13: an element lists a sub that does not list it back.
+    SubNotBack {
+        /// The rank of the element.
+        rank: u16,
+        /// Its index.
+        index: u16,
+        /// The sub that it lists.
+        entry: u16,
+    },
+    /// 14: an element lists a sup that does not list it back.
+    SupNotBack {
+        /// The rank of the element.
+        rank: u16,
+        /// Its index.
+        index: u16,
+        /// The sup that it lists.
+        entry: u16,
+    },
+    /// 15: an element lists a sub that is not there.
+    SubMissing {
+        /// The rank of the element.
+        rank: u16,
+        /// Its index.
+        index: u16,
+        /// The sub that it lists.
+        entry: u16,
+    },
+    /// 16: an element lists a sup that is not there.
+    SupMissing {
+        /// The rank of the element.
+        rank: u16,
+        /// Its index.
+        index: u16,
+        /// The sup that it lists.
+        entry: u16,
+    },
+    /// 17: more than two elements lie between two that are two ranks apart.
+    ThirdBetween {
+        /// The two.
+        section: Section,
+    },
+    /// 18: only one element lies between two that are two ranks apart.
+    LoneBetween {
+        /// The two.
+        section: Section,
+    },
+    /// 19: a list does not strictly ascend.
+    NotAscending {
+        /// The rank of the element whose list it is.
+        rank: u16,
+        /// Its index.
+        index: u16,
+        /// Which of its lists.
+        side: Side,
+    },
+    /// 20: the numbers given are no flag of the listing.
     NotAFlag,
+    /// 21: a change outside the ranks 1 to one less than the rank.
     OutsideRanks,
+    /// 22: more flags can be reached than there is room for.
     MoreFlags,
+    /// 30: the left factor of a product is not valid.
     LeftInvalid,
+    /// 31: the right factor of a product is not valid.
     RightInvalid,
+    /// 32: a duocomb with a point.
     CombOfPoint,
+    /// 33: the product has more ranks than [`MAX_RANKS`](crate::MAX_RANKS).
     ProductRanks,
+    /// 34: the product has more elements than [`MAX_ELEMENTS`](crate::MAX_ELEMENTS).
     ProductElements,
+    /// 35: the product has more incidences than [`MAX_INCIDENCES`](crate::MAX_INCIDENCES).
     ProductIncidences,
+    /// 36: a slice lent for the product is too short.
     OutputShort,
+    /// An answer that this package does not know: the archive is of another release.
+    Unknown {
+        /// The answer as it came.
+        answer: Answer,
+    },
 }
 
 use Refusal::*;
@@ -105,23 +202,23 @@ impl Refusal {
             ProductElements => 34,
             ProductIncidences => 35,
             OutputShort => 36,
+            Unknown { answer } => answer.no,
         }
     }
 
-    /// What kind of refusal it is.
+    /// What kind of refusal it is, by its number.
     pub fn class(&self) -> Class {
         match self.number() {
             1..=9 => Class::Shape,
             10..=19 => Class::Structure,
             20..=29 => Class::Flags,
-            _ => Class::Products,
+            30..=39 => Class::Products,
+            _ => Class::Other,
         }
     }
 
-    /// What an answer of the C boundary says: nothing, or a refusal.
-    ///
-    /// # Panics
-    /// Where the number is that of no refusal, or 19 speaks of no side; the library answers neither.
+    /// What an answer of the C boundary says: nothing, or a refusal; [`Refusal::Unknown`] for a number that is not
+    /// known here.
     ///
     /// ```
     /// use flumedrac::{ffi::Answer, Refusal};
@@ -150,11 +247,8 @@ impl Refusal {
             16 => SupMissing { rank, index, entry },
             17 => ThirdBetween { section },
             18 => LoneBetween { section },
-            19 => match c {
-                0 => NotAscending { rank, index, side: Side::Subs },
-                1 => NotAscending { rank, index, side: Side::Sups },
-                _ => panic!("the library named side {c}"),
-            },
+            19 if c == 0 => NotAscending { rank, index, side: Side::Subs },
+            19 if c == 1 => NotAscending { rank, index, side: Side::Sups },
             20 => NotAFlag,
             21 => OutsideRanks,
             22 => MoreFlags,
@@ -165,7 +259,7 @@ impl Refusal {
             34 => ProductElements,
             35 => ProductIncidences,
             36 => OutputShort,
-            _ => panic!("the library answered {no}, which is no refusal"),
+            _ => Unknown { answer },
         })
     }
 }
@@ -227,6 +321,9 @@ impl fmt::Display for Refusal {
             ProductElements => write!(f, "the product has more than 4,096 elements"),
             ProductIncidences => write!(f, "the product has more than 32,768 incidences"),
             OutputShort => write!(f, "a slice for the product is too short"),
+            Unknown { answer: Answer { no, a, b, c, d } } => {
+                write!(f, "refusal {no}, which this release does not know, with the fields {a}, {b}, {c} and {d}")
+            }
         }
     }
 }
@@ -236,19 +333,24 @@ impl Error for Refusal {}
 #[cfg(test)]
 mod tests {
     use super::*;
-    use crate::trial::{Library, Model};
+    use std::collections::HashSet;
 
-    /// Every number that stands for a refusal is read as the refusal of that number, and has its class.
+    /// Every number that stands for a refusal is read as the refusal of that number; every other is unknown. The
+    /// classes are the library's.
     #[test]
     fn numbers_and_refusals_match() {
-        let numbers = (1..=6).chain(10..=22).chain(30..=36);
-        let mut seen = std::collections::HashSet::new();
-        for no in numbers {
+        let mut seen = HashSet::new();
+        for no in 1..=u16::MAX {
             let refusal = Refusal::check(Answer { no, a: 7, b: 8, c: 1, d: 9 }).unwrap_err();
             assert_eq!(refusal.number(), no);
-            assert_eq!(refusal.class() as u16 + 1, Model::default().class(no));
-            assert!(seen.insert(refusal.to_string()), "{refusal} is said twice");
+            assert_eq!(refusal.class() as u16, crate::raw::class(no));
+            let known = !matches!(refusal, Unknown { .. });
+            assert_eq!(known, matches!(no, 1..=6 | 10..=22 | 30..=36));
+            if known {
+                assert!(seen.insert(refusal.to_string()), "{refusal} is said twice");
+            }
         }
-        assert_eq!(seen.len(), 26);
+        let no_side = Answer { no: 19, a: 1, b: 2, c: 3, d: 0 };
+        assert_eq!(Refusal::check(no_side), Err(Unknown { answer: no_side }));
     }
 }

@@ -8,9 +8,10 @@ mod flags;
 mod products;
 mod tests;
 
-use super::library::{Kind, Library, Test};
-use crate::ffi::{Answer, Built, Changed, Cursor, Event, Number, Searched};
-use crate::Slices;
+use flumedrac::ffi::{Answer, Built, Changed, Cursor, Event, Number, Searched};
+use flumedrac::Slices;
+
+use crate::library::{Kind, Library, Outputs, Test};
 
 macro_rules! breaks {
     ($($(#[$doc:meta])* $case:ident $name:literal,)*) => {
@@ -266,15 +267,7 @@ impl Library for Model {
         self.answer_event(cursor, count, place)
     }
 
-    fn product(
-        &self,
-        kind: Kind,
-        p: Slices<'_>,
-        q: Slices<'_>,
-        counts: &mut [u16],
-        ends: &mut [u16],
-        inc: &mut [u16],
-    ) -> Built {
-        self.answer_product(kind, p, q, [counts, ends, inc])
+    fn product(&self, kind: Kind, p: Slices<'_>, q: Slices<'_>, outputs: Outputs<'_>) -> Built {
+        self.answer_product(kind, p, q, outputs)
     }
 }

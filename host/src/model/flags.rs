@@ -2,10 +2,11 @@
 
 use std::collections::HashMap;
 
+use flumedrac::ffi::{Answer, Changed, Cursor, Event, Searched};
+use flumedrac::{Slices, MAX_FLAGS};
+
 use super::{layers, refuse, Break, Layers, Model, Refused};
-use crate::ffi::{Answer, Changed, Cursor, Event, Searched};
-use crate::trial::library::Test;
-use crate::{Slices, MAX_FLAGS};
+use crate::library::Test;
 
 impl Model {
     fn is_flag(&self, cell: &Layers<'_>, flag: &[u16]) -> bool {

@@ -1,9 +1,10 @@
 //! One question to a library, and its reply.
 
-use super::library::{Kind, Library, Test};
-use super::Raw;
-use crate::ffi::{Answer, Cursor, Number};
-use crate::{MAX_FLAGS, MAX_RANKS};
+use flumedrac::ffi::{Answer, Cursor, Number};
+use flumedrac::{MAX_FLAGS, MAX_RANKS};
+
+use crate::library::{Kind, Library, Test};
+use crate::Raw;
 
 /// What is asked. `L` is a listing, or what holds one.
 #[derive(Clone, Debug)]
@@ -161,7 +162,7 @@ impl<L: AsRef<Raw>> Question<L> {
             Question::Product { kind, p, q, room } => {
                 let [mut counts, mut ends, mut inc] = room.map(words);
                 let (p, q) = (p.as_ref().slices(), q.as_ref().slices());
-                let built = library.product(*kind, p, q, counts.slice(), ends.slice(), inc.slice());
+                let built = library.product(*kind, p, q, [counts.slice(), ends.slice(), inc.slice()]);
                 let mut numbers = answer_numbers(built.answer);
                 numbers.extend([built.counts, built.ends, built.inc].map(i64::from));
                 let spilled = counts.spilled() || ends.spilled() || inc.spilled();

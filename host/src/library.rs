@@ -1,7 +1,9 @@
 //! What a library answers, on lent slices.
 
-use crate::ffi::{Answer, Built, Changed, Cursor, Event, Number, Searched};
-use crate::Slices;
+use flumedrac::ffi::{Answer, Built, Changed, Cursor, Event, Number, Searched};
+use flumedrac::{raw, Listing, Slices, MAX_ELEMENTS, MAX_INCIDENCES, MAX_RANKS};
+
+use crate::Raw;
 
 /// The tests.
 #[derive(Clone, Copy, Debug, PartialEq, Eq, Hash)]
@@ -59,6 +61,9 @@ impl Kind {
     }
 }
 
+/// The three slices that a product is written to: counts, ends and inc.
+pub type Outputs<'a> = [&'a mut [u16]; 3];
+
 /// All that can be asked.
 pub trait Library {
     fn rank(&self, counts: &[u16]) -> Number;
@@ -71,83 +76,77 @@ pub trait Library {
     fn search(&self, l: Slices<'_>, first: &[u16], mask: u16, table: &mut [u16], orientations: &mut [u8]) -> Searched;
     fn sign(&self, orientation: u8) -> f64;
     fn next_event(&self, cursor: &mut Cursor, count: u16, place: u16) -> Event;
-    fn product(
-        &self,
-        kind: Kind,
-        p: Slices<'_>,
-        q: Slices<'_>,
-        counts: &mut [u16],
-        ends: &mut [u16],
-        inc: &mut [u16],
-    ) -> Built;
+    fn product(&self, kind: Kind, p: Slices<'_>, q: Slices<'_>, outputs: Outputs<'_>) -> Built;
 }
 
-/// The archive that is linked.
-#[cfg(linked)]
+/// What a library builds with all the room that a product can need: its answer, and what was written.
+pub fn build(library: &dyn Library, kind: Kind, p: &Listing, q: &Listing) -> (Answer, Raw) {
+    let mut slices = [vec![0; MAX_RANKS], vec![0; 2 * MAX_ELEMENTS], vec![0; MAX_INCIDENCES]];
+    let built = library.product(kind, p.slices(), q.slices(), slices.each_mut().map(Vec::as_mut_slice));
+    for (slice, length) in slices.iter_mut().zip([built.counts, built.ends, built.inc]) {
+        slice.truncate(length.into());
+    }
+    let [counts, ends, inc] = slices;
+    (built.answer, Raw { counts, ends, inc })
+}
+
+/// The archive: the proved functions.
 pub struct Archive;
 
-#[cfg(linked)]
 impl Library for Archive {
     fn rank(&self, counts: &[u16]) -> Number {
-        crate::raw::rank(counts)
+        raw::rank(counts)
     }
 
     fn el_count(&self, counts: &[u16], rank: usize) -> Number {
-        crate::raw::el_count(counts, rank)
+        raw::el_count(counts, rank)
     }
 
     fn vertex_count(&self, counts: &[u16]) -> Number {
-        crate::raw::vertex_count(counts)
+        raw::vertex_count(counts)
     }
 
     fn facet_count(&self, counts: &[u16]) -> Number {
-        crate::raw::facet_count(counts)
+        raw::facet_count(counts)
     }
 
     fn class(&self, no: u16) -> u16 {
-        crate::raw::class(no)
+        raw::class(no)
     }
 
     fn test(&self, test: Test, l: Slices<'_>) -> Answer {
         match test {
-            Test::Bounded => crate::raw::bounded(l),
-            Test::CheckIncidences => crate::raw::check_incidences(l),
-            Test::IsDyadic => crate::raw::is_dyadic(l),
-            Test::IsValid => crate::raw::is_valid(l),
-            Test::Closed => crate::raw::closed(l),
+            Test::Bounded => raw::bounded(l),
+            Test::CheckIncidences => raw::check_incidences(l),
+            Test::IsDyadic => raw::is_dyadic(l),
+            Test::IsValid => raw::is_valid(l),
+            Test::Closed => raw::closed(l),
         }
     }
 
     fn change(&self, l: Slices<'_>, flag: &[u16], r: u16) -> Changed {
-        crate::raw::change(l, flag, r)
+        raw::change(l, flag, r)
     }
 
     fn search(&self, l: Slices<'_>, first: &[u16], mask: u16, table: &mut [u16], orientations: &mut [u8]) -> Searched {
-        crate::raw::search(l, first, mask, table, orientations)
+        raw::search(l, first, mask, table, orientations)
     }
 
     fn sign(&self, orientation: u8) -> f64 {
-        crate::raw::sign(orientation)
+        raw::sign(orientation)
     }
 
     fn next_event(&self, cursor: &mut Cursor, count: u16, place: u16) -> Event {
-        crate::raw::next_event(cursor, count, place)
+        raw::next_event(cursor, count, place)
     }
 
-    fn product(
-        &self,
-        kind: Kind,
-        p: Slices<'_>,
-        q: Slices<'_>,
-        counts: &mut [u16],
-        ends: &mut [u16],
-        inc: &mut [u16],
-    ) -> Built {
+    fn product(&self, kind: Kind, p: Slices<'_>, q: Slices<'_>, outputs: Outputs<'_>) -> Built {
+        let [counts, ends, inc] = outputs;
         match kind {
-            Kind::Duopyramid => crate::raw::duopyramid(p, q, counts, ends, inc),
-            Kind::Duoprism => crate::raw::duoprism(p, q, counts, ends, inc),
-            Kind::Duotegum => crate::raw::duotegum(p, q, counts, ends, inc),
-            Kind::Duocomb => crate::raw::duocomb(p, q, counts, ends, inc),
+            Kind::Duopyramid => raw::duopyramid(p, q, counts, ends, inc),
+            Kind::Duoprism => raw::duoprism(p, q, counts, ends, inc),
+            Kind::Duotegum => raw::duotegum(p, q, counts, ends, inc),
+            Kind::Duocomb => raw::duocomb(p, q, counts, ends, inc),
         }
     }
 }

@@ -2,9 +2,9 @@
 
 use std::fmt::{self, Display, Write};
 
-use super::library::{Kind, Test};
-use super::question::{Question, Reply};
-use super::Raw;
+use crate::library::{Kind, Test};
+use crate::question::{Question, Reply};
+use crate::Raw;
 
 /// Numbers in brackets.
 struct List<'a>(&'a [u16]);
@@ -108,7 +108,7 @@ impl<'a> Words<'a> {
         let mut list = vec![];
         for item in inside.split_whitespace() {
             let (number, times) = item.split_once('*').unwrap_or((item, "1"));
-            list.extend(std::iter::repeat(number.parse::<u16>().ok()?).take(times.parse().ok()?));
+            list.extend(std::iter::repeat_n(number.parse::<u16>().ok()?, times.parse().ok()?));
         }
         Some(list)
     }
@@ -179,8 +179,8 @@ impl Reply {
 #[cfg(test)]
 mod tests {
     use super::*;
-    use crate::trial::Model;
-    use crate::Listing;
+    use crate::Model;
+    use flumedrac::Listing;
 
     /// Questions and replies are read as they were written.
     #[test]

@@ -1,10 +1,9 @@
 //! Flags: one element of each rank, each under the next.
 
+use std::iter::FusedIterator;
 use std::ops::Deref;
 
-use crate::Listing;
-#[cfg(linked)]
-use crate::{ffi, raw, Refusal, MAX_FLAGS};
+use crate::{ffi, raw, Listing, Refusal, MAX_FLAGS};
 
 /// One index for each rank, rank 0 first. Whether it is a flag of a listing is seen where it is used.
 #[derive(Clone, Debug, PartialEq, Eq, Hash, PartialOrd, Ord)]
@@ -39,8 +38,10 @@ impl Deref for Flag {
 /// The parity of a flag, which every change flips.
 #[derive(Clone, Copy, Debug, Default, PartialEq, Eq, Hash)]
 pub enum Orientation {
+    /// That of the first flag, and of every flag an even number of changes away.
     #[default]
     Even,
+    /// That of every flag an odd number of changes away from the first.
     Odd,
 }
 
@@ -59,12 +60,10 @@ impl Orientation {
     /// use flumedrac::Orientation;
     /// assert_eq!(Orientation::Even.flip().sign(), -1.0);
     /// ```
-    #[cfg(linked)]
     pub fn sign(self) -> f64 {
         raw::sign(self as u8)
     }
 
-    #[cfg(linked)]
     fn from_byte(byte: u8) -> Self {
         match byte {
             0 => Self::Even,
@@ -77,13 +76,17 @@ impl Orientation {
 #[derive(Clone, Copy, Debug, PartialEq, Eq)]
 pub enum Event<'a> {
     /// A new flag.
-    Flag { flag: &'a [u16], orientation: Orientation },
+    Flag {
+        /// One index for each rank, rank 0 first.
+        flag: &'a [u16],
+        /// The opposite of that of the flag it was found from; even for the first.
+        orientation: Orientation,
+    },
     /// The cell is not orientable. This comes at most once.
     NonOrientable,
 }
 
 /// What a search found: all flags that can be reached, in the order found.
-#[cfg(linked)]
 #[derive(Clone, Debug, PartialEq, Eq)]
 pub struct Search {
     width: usize,
@@ -105,25 +108,32 @@ impl Listing {
         (1..self.rank()).map(|r| 1 << r).sum()
     }
 
-    /// The flag of first subs, from the top down, if every element on the way has a sub.
+    /// The flag of first subs: element 0 of the top rank, its first sub, the first sub of that one, and so on down.
+    /// `None` where that is no flag of the listing: there is no such element, or one on the way lists no sub, or as its
+    /// first sub one that is not there.
     ///
     /// ```
     /// use flumedrac::{Flag, Listing};
     /// assert_eq!(Listing::dyad().first_flag(), Some(Flag::from([0, 0, 0])));
+    /// // A rank without elements, and a sub that is not there.
+    /// assert_eq!(Listing::new(vec![0], vec![], vec![])?.first_flag(), None);
+    /// assert_eq!(Listing::new(vec![1, 1], vec![0, 1, 2, 2], vec![0, 7])?.first_flag(), None);
+    /// # Ok::<(), flumedrac::Refusal>(())
     /// ```
     pub fn first_flag(&self) -> Option<Flag> {
-        let mut indices = vec![0];
-        for rank in (1..=self.rank()).rev() {
-            let above = indices[indices.len() - 1];
-            indices.push(self.subs(rank, above as usize).next()?);
+        let top = self.rank();
+        let mut flag = vec![0; top + 1];
+        for rank in (0..=top).rev() {
+            if rank < top {
+                flag[rank] = self.subs(rank + 1, flag[rank + 1].into()).next()?;
+            }
+            if usize::from(flag[rank]) >= self.el_count(rank) {
+                return None;
+            }
         }
-        indices.reverse();
-        Some(Flag(indices))
+        Some(Flag(flag))
     }
-}
 
-#[cfg(linked)]
-impl Listing {
     /// The flag with the other element at rank `r`.
     ///
     /// ```
@@ -168,7 +178,6 @@ impl Listing {
     }
 }
 
-#[cfg(linked)]
 impl Search {
     /// How many flags were found; at least one.
     #[allow(clippy::len_without_is_empty)]
@@ -203,6 +212,7 @@ impl Search {
     ///     Event::Flag { flag: &[0, 0, 0], orientation: Orientation::Even },
     ///     Event::Flag { flag: &[0, 1, 0], orientation: Orientation::Odd },
     /// ]);
+    /// assert_eq!(search.events().len(), 2);
     /// # Ok::<(), flumedrac::Refusal>(())
     /// ```
     pub fn events(&self) -> Events<'_> {
@@ -210,15 +220,13 @@ impl Search {
     }
 }
 
-/// An iterator over the events of a search.
-#[cfg(linked)]
+/// An iterator over the events of a search, which knows how many are left.
 #[derive(Clone, Debug)]
 pub struct Events<'a> {
     search: &'a Search,
     cursor: ffi::Cursor,
 }
 
-#[cfg(linked)]
 impl<'a> Iterator for Events<'a> {
     type Item = Event<'a>;
 
@@ -235,17 +243,84 @@ impl<'a> Iterator for Events<'a> {
             _ => Some(Event::NonOrientable),
         }
     }
+
+    /// The flags, and one more event where the cell is not orientable, less those that were given: the cursor counts
+    /// them.
+    fn size_hint(&self) -> (usize, Option<usize>) {
+        let all = self.search.len() + usize::from(!self.search.is_orientable());
+        let left = all - self.cursor.at as usize;
+        (left, Some(left))
+    }
 }
 
-#[cfg(linked)]
-impl std::iter::FusedIterator for Events<'_> {}
+impl ExactSizeIterator for Events<'_> {}
 
-#[cfg(linked)]
+impl FusedIterator for Events<'_> {}
+
 impl<'a> IntoIterator for &'a Search {
     type Item = Event<'a>;
     type IntoIter = Events<'a>;
 
     fn into_iter(self) -> Events<'a> {
         self.events()
+    }
+}
+
+#[cfg(test)]
+mod tests {
+    use super::*;
+
+    /// Half a cube, which is not orientable: 4 vertices, 6 edges, 3 faces.
+    fn hemicube() -> Listing {
+        Listing::from_subs(&[
+            vec![vec![]],
+            vec![vec![0]; 4],
+            vec![vec![0, 1], vec![0, 2], vec![0, 3], vec![1, 2], vec![1, 3], vec![2, 3]],
+            vec![vec![1, 2, 3, 4], vec![0, 2, 3, 5], vec![0, 1, 4, 5]],
+            vec![vec![0, 1, 2]],
+        ])
+        .unwrap()
+    }
+
+    /// After each event the iterator says how many are left, and after the last none.
+    #[test]
+    fn events_know_their_number() {
+        for (cell, count) in [(Listing::nullitope(), 1), (Listing::polygon(5).unwrap(), 10), (hemicube(), 24 + 1)] {
+            let first = cell.first_flag().unwrap();
+            let search = cell.search(&first, cell.all_changes(), 100).unwrap();
+            let mut events = search.events();
+            for left in (0..count).rev() {
+                assert_eq!(events.size_hint(), (left + 1, Some(left + 1)));
+                assert!(events.next().is_some());
+            }
+            for _ in 0..3 {
+                assert_eq!((events.next(), events.len()), (None, 0));
+            }
+        }
+    }
+
+    /// The first flag of a closed cell is one: the library takes it.
+    #[test]
+    fn first_flags_of_cells() {
+        for cell in [Listing::nullitope(), Listing::point(), Listing::dyad(), hemicube()] {
+            let first = cell.first_flag().unwrap();
+            assert_eq!(cell.search(&first, 0, 1).unwrap().len(), 1);
+        }
+    }
+
+    /// Nothing but a flag is answered for a first flag, whatever is wrong on the way.
+    #[test]
+    fn first_flags_of_others() {
+        let none = |ranks: &[Vec<Vec<u16>>]| assert_eq!(Listing::from_subs(ranks).unwrap().first_flag(), None);
+        none(&[vec![]]);
+        none(&[vec![], vec![]]);
+        none(&[vec![vec![]], vec![]]);
+        none(&[vec![], vec![vec![0]]]);
+        none(&[vec![vec![]], vec![vec![]]]);
+        none(&[vec![vec![]], vec![vec![7]]]);
+        none(&[vec![vec![]], vec![vec![0]], vec![vec![1, 0]]]);
+        none(&[vec![vec![]; 2], vec![vec![2, 0]], vec![vec![0]]]);
+        let below_rank_0 = Listing::from_subs(&[vec![vec![3]]]).unwrap();
+        assert_eq!(below_rank_0.first_flag(), Some(Flag::from([0])));
     }
 }
