@@ -1,4 +1,2 @@
 pub mod ChangeAnswers
-pub mod EventRow
-pub mod EventsTaken
 pub mod ChangeTwice
