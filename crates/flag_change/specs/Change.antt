@@ -5,8 +5,9 @@
 -- between     the elements between those of a flag at the ranks r - 1 and r + 1
 -- changeAt    the flag with the other of those at rank r
 -- Neighbours  the numbers at the ranks r - 1 and r + 1 are elements that exist
--- Changes     of exactly two elements between, one stands in the flag; the change is a flag again, differs from it at
---             rank r exactly, leads back when it is made again, and is the only flag that differs so
+-- Changes     the flag's element at rank r is one of those between, and there is exactly one other; the change is a
+--             flag again, differs from it at rank r exactly, leads back when it is made again, and is the only flag
+--             that differs so
 -- padded      a flag as a record of 16 numbers, 0 above the top
 use mathlib.Core.Path.{_≡_}
 use mathlib.Core.Bool.{cond}
@@ -16,8 +17,8 @@ use lib.Dec.{eqb}
 use lib.ListN.{length, getD, set, replicate}
 use Rattle.order.specs.Lists.{In, has}
 use Rattle.order.specs.Steps.{ChangedAt}
+use Rattle.order.specs.Diamond.{OneOther}
 use Rattle.listing.specs.Listing.{Listing, count, subs, sups}
-use Rattle.valid_diamond.specs.Dyadic.{Two}
 use Rattle.flag_change.specs.Flags.{IsFlag}
 
 unfoldable pub common : List ℕ → List ℕ → List ℕ
@@ -41,8 +42,8 @@ pub record Neighbours (L : Listing) (f : List ℕ) (r : ℕ) : Type 0 where
   pub upper : getD f (r + 1) 0 < count L (r + 1)
 
 pub record Changes (L : Listing) (f : List ℕ) (r : ℕ) : Type 0 where
-  pub two-between : Two (λ x. In x (between L r f))
-  pub one-stands : In (getD f r 0) (between L r f)
+  pub stands : In (getD f r 0) (between L r f)
+  pub one-other : OneOther (λ x. In x (between L r f)) (getD f r 0)
   pub is-flag : IsFlag L (changeAt L r f)
   pub changed : ChangedAt r f (changeAt L r f)
   pub back : changeAt L r (changeAt L r f) ≡ f
