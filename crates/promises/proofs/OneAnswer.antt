@@ -32,7 +32,7 @@ use Rattle.flag.proofs.Orientation.flip.Reads as flip
 use Rattle.flag.proofs.Orientation.sign.Reads as sign
 use Rattle.flag.proofs.Orientation.byte.Reads as byte
 use Rattle.flag.proofs.Orientation.of_byte.Reads as of-byte
-use Rattle.search_events.proofs.is_within.Reads as is-within
+use Rattle.search_events.proofs.is_marked.Reads as is-marked
 use Rattle.search_events.proofs.event_at.Reads as event-at
 use Rattle.search_events.proofs.events_in.Reads as events-in
 use Rattle.search_events.proofs.next_at.Reads as next-at
@@ -140,8 +140,8 @@ one-byte k a b c x y = alike
 pub one-of-byte : OneAnswer of-byte.Post
 one-of-byte k a b c x y = alike
 
-pub one-is-within : OneAnswer is-within.Post
-one-is-within k a b c x y = alike
+pub one-is-marked : OneAnswer is-marked.Post
+one-is-marked k a b c x y = alike
 
 pub one-event-at : OneAnswer event-at.Post
 one-event-at k a b c x y = alike

@@ -20,7 +20,7 @@ use Rattle.flag.proofs.Orientation.flip.Reads as flip
 use Rattle.flag.proofs.Orientation.sign.Reads as sign
 use Rattle.flag.proofs.Orientation.byte.Reads as byte
 use Rattle.flag.proofs.Orientation.of_byte.Reads as of-byte
-use Rattle.search_events.proofs.is_within.Reads as is-within
+use Rattle.search_events.proofs.is_marked.Reads as is-marked
 use Rattle.search_events.proofs.event_at.Reads as event-at
 use Rattle.search_events.proofs.events_in.Reads as events-in
 use Rattle.search_events.proofs.next_at.Reads as next-at
@@ -59,7 +59,7 @@ pub record TakesAny : Type 0 where
       × Takes closed.Asked
   -- changes, orientations and events
   pub flag : Takes change.Asked × Takes flip.Asked × Takes sign.Asked × Takes byte.Asked × Takes of-byte.Asked
-      × Takes is-within.Asked × Takes event-at.Asked × Takes events-in.Asked × Takes next-at.Asked
+      × Takes is-marked.Asked × Takes event-at.Asked × Takes events-in.Asked × Takes next-at.Asked
       × Takes numbers.Asked
   -- the search
   pub search : Takes search.Asked

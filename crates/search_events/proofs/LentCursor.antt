@@ -86,6 +86,20 @@ pub record Call : Type 0 where
   pub small-n : n < 2 ^ 16
   pub small-p : p < 2 ^ 16
 
+abbrev called : Lft → Share → RefT Cursor → (n p : ℕ) → n < 2 ^ 16 → p < 2 ^ 16 → Call
+called κ q x n p gn gp = record {
+  κ = κ;
+  q = q;
+  b = x .ptr .0;
+  o = x .ptr .1;
+  γ = x .name;
+  h = x .now;
+  n = n;
+  p = p;
+  small-n = gn;
+  small-p = gp;
+}
+
 module _ (c : Call) where
   -- what is passed, as values, as the machine has it, and all in one list
   abbrev pub args : RefT Cursor × (ℕ × (ℕ × Unit {0}))
@@ -186,7 +200,7 @@ module _ {M : Type 1} (𝓤 : URA M) (H : Heap 𝓤) (A : Atoms 𝓤) (W : Given
     Runs l B = runs C Λ (env τ₀ τ₄ τ₅ 𝓤 H c l) B (atRet (env τ₀ τ₄ τ₅ 𝓤 H c l) (Post c 𝓤 H A R Q))
 
     -- the walk begins: the locals are made, and the parameters stored
-    pub enters : (B : Body)
+    enters : (B : Body)
         → ((l : Frame) → Sq W (fresh τ₀ τ₄ τ₅ 𝓤 H c l (token c 𝓤 ∷ lent c 𝓤 ∷ [])) (Runs l B))
         → ent 𝓤 (onEntry 𝓤 H A (signature R) (c .κ, tt) (c .q, tt) (args c) (vals c))
         (WpFn 𝓤 H C Λ (function τ₀ τ₄ τ₅ B) (flat c) (Post c 𝓤 H A R Q))
@@ -207,30 +221,23 @@ module _ {M : Type 1} (𝓤 : URA M) (H : Heap 𝓤) (A : Atoms 𝓤) (W : Given
         move ! (9 ∷ 10 ∷ []) $ free1 ! $ move ! (7 ∷ 8 ∷ []) $ free1 ! $ move ! (5 ∷ 6 ∷ []) $ free1 ! $
         move ! (3 ∷ 4 ∷ []) $ free1 ! $ free0 ! $ by ! (exits w r u s)
 
--- A walk of each call proves the contract.
+-- A walk of the code for each call, from the locals made to the return, proves the contract.
 pub meets : {M : Type 1} (𝓤 : URA M) (H : Heap 𝓤) (A : Atoms 𝓤) (W : Given 𝓤 H A) (R : RattleType) (Q : Saying R)
-    (f : Fn) (𝓣 : Tables 𝓤 H)
-    → ((c : Call) → ent 𝓤 (onEntry 𝓤 H A (signature R) (c .κ, tt) (c .q, tt) (args c) (vals c))
-    (WpFn 𝓤 H (𝓣 .C) (𝓣 .Λ) f (flat c) (Post c 𝓤 H A R Q)))
-    → Meets 𝓤 H A (signature R) (WpFn 𝓤 H (𝓣 .C) (𝓣 .Λ) f) (closing 𝓤 H A (ended R) (clauses 𝓤 R Q))
-meets 𝓤 H A W R Q f 𝓣 walk =
-    walk-meets 𝓤 H A (ended R) (stayed R) W goes (clauses 𝓤 R Q) (WpFn 𝓤 H (𝓣 .C) (𝓣 .Λ) f)
-    (WpFn-mono 𝓤 H (W .laws) 𝓣 f)
-    (walked 𝓤 H A (ended R) (stayed R) (clauses 𝓤 R Q) (WpFn 𝓤 H (𝓣 .C) (𝓣 .Λ) f)
+    (τ₀ τ₄ τ₅ : Ty) (𝓣 : Tables 𝓤 H) (B : Body)
+    → ((c : Call) (l : Frame) → Sq W (fresh τ₀ τ₄ τ₅ 𝓤 H c l (token c 𝓤 ∷ lent c 𝓤 ∷ []))
+    (Runs 𝓤 H A W R Q c τ₀ τ₄ τ₅ (𝓣 .C) (𝓣 .Λ) l B))
+    → Meets 𝓤 H A (signature R) (WpFn 𝓤 H (𝓣 .C) (𝓣 .Λ) (function τ₀ τ₄ τ₅ B))
+    (closing 𝓤 H A (ended R) (clauses 𝓤 R Q))
+meets 𝓤 H A W R Q τ₀ τ₄ τ₅ 𝓣 B walk =
+    let f = function τ₀ τ₄ τ₅ B in
+    let runs-of = WpFn 𝓤 H (𝓣 .C) (𝓣 .Λ) f in
+    walk-meets 𝓤 H A (ended R) (stayed R) W goes (clauses 𝓤 R Q) runs-of (WpFn-mono 𝓤 H (W .laws) 𝓣 f)
+    (walked 𝓤 H A (ended R) (stayed R) (clauses 𝓤 R Q) runs-of
     (λ κs. (ptr-vals, (uint-vals w16, (uint-vals w16, tt))))
     (λ κs. (mut-tells (named 0) (κs .0) T.the-row, (uint-tells w16, (uint-tells w16, tt))))
-    (λ κs qs bounds a _ are. via 𝓤 _ (fst∗ 𝓤 _ (emp 𝓤)) (walk (record {
-      κ = κs .0;
-      q = qs .0;
-      b = a .0 .ptr .0;
-      o = a .0 .ptr .1;
-      γ = a .0 .name;
-      h = a .0 .now;
-      n = a .1 .0;
-      p = a .1 .1 .0;
-      small-n = are .1 .0 .1;
-      small-p = are .1 .1 .0 .1;
-    }))))
+    (λ κs qs bounds a _ are.
+    let c = called (κs .0) (qs .0) (a .0) (a .1 .0) (a .1 .1 .0) (are .1 .0 .1) (are .1 .1 .0 .1) in
+    via 𝓤 _ (fst∗ 𝓤 _ (emp 𝓤)) (enters 𝓤 H A W R Q c τ₀ τ₄ τ₅ (𝓣 .C) (𝓣 .Λ) B (walk c))))
   where
     goes : AllGo 𝓤 H A W 1 (signature R .params) (ended R .kept) (stayed R)
     goes = (

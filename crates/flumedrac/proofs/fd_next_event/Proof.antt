@@ -30,7 +30,7 @@ use Rattle.search_events.specs.Events.{saidOf, Stepped, SaidStep}
 use Rattle.search_events.specs.declared.Cursor.{Cursor}
 use Rattle.search_events.specs.declared.Event.{Event}
 use Rattle.search_events.specs.declared.Said.{Said}
-use Rattle.search_events.proofs.LentCursor.{Call, Frame, Met, to, token, lent, last, locals, fresh, Runs, enters}
+use Rattle.search_events.proofs.LentCursor.{Call, Frame, Met, to, token, lent, last, locals, fresh, Runs}
 use Rattle.search_events.proofs.LentCursor.{leaves, meets, answered, returned}
 use Rattle.search_events.proofs.Cursor as T
 use Rattle.search_events.proofs.Event as S
@@ -122,10 +122,9 @@ fd-next-event-spec 𝓤 H 𝓜 𝓖 𝓡 =
     let W = givenOf 𝓤 H 𝓜 𝓖 in
     entered 𝓤 H (Met 𝓤 R.the-row SaidStep H (𝓖 .A)) (tables 𝓤 H 𝓜 𝓡 code.env .C) (tables 𝓤 H 𝓜 𝓡 code.env .Λ)
     #flumedrac·fd-next-event code.function (code.unfolded 𝓤 H 𝓜 𝓡)
-    (meets 𝓤 H (𝓖 .A) W R.the-row SaidStep code.function 𝓣 (λ c.
-    enters 𝓤 H (𝓖 .A) W R.the-row SaidStep c R′.mir S′.mir again (𝓣 .C) (𝓣 .Λ) rest.t-1
+    (meets 𝓤 H (𝓖 .A) W R.the-row SaidStep R′.mir S′.mir again 𝓣 rest.t-1
     (begins 𝓤 H (𝓖 .A) W (𝓜 .mem) (𝓡 .run) (𝓣 .C) (𝓣 .Λ) (fmOf 𝓤 H (W .laws) 𝓣)
     (cited 𝓤 H (Next 𝓤 H (𝓖 .A) (𝓜 .mem) (𝓡 .run)) 𝓜 𝓡 code.env #search-events·next-event next-def.routine
     code.calls-search-events·next-event (next-thm.met 𝓤 H 𝓜 𝓖 𝓡))
     (cited 𝓤 H (Nums 𝓤 H (𝓖 .A) (𝓜 .mem) (𝓡 .run)) 𝓜 𝓡 code.env #search-events·numbers nums-def.routine
-    code.calls-search-events·numbers (nums-thm.met 𝓤 H 𝓜 𝓖 𝓡)) c)))
+    code.calls-search-events·numbers (nums-thm.met 𝓤 H 𝓜 𝓖 𝓡))))

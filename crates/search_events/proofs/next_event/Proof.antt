@@ -39,7 +39,7 @@ use denote.Triple.Table.{entered, cited}
 use Rattle.search_events.specs.Events.{eventAt, nextAt, Stepped}
 use Rattle.search_events.specs.declared.Cursor.{Cursor}
 use Rattle.search_events.specs.declared.Event.{Event}
-use Rattle.search_events.proofs.LentCursor.{Call, Frame, Met, token, lent, last, locals, fresh, Runs, enters}
+use Rattle.search_events.proofs.LentCursor.{Call, Frame, Met, token, lent, last, locals, fresh, Runs}
 use Rattle.search_events.proofs.LentCursor.{leaves, meets, answered}
 use Rattle.search_events.proofs.Cursor as T
 use Rattle.search_events.proofs.Cursor.Laws as T′
@@ -196,10 +196,9 @@ next-event-spec 𝓤 H 𝓜 𝓖 𝓡 =
     let W = givenOf 𝓤 H 𝓜 𝓖 in
     entered 𝓤 H (Met 𝓤 S.the-row Stepped H (𝓖 .A)) (tables 𝓤 H 𝓜 𝓡 code.env .C) (tables 𝓤 H 𝓜 𝓡 code.env .Λ)
     #search-events·next-event code.function (code.unfolded 𝓤 H 𝓜 𝓡)
-    (meets 𝓤 H (𝓖 .A) W S.the-row Stepped code.function 𝓣 (λ c.
-    enters 𝓤 H (𝓖 .A) W S.the-row Stepped c S′.mir (tyInt w32) (tyInt w32) (𝓣 .C) (𝓣 .Λ) rest.t-1
+    (meets 𝓤 H (𝓖 .A) W S.the-row Stepped S′.mir (tyInt w32) (tyInt w32) 𝓣 rest.t-1
     (begins 𝓤 H (𝓖 .A) W (𝓜 .mem) (𝓡 .run) (𝓣 .C) (𝓣 .Λ) (fmOf 𝓤 H (W .laws) 𝓣)
     (cited 𝓤 H (Next 𝓤 H (𝓖 .A) (𝓜 .mem) (𝓡 .run)) 𝓜 𝓡 code.env #search-events·next-at next-def.routine
     code.calls-search-events·next-at (next-thm.met 𝓤 H 𝓜 𝓖 𝓡))
     (cited 𝓤 H (At 𝓤 H (𝓖 .A) (𝓜 .mem) (𝓡 .run)) 𝓜 𝓡 code.env #search-events·event-at event-def.routine
-    code.calls-search-events·event-at (event-thm.met 𝓤 H 𝓜 𝓖 𝓡)) c)))
+    code.calls-search-events·event-at (event-thm.met 𝓤 H 𝓜 𝓖 𝓡))))
