@@ -12,8 +12,9 @@ use lib.Seq.{getD-set-same, set-set, set-getD}
 use Rattle.order.specs.Lists.{In}
 use Rattle.order.specs.Steps.{ChangedAt}
 use Rattle.order.specs.Diamond.{OneOther}
+use Rattle.order.proofs.Renumbering.{OneOther·same}
 use Rattle.listing.specs.Listing.{Listing, Limits, count, rank, subs}
-use Rattle.valid_diamond.specs.Dyadic.{Between, Two, DiamondAt, Diamond}
+use Rattle.valid_diamond.specs.Dyadic.{Between, DiamondAt, Diamond}
 use Rattle.valid.specs.Closed.{Closed}
 use Rattle.flag_change.specs.Flags.{IsFlag}
 use Rattle.flag_change.specs.Change.{other, between, changeAt, Changes}
@@ -34,28 +35,6 @@ other-is e o (x ∷ l) h d only =
     go ih (inr k) (yes z) u = other-same e x l z ∙ ih k
     go ih k (no z) (inl w) = absurd (z w)
     go ih k (no z) (inr w) = other-found e x l z ∙ w
-
--- of two, the one that is not y
-one-other : {P : ℕ → Type 0} → Two P → (y : ℕ) → P y → OneOther P y
-one-other {P} t y h = go (t .no-third y h)
-  where
-    go : (y ≡ t .one) ⊎ (y ≡ t .two) → OneOther P y
-    go (inl e) = record {
-      other = t .two;
-      differs = λ w. t .apart (sym (w ∙ e));
-      holds = t .second;
-      only = λ w k. rw e (t .no-third w k);
-    }
-    go (inr e) = record {
-      other = t .one;
-      differs = λ w. t .apart (w ∙ e);
-      holds = t .first;
-      only = λ w k. swap (t .no-third w k);
-    }
-      where
-        swap : {w : ℕ} → (w ≡ t .one) ⊎ (w ≡ t .two) → (w ≡ y) ⊎ (w ≡ t .one)
-        swap (inl u) = inr u
-        swap (inr u) = inl (u ∙ sym e)
 
 -- ---- what lies between
 
@@ -95,22 +74,14 @@ module _ {m : Limits} (L : Listing) (C : Closed m L) (r : ℕ) (p : 0 < r) (q : 
         = rw d at (F .under (r - 1) (omega (arith, F .one-each))) in
         between-is (getD f r 0) .1 (rw e (F .under r (omega (arith, F .one-each)), u))
 
-    two : Two (λ x. In x (between L r f))
-    unfolding Diamond DiamondAt
-    two =
-        let t = C .diamond (r + 1) (omega arith) (omega arith) (getD f (r + 1) 0) (getD f (r - 1) 0) (getD f r 0)
-        high-exists (between-is (getD f r 0) .0 stands) in
-        record {
-          one = t .one;
-          two = t .two;
-          apart = t .apart;
-          first = between-is (t .one) .1 (t .first);
-          second = between-is (t .two) .1 (t .second);
-          no-third = λ w h. t .no-third w (between-is w .0 h);
-        }
-
     the-other : OneOther (λ x. In x (between L r f)) (getD f r 0)
-    the-other = one-other two (getD f r 0) stands
+    unfolding Diamond DiamondAt
+    the-other =
+        let here = between-is (getD f r 0) .0 stands in
+        OneOther·same (Between L (r + 1) (getD f (r + 1) 0) (getD f (r - 1) 0)) (λ x. In x (between L r f)) (getD f r 0)
+        (λ w. between-is w .1) (λ w. between-is w .0)
+        (C .diamond (r + 1) (omega arith) (omega arith) (getD f (r + 1) 0) (getD f (r - 1) 0) (getD f r 0)
+        high-exists here)
 
     -- the number that the change puts in
     abbrev new : ℕ
@@ -168,8 +139,8 @@ module _ {m : Limits} (L : Listing) (C : Closed m L) (r : ℕ) (p : 0 < r) (q : 
     -- A flag of a closed listing has exactly one change at each rank between the ends, and making it twice leads back.
     pub changes : Changes L f r
     changes = record {
-      two-between = two f F;
-      one-stands = stands f F;
+      stands = stands f F;
+      one-other = the-other f F;
       is-flag = changed-flag f F;
       changed = changed-at f F;
       back = changed-back f F;

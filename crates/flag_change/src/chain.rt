@@ -3,6 +3,7 @@
 use listing::Answer;
 use listing::Index;
 use listing::inner;
+use listing::limit;
 use listing::refusal;
 use valid_incidence::incidence;
 ghost use mathlib.Core.Path.{_≡_};
@@ -14,7 +15,7 @@ ghost use Rattle.listing.specs.Shape.{Shaped};
 ghost use Rattle.valid.specs.Ascent.{Ascends};
 ghost use Rattle.valid.specs.Closed.{Closed};
 ghost use Rattle.flag_change.specs.Flags.{flagAt, flagTest, startTest, IsFlag};
-ghost use Rattle.flag_change.specs.Change.{common, other, between, changeAt, padded, Neighbours};
+ghost use Rattle.flag_change.specs.Change.{common, other, between, changeAt, padded, Flanked};
 
 // Whether an index that exists stands in the flag at rank r, which begins at place here, and over what stands below it.
 fn stands_at(
@@ -174,7 +175,7 @@ pub fn change_index(
     requires { ⌜ Shaped limits (held counts ends inc) ⌝ }
     requires { ⌜ Ascends (held counts ends inc) ⌝ }
     requires { ⌜ (low ≡ before (now counts) (r - 1)) × (high ≡ before (now counts) (r + 1)) ⌝ }
-    requires { ⌜ Neighbours (held counts ends inc) (now flag) r ⌝ }
+    requires { ⌜ Flanked (held counts ends inc) (now flag) r ⌝ }
     ensures { λ x. ⌜ x ≡ other (getD (now (flag .entry)) r 0)
         (between (held (counts .entry) (ends .entry) (inc .entry)) r (now (flag .entry))) ⌝ }
 {
@@ -183,12 +184,12 @@ pub fn change_index(
     other_between(below, above, flag[r])
 }
 
-// A flag as a record of 16 numbers, 0 above the top.
-pub fn pad(flag: &[Index]) -> [Index; 16]
-    requires { ⌜ length (now flag) ≤ 16 ⌝ }
+// A flag in room for the most ranks, 0 above the top.
+pub fn pad(flag: &[Index]) -> [Index; limit::RANKS]
+    requires { ⌜ length (now flag) ≤ limits .ranks ⌝ }
     ensures { λ a. ⌜ a ≡ padded (now (flag .entry)) ⌝ }
 {
-    let mut a: [Index; 16] = [0; 16];
+    let mut a: [Index; limit::RANKS] = [0; limit::RANKS];
     let mut k: usize = 0;
     while k < flag.len() {
         a[k] = flag[k];
@@ -197,14 +198,14 @@ pub fn pad(flag: &[Index]) -> [Index; 16]
     a
 }
 
-// The flag after the change at rank r, as a record of 16 numbers.
+// The flag after the change at rank r, in room for the most ranks.
 pub fn changed_at(
     counts: &[Index],
     ends: &[Index],
     inc: &[Index],
     flag: &[Index],
     r: usize,
-) -> [Index; 16]
+) -> [Index; limit::RANKS]
     requires { ⌜ Closed limits (held counts ends inc) ⌝ }
     requires { ⌜ IsFlag (held counts ends inc) (now flag) ⌝ }
     requires { ⌜ (0 < r) × (r < length (now counts) - 1) ⌝ }

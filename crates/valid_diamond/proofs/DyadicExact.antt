@@ -2,7 +2,7 @@
 -- where moreover no list holds an index twice, exactly if the diamond holds at the ranks that it looks at.
 -- Assumes nothing.
 use mathlib.Core.Path.{_≡_, refl, sym, _∙_}
-use mathlib.Core.Logic.{_↔_, Iff·symm, Iff·trans, _⊎_, inl, inr}
+use mathlib.Core.Logic.{_↔_, Iff·trans, _⊎_, inl, inr}
 use mathlib.Core.Bool.{Bool, true, false, cond}
 use mathlib.Core.List.{List, [], _∷_}
 use Prim.Native.Nat.{ℕ, _+_, _-_, _≤_, _<_}
@@ -14,11 +14,13 @@ use Rattle.order.proofs.Lists.{occurs-none, occurs-some, occurs-append}
 use Rattle.listing.specs.Listing.{Listing, count, before, subs}
 use Rattle.valid_incidence.specs.Incidence.{Incident}
 use Rattle.valid_incidence.proofs.Sequences.{elements-exact}
+use Rattle.order.specs.Diamond.{OneOther}
+use Rattle.order.proofs.Renumbering.{OneOther·same}
 use Rattle.valid_diamond.specs.Dyadic.{subsOfAll, walk, sectionsTest, dyadicTest}
-use Rattle.valid_diamond.specs.Dyadic.{Between, Two, DiamondAt, Diamond, Distinct, MetTwice}
+use Rattle.valid_diamond.specs.Dyadic.{Between, DiamondAt, Diamond, Distinct, MetTwice}
 use Rattle.valid_diamond.proofs.Walks.{subsOf}
 use Rattle.valid_diamond.proofs.Counting.{occurs-nil, sections-exact}
-use Rattle.valid_diamond.proofs.Twos.{Once, keep, in-keep, once-keep, two-exact, two-map}
+use Rattle.valid_diamond.proofs.Twos.{Once, keep, in-keep, once-keep, two-exact}
 
 -- ---- what a walk meets
 
@@ -104,12 +106,18 @@ module _ (L : Listing) (I : Incident L) (D : Distinct L) where
         walk-occurs (L .ends) (L .inc) (before (L .counts) (r - 1)) x (subs L r i)
         (λ s m. D 0 (r - 1) s x (omega arith) (I .sub-back r i s k m .1))
 
-    -- met twice: exactly two lie between
-    twice-two : occurs x (walk L r i) ≡ 2 ↔ Two (Between L r i x)
-    twice-two =
-        let t = two-exact (over L r i x) over-once in (
-          λ e. two-map (over-between L r i x) (t .0 (sym met-over ∙ e)),
-          λ p. met-over ∙ t .1 (two-map (λ s. Iff·symm (over-between L r i x s)) p),
+    -- met twice: beside one that lies between, exactly one other does
+    twice-two : (s : ℕ) → Between L r i x s → occurs x (walk L r i) ≡ 2 ↔ OneOther (Between L r i x) s
+    twice-two s b =
+        let e = over-between L r i x in
+        let t = two-exact (over L r i x) over-once s (e s .1 b) in (
+          λ w.
+              OneOther·same (λ y. In y (over L r i x)) (Between L r i x) s (λ y. e y .0) (λ y. e y .1)
+              (t .0 (sym met-over ∙ w)),
+          λ o.
+              met-over
+              ∙ t .1
+              (OneOther·same (Between L r i x) (λ y. In y (over L r i x)) s (λ y. e y .1) (λ y. e y .0) o),
         )
 
   pub twice-diamond : (h : ℕ) → MetTwice L h ↔ Diamond L h
@@ -117,10 +125,10 @@ module _ (L : Listing) (I : Incident L) (D : Distinct L) where
   twice-diamond h = (
     λ a r low high i x s k b.
         let m = walk-in (L .ends) (L .inc) _ x s (subs L r i) (b .0) (b .1) in
-        twice-two r i x k .0 (a r i x low high k m),
+        twice-two r i x k s b .0 (a r i x low high k m),
     λ a r i x low high k m.
         let p = in-walk (L .ends) (L .inc) (before (L .counts) (r - 1)) x (subs L r i) m in
-        twice-two r i x k .1 (a r low high i x (p .0) k (p .1, p .2)),
+        twice-two r i x k (p .0) (p .1, p .2) .1 (a r low high i x (p .0) k (p .1, p .2)),
   )
 
   -- Where test 2 passes and no list holds an index twice, test 3 answers 0 exactly if the diamond holds.

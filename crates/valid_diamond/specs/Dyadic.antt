@@ -10,17 +10,16 @@
 -- sectionsTest   one element: 17 at the first third occurrence on the walk, then 18 at the smallest index met once
 -- dyadicTest     all elements of the ranks 2 to h, by rank and then index
 -- Between        s lies between x, two ranks lower, and element i of rank r
--- Two            exactly two numbers have a property
--- DiamondAt      the book's rule at rank r: whenever some element lies between, exactly two do
+-- DiamondAt      the book's rule at rank r: whenever some element lies between, exactly one other does, which makes two
 -- Diamond        the book's rule at the ranks 2 to h
 -- Distinct       no list of the listing holds an index twice
 -- MetTwice       what the test counts where lists repeat: each index that a walk meets is met twice, by occurrence
 use mathlib.Core.Path.{_≡_}
-use mathlib.Core.Logic.{_≢_, _⊎_}
 use mathlib.Core.List.{List, [], _∷_, _++_}
 use Prim.Native.Nat.{ℕ, _+_, _-_, _*_, _≤_, _<_}
 use lib.Dec.{leb, eqb}
 use Rattle.order.specs.Lists.{In, occurs}
+use Rattle.order.specs.Diamond.{OneOther}
 use Rattle.listing.specs.declared.Answer.{Answer}
 use Rattle.listing.specs.Refusals.{thirdBetween, loneBetween}
 use Rattle.listing.specs.Answers.{refusal, fine, on, _orElse_, firstOf}
@@ -61,16 +60,8 @@ dyadicTest L h = firstOf (λ r. firstOf (sectionsTest L r) 0 (count L r)) 2 (h +
 abbrev pub Between : Listing → ℕ → ℕ → ℕ → ℕ → Type 0
 Between L r i x s = In s (subs L r i) × In x (subs L (r - 1) s)
 
-pub record Two (P : ℕ → Type 0) : Type 0 where
-  pub one : ℕ
-  pub two : ℕ
-  pub apart : one ≢ two
-  pub first : P one
-  pub second : P two
-  pub no-third : (w : ℕ) → P w → (w ≡ one) ⊎ (w ≡ two)
-
 unfoldable pub DiamondAt : Listing → ℕ → Type 0
-DiamondAt L r = (i x s : ℕ) → i < count L r → Between L r i x s → Two (Between L r i x)
+DiamondAt L r = (i x s : ℕ) → i < count L r → Between L r i x s → OneOther (Between L r i x) s
 
 unfoldable pub Diamond : Listing → ℕ → Type 0
 Diamond L h = (r : ℕ) → 2 ≤ r → r ≤ h → DiamondAt L r

@@ -9,7 +9,7 @@ use Rattle.valid.specs.Closed.{Closed}
 use Rattle.flag_change.specs.Flags.{IsFlag}
 use Rattle.flag_change.specs.Change.{changeAt}
 use Rattle.flag_change.proofs.Padding.{padded-set}
-use Rattle.flag_change.proofs.Replaced.{flag-neighbours}
+use Rattle.flag_change.proofs.Replaced.{flag-flanked}
 use Rattle.flag_change.proofs.chain.changed_at.Statement.{statement}
 use Rattle.flag_change.proofs.chain.changed_at.Tie as tie
 
@@ -21,6 +21,10 @@ cell s = s .pre .0
 
 chain : (s : tie.Start) → IsFlag (L s) (s .args .flag .now)
 chain s = s .pre .1 .0
+
+-- where the function began, seen from the two places
+abbrev begun : tie.After-place-of2 → tie.Start
+begun c = c .before .before .before .before .before .before
 
 sub-place-of : tie.Need-sub-place-of
 sub-place-of c = search needs
@@ -40,13 +44,13 @@ place-of-requires-2 c κs =
 
 change-index-requires : tie.Need-change-index-requires
 change-index-requires c κs =
-    let s = c .before .before .before .before .before .before in
-    let n = flag-neighbours (L s) _ _ (s .pre .1 .1 .0) (s .pre .1 .1 .1) (chain s) in
+    let s = begun c in
+    let n = flag-flanked (L s) _ _ (s .pre .1 .1 .0) (s .pre .1 .1 .1) (chain s) in
     (cell s .shaped, (cell s .ascends, ((c .before .place-of .ensures, c .place-of2 .ensures), n)))
 
 pad-requires : tie.Need-pad-requires
 pad-requires c κs =
-    let s = c .before .before .before .before .before .before .before in
+    let s = begun (c .before) in
     omega (arith, cell s .shaped, chain s .one-each)
 
 mul-new : tie.Need-mul-new
@@ -58,7 +62,7 @@ array-write-new c = search needs
 returns : tie.Need-returns
 unfolding changeAt
 returns c =
-    let s = c .before .before .before .before .before .before .before .before in
+    let s = begun (c .before .before) in
     rw (c .pad .ensures, c .before .change-index .ensures)
     (padded-set (s .args .flag .now) _ _ (omega (arith, chain s .one-each)))
 

@@ -14,7 +14,7 @@ use lib.ListN.{replicate}
 use Rattle.order.proofs.Tests.{and-true}
 use Rattle.search_events.specs.declared.Event.{Event}
 use Rattle.search_events.specs.declared.Event.the-variants.{Flag, NonOrientable, Nothing}
-use Rattle.search_events.specs.Events.{within, eventAt, events, nextAt, upFrom, eventsOf, taken}
+use Rattle.search_events.specs.Events.{marked, eventAt, events, nextAt, upFrom, eventsOf, replies}
 use Rattle.search_events.proofs.EventRow.{events-more, events-plain, goes-on, stays}
 use Rattle.search_events.proofs.EventRow.{flag-before, at-place, flag-after, past-after, flag-plain, past-plain}
 
@@ -52,10 +52,10 @@ module _ (n p : ℕ) where
   abbrev at : ℕ → Event
   at k = eventAt k n p
 
-  inside : within n p ≡ true → p ≤ n
+  inside : marked n p ≡ true → p ≤ n
   inside w = leb-true p n (and-true (leb 1 p) (leb p n) w .1)
 
-  more-are : within n p ≡ true → upFrom at 0 (n + 1) ≡ upFrom Flag 0 p ++ NonOrientable ∷ upFrom Flag p (n - p)
+  more-are : marked n p ≡ true → upFrom at 0 (n + 1) ≡ upFrom Flag 0 p ++ NonOrientable ∷ upFrom Flag p (n - p)
   unfolding upFrom
   more-are w =
       let k = inside w in
@@ -65,25 +65,25 @@ module _ (n p : ℕ) where
       let d = up-same at (λ k. Flag (k - 1)) (suc p) (n - p) (λ k l h. flag-after k n p w l (omega arith)) in
       rw (e, up-add at 0 p (suc (n - p)), zero-add p) (λ j. b j ++ c j ∷ (d ∙ up-shift p (n - p)) j)
 
-  plain-are : within n p ≡ false → upFrom at 0 n ≡ upFrom Flag 0 n
+  plain-are : marked n p ≡ false → upFrom at 0 n ≡ upFrom Flag 0 n
   plain-are w = up-same at Flag 0 n (λ k _ h. flag-plain k n p w (omega arith))
 
   -- The events at the places of the row are the flags in order, with NonOrientable after the first p flags where p is
   -- from 1 to n.
   events-are : upFrom at 0 (events n p) ≡ eventsOf n p
   unfolding events eventsOf
-  events-are = go (within n p) refl
+  events-are = go (marked n p) refl
     where
-      go : (b : Bool) → within n p ≡ b → upFrom at 0 (events n p) ≡ eventsOf n p
+      go : (b : Bool) → marked n p ≡ b → upFrom at 0 (events n p) ≡ eventsOf n p
       go true w = rw w (more-are w)
       go false w = rw w (plain-are w)
 
   -- ---- from place to place
 
   past : (a : ℕ) → events n p ≤ a → eventAt a n p ≡ Nothing
-  past a h = go (within n p) refl
+  past a h = go (marked n p) refl
     where
-      go : (b : Bool) → within n p ≡ b → eventAt a n p ≡ Nothing
+      go : (b : Bool) → marked n p ≡ b → eventAt a n p ≡ Nothing
       go true w =
           let k = inside w in
           past-after a n p w (omega (arith, events-more n p w)) (omega (arith, events-more n p w))
@@ -93,22 +93,22 @@ module _ (n p : ℕ) where
   pub past-last : (a : ℕ) → events n p ≤ a → (eventAt a n p ≡ Nothing) × (nextAt a n p ≡ a)
   past-last a h = (past a h, stays a n p h)
 
-  taken-past : (a k : ℕ) → events n p ≤ a → taken a n p k ≡ replicate k Nothing
-  unfolding taken
-  taken-past a zero h = refl
-  taken-past a (suc k) h =
-      rw (past a h, stays a n p h) (ap {B = List Event} (λ l. Nothing ∷ l) (taken-past a k h))
+  replies-past : (a k : ℕ) → events n p ≤ a → replies a n p k ≡ replicate k Nothing
+  unfolding replies
+  replies-past a zero h = refl
+  replies-past a (suc k) h =
+      rw (past a h, stays a n p h) (ap {B = List Event} (λ l. Nothing ∷ l) (replies-past a k h))
 
-  taken-on : (a k j : ℕ) → a + k ≡ events n p → taken a n p (k + j) ≡ upFrom at a k ++ replicate j Nothing
-  unfolding taken upFrom
-  taken-on a zero j e =
+  replies-on : (a k j : ℕ) → a + k ≡ events n p → replies a n p (k + j) ≡ upFrom at a k ++ replicate j Nothing
+  unfolding replies upFrom
+  replies-on a zero j e =
       let d : 0 + j ≡ j = omega arith in
-      rw d (taken-past a j (omega arith))
-  taken-on a (suc k) j e =
+      rw d (replies-past a j (omega arith))
+  replies-on a (suc k) j e =
       let d : suc k + j ≡ suc (k + j) = omega arith in
       rw (d, goes-on a n p (omega arith), add-one a)
-      (ap {B = List Event} (λ l. eventAt a n p ∷ l) (taken-on (suc a) k j (omega arith)))
+      (ap {B = List Event} (λ l. eventAt a n p ∷ l) (replies-on (suc a) k j (omega arith)))
 
   -- From a new cursor the calls say the events in their order, and after the last of them Nothing, each time.
-  pub all-taken : (j : ℕ) → taken 0 n p (events n p + j) ≡ eventsOf n p ++ replicate j Nothing
-  all-taken j = taken-on 0 (events n p) j (omega arith) ∙ ap (λ l. l ++ replicate j Nothing) events-are
+  pub all-replies : (j : ℕ) → replies 0 n p (events n p + j) ≡ eventsOf n p ++ replicate j Nothing
+  all-replies j = replies-on 0 (events n p) j (omega arith) ∙ ap (λ l. l ++ replicate j Nothing) events-are
