@@ -13,7 +13,7 @@ use Rattle.search_store.specs.Hash.{hashes, weight, hashOf}
 use Rattle.search_store.proofs.Hash.{old-inside, hash-changed}
 use Rattle.search_walk.specs.Ready.{AtHand}
 
-module _ (L : Listing) (C : Closed limits L) (flag : List ℕ) (sum : ℕ) (H : AtHand L flag sum) (r : ℕ) (p : 0 < r)
+module _ {L : Listing} (C : Closed limits L) {flag : List ℕ} {sum : ℕ} (H : AtHand L flag sum) (r : ℕ) (p : 0 < r)
     (q : r < rank L) where
   -- how many numbers the flag has, and the flag itself
   abbrev w : ℕ

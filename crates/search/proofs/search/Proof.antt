@@ -2,7 +2,7 @@
 -- Assumes nothing.
 use mathlib.Core.Bool.{true}
 use mathlib.Core.Path.{_≡_, sym, ap, _∙_}
-use Prim.Native.Nat.{_*_, _≤_}
+use Prim.Native.Nat.{ℕ, _*_, _≤_}
 use native.Mathlib.Omega.{arith}
 use borrow.Author.Tests.{not-true, not-false}
 use borrow.Author.Needs.{needs}
@@ -24,71 +24,72 @@ use Rattle.search.proofs.search.Tie as tie
 abbrev L : tie.Start → Listing
 L s = listing (s .args .counts .now) (s .args .ends .now) (s .args .inc .now)
 
+-- ---- points of the code: where it began, where the first tests and the mask were passed, where the search ended
+
+abbrev begun : tie.After-check-flag → tie.Start
+begun c = c .before .before .before .before .before .before .before
+
+abbrev began : tie.Else1 → tie.Start
+began c = begun (c .before .before)
+
+abbrev passed : tie.Else2 → tie.Else1
+passed c = c .before .before
+
+abbrev ready : tie.After-search-from → tie.After-room-of
+ready c = c .before .before .before
+
+abbrev searched : tie.After-slice-known4 → tie.After-search-from
+searched c = c .before .before .before .before
+
+-- ---- what holds there
+
 -- the tests before the mask have passed
-start-fine : (c : tie.Else1)
-    → startTest limits (L (c .before .before .before .before .before .before .before .before .before))
-    (c .before .before .before .before .before .before .before .before .before .args .first .now) .no ≡ 0
+start-fine : (c : tie.Else1) → startTest limits (L (began c)) (began c .args .first .now) .no ≡ 0
 start-fine c = no-of (c .before .before .check-flag .ensures) (c .if1 .left)
 
-started : (c : tie.Else1)
-    → Closed limits (L (c .before .before .before .before .before .before .before .before .before)) × IsFlag
-    (L (c .before .before .before .before .before .before .before .before .before))
-    (c .before .before .before .before .before .before .before .before .before .args .first .now)
-started c =
-    start-exact limits (L (c .before .before .before .before .before .before .before .before .before))
-    (c .before .before .before .before .before .before .before .before .before .args .first .now) .0 (start-fine c)
+started : (c : tie.Else1) → Closed limits (L (began c)) × IsFlag (L (began c)) (began c .args .first .now)
+started c = start-exact limits (L (began c)) (began c .args .first .now) .0 (start-fine c)
 
 -- the mask fits
-mask-fine : (c : tie.Else2)
-    → maskFits (rank (L (c .before .before .before .before .before .before .before .before .before .before .before)))
-    (c .before .before .before .before .before .before .before .before .before .before .before .args .mask) ≡ true
+mask-fine : (c : tie.Else2) → maskFits (rank (L (began (passed c)))) (began (passed c) .args .mask) ≡ true
 mask-fine c = sym (c .before .fits2 .ensures) ∙ not-false _ (c .if2 .left)
 
 -- the room, and what fits there
-room-here : (c : tie.After-room-of) → c .room-of .result
-    ≡ roomOf limits
-    (L (c .before .before .before .before .before .before .before .before .before .before .before .before))
-    (length (c .before .before .before .before .before .before .before .before .before .before .before .before
-    .args .table .now))
-    (length (c .before .before .before .before .before .before .before .before .before .before .before
-    .before .args .bytes .now))
-room-here c =
-    c .room-of .ensures
-    ∙ room-is limits
-    (L (c .before .before .before .before .before .before .before .before .before .before .before .before))
-    (length (c .before .before .before .before .before .before .before .before .before .before .before .before
-    .args .table .now))
-    (length (c .before .before .before .before .before .before .before .before .before .before .before
-    .before .args .bytes .now))
-    (started (c .before .before .before) .0 .shaped .some-rank)
+abbrev room : tie.Start → ℕ
+room s = roomOf limits (L s) (length (s .args .table .now)) (length (s .args .bytes .now))
 
-room-held : (c : tie.After-room-of) → let s =
-    c .before .before .before .before .before .before .before .before .before .before .before .before in
+room-here : (c : tie.After-room-of) → c .room-of .result ≡ room (began (passed (c .before)))
+room-here c =
+    let s = began (passed (c .before)) in
+    c .room-of .ensures
+    ∙ room-is limits (L s) (length (s .args .table .now)) (length (s .args .bytes .now))
+    (started (passed (c .before)) .0 .shaped .some-rank)
+
+room-held : (c : tie.After-room-of) → let s = began (passed (c .before)) in
     (c .room-of .result * length (s .args .counts .now) ≤ length (s .args .table .now))
     × (c .room-of .result ≤ length (s .args .bytes .now)) × (c .room-of .result ≤ limits .flags)
 room-held c =
-    let s = c .before .before .before .before .before .before .before .before .before .before .before .before in
+    let s = began (passed (c .before)) in
     room-fits limits (length (s .args .table .now)) (length (s .args .bytes .now)) (length (s .args .counts .now)) _
     (c .room-of .ensures)
 
 -- the search has come to its end
-ended : (c : tie.After-search-from) → let s =
-    c .before .before .before .before .before .before .before .before .before .before .before .before .before .before
-    .before in
-    let room = roomOf limits (L s) (length (s .args .table .now)) (length (s .args .bytes .now)) in
-    Ended (length (s .args .counts .now)) room (s .args .table .now) (s .args .bytes .now)
+ended : (c : tie.After-search-from) → let s = began (passed (ready c .before)) in
+    Ended (length (s .args .counts .now)) (room s) (s .args .table .now) (s .args .bytes .now)
     (c .search-from .last .1 .1 .1 .1 .1 .0) (c .search-from .last .1 .1 .1 .1 .1 .1 .0) (c .search-from .result)
-    (foundBy (L s) (s .args .first .now) (s .args .mask) room)
-ended c = rw (room-here (c .before .before .before)) at (c .search-from .ensures)
+    (foundBy (L s) (s .args .first .now) (s .args .mask) (room s))
+ended c = rw (room-here (ready c)) at (c .search-from .ensures)
 
-within : (c : tie.After-search-from) → let s =
-    c .before .before .before .before .before .before .before .before .before .before .before .before .before .before
-    .before in
-    let room = roomOf limits (L s) (length (s .args .table .now)) (length (s .args .bytes .now)) in
-    (room * length (s .args .counts .now) ≤ length (s .args .table .now)) × (room ≤ length (s .args .bytes .now))
+within : (c : tie.After-search-from) → let s = began (passed (ready c .before)) in
+    (room s * length (s .args .counts .now) ≤ length (s .args .table .now))
+    × (room s ≤ length (s .args .bytes .now))
 within c =
-    let h = rw (room-here (c .before .before .before)) at (room-held (c .before .before .before)) in
-    (h .0, h .1)
+    let s = began (passed (ready c .before)) in
+    let f = room-fits limits (length (s .args .table .now)) (length (s .args .bytes .now))
+    (length (s .args .counts .now)) (room s) (sym (room-here (ready c)) ∙ ready c .room-of .ensures) in
+    (f .0, f .1)
+
+-- ---- the needs
 
 check-flag-requires : tie.Need-check-flag-requires
 check-flag-requires c κs = search needs
@@ -97,10 +98,11 @@ refused-requires : tie.Need-refused-requires
 refused-requires c κs = search needs
 
 returns : tie.Need-returns
-returns c = let s = c .before .before .before .before .before .before .before .before .before .before in
+returns c =
+    let f = c .before .before .before in
+    let s = begun f in
     let o = outcome-start limits (L s) (s .args .first .now) (s .args .mask) (s .args .table .now) (s .args .bytes .now)
-    (c .before .before .before .check-flag .result) (c .before .before .before .check-flag .ensures)
-    (c .before .if1 .taken) in
+    (f .check-flag .result) (f .check-flag .ensures) (c .before .if1 .taken) in
     (c .refused .ensures ∙ o .answer, (o .flags, o .turns))
 
 sub-fits : tie.Need-sub-fits
@@ -117,10 +119,10 @@ refused-requires-2 c κs = search needs
 
 returns-2 : tie.Need-returns-2
 returns-2 c =
-    let s = c .before .before .before .before .before .before .before .before .before .before .before .before .before in
+    let p = c .before .before .before .before in
+    let s = began p in
     let o = outcome-mask limits (L s) (s .args .first .now) (s .args .mask) (s .args .table .now) (s .args .bytes .now)
-    (start-fine (c .before .before .before .before))
-    (sym (c .before .before .before .fits2 .ensures) ∙ not-true _ (c .before .before .if2 .taken)) in
+    (start-fine p) (sym (c .before .before .before .fits2 .ensures) ∙ not-true _ (c .before .before .if2 .taken)) in
     (c .refused2 .ensures ∙ ap refusedAs (c .before .plain .ensures) ∙ o .answer, (o .flags, o .turns))
 
 room-of-requires : tie.Need-room-of-requires
@@ -128,17 +130,10 @@ room-of-requires c κs = started (c .before .before) .0 .shaped .some-rank
 
 search-from-requires : tie.Need-search-from-requires
 search-from-requires c κs =
-    let s = c .before .before .before .before .before .before .before .before .before .before .before .before .before
-    .before in let p = started (c .before .before .before .before .before) in (
-      p .0,
-      (
-        p .1,
-        (
-          fits-ranks (rank (L s)) (s .args .mask) (mask-fine (c .before .before .before)),
-          room-held (c .before .before),
-        ),
-      ),
-    )
+    let r = c .before .before in
+    let s = began (passed (r .before)) in
+    let p = started (passed (r .before)) in
+    (p .0, (p .1, (fits-ranks (rank (L s)) (s .args .mask) (mask-fine (r .before)), room-held r)))
 
 plain-requires-2 : tie.Need-plain-requires-2
 plain-requires-2 c κs = search needs
@@ -154,15 +149,11 @@ same-length-2 c = search needs
 
 returns-3 : tie.Need-returns-3
 returns-3 c =
-    let s = c .before .before .before .before .before .before .before .before .before .before .before .before .before
-    .before .before .before .before .before .before .before .before .before in
+    let e = searched (c .before .before .before) in
+    let r = ready e in
+    let s = began (passed (r .before)) in
     let o = outcome-over limits (L s) (s .args .first .now) (s .args .mask) (s .args .table .now) (s .args .bytes .now)
-    (start-fine
-    (c .before .before .before .before .before .before .before .before .before .before .before .before .before))
-    (mask-fine (c .before .before .before .before .before .before .before .before .before .before .before))
-    (ended (c .before .before .before .before .before .before .before))
-    (within (c .before .before .before .before .before .before .before))
-    (c .before .before .if3 .taken) in
+    (start-fine (passed (r .before))) (mask-fine (r .before)) (ended e) (within e) (c .before .before .if3 .taken) in
     (c .refused3 .ensures ∙ ap refusedAs (c .before .plain2 .ensures) ∙ o .answer, (o .flags, o .turns))
 
 found-requires : tie.Need-found-requires
@@ -176,13 +167,11 @@ same-length-4 c = search needs
 
 returns-4 : tie.Need-returns-4
 returns-4 c =
-    let s = c .before .before .before .before .before .before .before .before .before .before .before .before .before
-    .before .before .before .before .before .before .before .before in
+    let e = searched (c .before .before) in
+    let r = ready e in
+    let s = began (passed (r .before)) in
     let o = outcome-found limits (L s) (s .args .first .now) (s .args .mask) (s .args .table .now) (s .args .bytes .now)
-    (start-fine (c .before .before .before .before .before .before .before .before .before .before .before .before))
-    (mask-fine (c .before .before .before .before .before .before .before .before .before .before))
-    (ended (c .before .before .before .before .before .before))
-    (within (c .before .before .before .before .before .before)) (c .before .if3 .left) in
+    (start-fine (passed (r .before))) (mask-fine (r .before)) (ended e) (within e) (c .before .if3 .left) in
     (c .found .ensures ∙ o .answer, (o .flags, o .turns))
 
 pub search-spec : {M : Type 1} → statement M

@@ -1,7 +1,6 @@
 -- The loop's invariant: the flag at hand is as it was at first, and meeting the changes that are left leads from here
 -- to the same state as meeting all of them led to from the start. The measure is the mask that is left.
 -- Assumes nothing.
-use mathlib.Core.Bool.{true}
 use mathlib.Core.Path.{_≡_, refl, sym, _∙_}
 use Prim.Native.Nat.{_-_, _<_}
 use native.Mathlib.Omega.{arith}
@@ -9,7 +8,7 @@ use borrow.Author.Tests.{ltb-true, ltb-false}
 use borrow.Author.Needs.{needs}
 use lib.Pow.{pow-pos}
 use lib.ListN.{length, getD, take}
-use Rattle.listing.specs.Listing.{Listing, listing}
+use Rattle.listing.specs.Listing.{Listing, listing, limits}
 use Rattle.search_theory.specs.Search.{meetAll}
 use Rattle.search_store.specs.Held.{stateOf}
 use Rattle.search_store.specs.Rows.{sameList, rowOf}
@@ -36,30 +35,35 @@ abbrev μ-loop : tie.MeasureT-loop
 abbrev L : tie.Start Inv-loop μ-loop → Listing
 L s = listing (s .args .counts .now) (s .args .ends .now) (s .args .inc .now)
 
+-- ---- points of the code: where it began, the loop's test, where the turn's rank was taken off
+
+abbrev begun : tie.After-flag Inv-loop μ-loop → tie.Start Inv-loop μ-loop
+begun c = c .before .before .before .before .before .before .before .before
+
+abbrev began : tie.After-flipped Inv-loop μ-loop → tie.Start Inv-loop μ-loop
+began c = begun (c .before .before .before .before .before)
+
+abbrev looped : tie.Else2 Inv-loop μ-loop → tie.At-loop Inv-loop μ-loop
+looped c = c .before .before .before
+
+abbrev turned : tie.After-flag3 Inv-loop μ-loop → tie.After-without Inv-loop μ-loop
+turned c = c .before .before .before .before .before
+
+-- ---- what holds there
+
 -- the flag at hand is row k, and the byte is the one that row k does not have
-row-is : (c : tie.At-loop Inv-loop μ-loop) → let s =
-    c .before .before .before .before .before .before .before .before .before .before .before .before .before .before in
+row-is : (c : tie.At-loop Inv-loop μ-loop) → let s = began (c .before) in
     take (length (s .args .counts .now)) (c .loop .flag) ≡ rowOf (length (s .args .counts .now)) (s .args .table .now)
     (s .args .k)
-row-is c =
-    rw (c .loop .inv .0)
-    (rw (c .before .before .before .before .before .before .before .before .wide .ensures .0) at
-    (c .before .before .before .before .before .get-row .ensures .1))
+row-is c = rw (c .loop .inv .0) (rw (c .before .before .before .before .before .before .before .before .wide .ensures .0) at (c .before .before .before .before .before .get-row .ensures .1))
 
-byte-is : (c : tie.At-loop Inv-loop μ-loop) → let s =
-    c .before .before .before .before .before .before .before .before .before .before .before .before .before .before in
+byte-is : (c : tie.At-loop Inv-loop μ-loop) → let s = began (c .before) in
     c .before .flipped .result ≡ 1 - getD (s .args .bytes .now) (s .args .k) 0
-byte-is c =
-    rw (c .before .before .before .before .before .before .before .before .wide .ensures .0) at
-    (c .before .flipped .ensures)
+byte-is c = rw (c .before .before .before .before .before .before .before .before .wide .ensures .0) at (c .before .flipped .ensures)
 
-hand : (c : tie.At-loop Inv-loop μ-loop)
-    → AtHand (L
-    (c .before .before .before .before .before .before .before .before .before .before .before .before .before
-    .before)) (c .loop .flag) (c .before .before .before .sum-of .result)
+hand : (c : tie.At-loop Inv-loop μ-loop) → AtHand (L (began (c .before))) (c .loop .flag) (c .before .before .before .sum-of .result)
 hand c =
-    let s = c .before .before .before .before .before .before .before .before .before .before .before .before .before
-    .before in
+    let s = began (c .before) in
     record {
       sixteen = rw (c .loop .inv .0) (c .before .before .before .before .before .get-row .ensures .0);
       is-flag = rw (row-is c) (s .pre .1 .1 .1 .0 (s .args .k) (s .pre .1 .1 .1 .1 .0));
@@ -68,14 +72,16 @@ hand c =
     }
 
 -- some change is left
-some-left : (c : tie.After-any-left Inv-loop μ-loop) → c .any-left .result ≡ true → 0 < c .before .loop .left
-some-left c e = ltb-true 0 (c .before .loop .left) (sym (c .any-left .ensures) ∙ e)
+some-left : (c : tie.Else2 Inv-loop μ-loop) → 0 < looped c .loop .left
+some-left c = ltb-true 0 (looped c .loop .left) (sym (c .before .before .any-left .ensures) ∙ c .before .if1 .taken)
+
+-- ---- the needs
 
 wide-requires : tie.Need-wide-requires Inv-loop μ-loop
 wide-requires c κs = search needs
 
 get-row-requires : tie.Need-get-row-requires Inv-loop μ-loop
-get-row-requires c κs = let s = c .before .before .before .before .before .before .before .before in (
+get-row-requires c κs = let s = begun c in (
   s .pre .0 .closed .shaped .few-ranks,
   rw (c .before .before .wide .ensures .0)
       (omega (
@@ -88,12 +94,12 @@ get-row-requires c κs = let s = c .before .before .before .before .before .befo
 
 sum-of-requires : tie.Need-sum-of-requires Inv-loop μ-loop
 sum-of-requires c κs =
-    let s = c .before .before .before .before .before .before .before .before .before .before in
+    let s = begun (c .before .before) in
     (s .pre .0 .closed .shaped .few-ranks, c .before .get-row .ensures .0, s .pre .0 .weighs)
 
 slice-read-flipped : tie.Need-slice-read-flipped Inv-loop μ-loop
 slice-read-flipped c =
-    let s = c .before .before .before .before .before .before .before .before .before .before .before .before in
+    let s = begun (c .before .before .before .before) in
     omega (
       arith,
       c .before .before .before .before .before .before .wide .ensures .0,
@@ -107,7 +113,7 @@ flipped-requires c κs = search needs
 
 loop-holds : tie.Need-loop-holds Inv-loop μ-loop
 loop-holds c =
-    let s = c .before .before .before .before .before .before .before .before .before .before .before .before .before in
+    let s = begun (c .before .before .before .before .before) in
     (refl, working-start (L s) _ _ _ (s .args .mask) (s .pre .1 .1 .0) (omega arith) (s .pre .1 .0))
 
 any-left-requires : tie.Need-any-left-requires Inv-loop μ-loop
@@ -123,84 +129,38 @@ returns : tie.Need-returns Inv-loop μ-loop
 returns c = working-stop _ _ _ _ (c .before .before .before .loop .inv .1) (c .if2 .taken)
 
 lowest-requires : tie.Need-lowest-requires Inv-loop μ-loop
-lowest-requires c κs = some-left (c .before .before) (c .before .if1 .taken)
+lowest-requires c κs = some-left c
 
 without-requires : tie.Need-without-requires Inv-loop μ-loop
 without-requires c κs = (
   c .lowest .ensures .1,
   rw (c .lowest .ensures .0)
-      (low-fits 16 _ (some-left (c .before .before .before) (c .before .before .if1 .taken))
-      (c .before .before .before .before .loop .inv .1 .small)),
+      (low-fits (limits .ranks) _ (some-left (c .before)) (looped (c .before) .loop .inv .1 .small)),
 )
 
 try-next-requires : tie.Need-try-next-requires Inv-loop μ-loop
 try-next-requires c κs =
-    let s = c .before .before .before .before .before .before .before .before .before .before .before .before .before
-    .before .before .before .before .before .before .before .before .before .before .before in (
-      s .pre .0,
-      (
-        hand (c .before .before .before .before .before .before .before .before .before .before),
-        (
-          working-rank (L s) _ _ _
-              (c .before .before .before .before .before .before .before .before .before .before .loop .inv .1)
-              (some-left (c .before .before .before .before .before .before .before .before .before)
-              (c .before .before .before .before .before .before .before .before .if1 .taken))
-              (c .before .before .before .before .before .before .lowest .result)
-              (c .before .before .before .before .before .before .lowest .ensures .0),
-          (
-            c .before .before .before .before .before .before .before .before .before .before .loop .inv .1 .moved
-                .held,
-            c .before .before .before .before .before .before .before .if2 .left,
-          ),
-        ),
-      ),
-    )
+    let t = turned c .before in
+    let l = looped (t .before) in
+    let s = began (l .before) in
+    let K = l .loop .inv .1 in
+    let r = working-rank (L s) _ _ _ K (some-left (t .before)) (t .lowest .result) (t .lowest .ensures .0) in
+    (s .pre .0, (hand l, (r, (K .moved .held, t .before .if2 .left))))
 
 loop-less : tie.Need-loop-less Inv-loop μ-loop
 loop-less c =
-    omega (
-      arith,
-      c .before .before .before .before .before .before .before .before .before .before .without .ensures,
-      pow-pos (c .before .before .before .before .before .before .before .before .before .before .before .lowest
-          .result),
-      some-left
-          (c .before .before .before .before .before .before .before .before .before .before .before .before
-          .before .before)
-          (c .before .before .before .before .before .before .before .before .before .before .before
-          .before .before .if1 .taken),
-    )
+    let t = turned (c .before .before .before .before .before) in
+    omega (arith, t .without .ensures, pow-pos (t .before .lowest .result), some-left (t .before .before))
 
 loop-again : tie.Need-loop-again Inv-loop μ-loop
 loop-again c =
-    let s = c .before .before .before .before .before .before .before .before .before .before .before .before .before
-    .before .before .before .before .before .before .before .before .before .before .before .before .before .before
-    .before .before in (
-      c .before .before .before .before .try-next .ensures .0
-          ∙ c .before .before .before .before .before .before .before .before .before .before .before .before .before
-          .before .before .loop .inv .0,
-      working-next (L s) _ _ _
-          (c .before .before .before .before .before .before .before .before .before .before .before .before .before
-          .before .before .loop .inv .1)
-          (some-left
-          (c .before .before .before .before .before .before .before .before .before .before .before .before
-          .before .before)
-          (c .before .before .before .before .before .before .before .before .before .before .before
-          .before .before .if1 .taken))
-          (c .before .before .before .before .before .before .before .before .before .before
-          .before .lowest .result)
-          (c .before .before .before .before .before .before .before .before .before
-          .before .before .lowest .ensures .0)
-          (c .before .before .before .before .before .before .before .before
-          .before .before .without .result)
-          (c .before .before .before .before .before .before .before
-          .before .before .before .without .ensures)
-          (rw (
-            byte-is
-                (c .before .before .before .before .before .before .before .before .before .before .before .before
-                .before .before .before),
-            row-is (c .before .before .before .before .before .before .before .before .before .before .before
-                .before .before .before .before),
-          ) at (c .before .before .before .before .try-next .ensures .1)),
+    let t = turned (c .before .before .before .before .before) in
+    let r = t .before .lowest in
+    let l = looped (t .before .before) in
+    let e = c .before .before .before .before .try-next .ensures in (
+      e .0 ∙ l .loop .inv .0,
+      working-next (L (began (l .before))) _ _ _ (l .loop .inv .1) (some-left (t .before .before)) (r .result) (r .ensures .0)
+          (t .without .result) (t .without .ensures) (rw (byte-is l, row-is l) at (e .1)),
     )
 
 same-length-3 : tie.Need-same-length-3 Inv-loop μ-loop
