@@ -2,3 +2,4 @@ pub mod ChangeAnswers
 pub mod EventRow
 pub mod EventsTaken
 pub mod ChangeTwice
+pub mod ChangeBroken

@@ -18,9 +18,9 @@ use Rattle.product.specs.Outcome.{Outcome}
 use Rattle.product.proofs.Made.{built-full, after-full}
 use Rattle.product.proofs.Chain.{chain-passed}
 use Rattle.product.proofs.Answered.{answers, refused-untouched, answered-result, answered-shaped, answered-closed}
-use Rattle.promises.specs.Rules.{FirstBroken}
+use Rattle.listing.specs.Rules.{FirstBroken}
+use Rattle.product.proofs.ProductBroken.{product-broken}
 use Rattle.promises.specs.Products.{roomRules, prefix, Untouched, Written, Produces, Kept, Exchange}
-use Rattle.promises.proofs.Refused.{product-broken}
 
 module _ (min max : Bool) {A B : Listing} {counts ends inc counts′ ends′ inc′ : List ℕ} {r : Built}
     (o : Outcome limits min max A B counts ends inc counts′ ends′ inc′ r) where

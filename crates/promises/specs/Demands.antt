@@ -65,8 +65,9 @@ use Rattle.product.proofs.duocomb.Reads as duocomb
 use Rattle.promises.specs.Entries.{Says, SaysOfTwo, Slice, Three, lent, right, outputs, flag, asked, tables}
 use Rattle.promises.specs.Taking.{TakesAny}
 use Rattle.promises.specs.Cases.{ClassOf, SignAt, ByteFor, Calls}
-use Rattle.promises.specs.Rules.{Rule, FirstBroken, countRules, shapeRules, boundedRules, incidentRules}
-use Rattle.promises.specs.Rules.{dyadicRules, validRules, closedRules, changeRules}
+use Rattle.listing.specs.Rules.{Rule, FirstBroken, countRules, shapeRules}
+use Rattle.valid.specs.Rules.{boundedRules, incidentRules, dyadicRules, validRules, closedRules}
+use Rattle.flag.specs.Rules.{changeRules}
 use Rattle.promises.specs.Products.{prefix, Produces, Kept, Exchange}
 use Rattle.promises.specs.Searches.{Searches, Found}
 use Rattle.promises.specs.Named.{RefusalsNamed}

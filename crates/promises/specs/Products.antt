@@ -23,7 +23,8 @@ use Rattle.product_pairs.specs.Trimmed.{bit}
 use Rattle.product_closure.specs.Result.{first, second, nullCase, resultOf, HighEnough}
 use Rattle.product_closure.specs.Pairs.{Matched, LowEnd, HighEnd, Swapped}
 use Rattle.product.specs.declared.Built.{Built}
-use Rattle.promises.specs.Rules.{Rule, FirstBroken, productRules}
+use Rattle.listing.specs.Rules.{Rule, FirstBroken}
+use Rattle.product.specs.Rules.{productRules}
 
 abbrev pub roomRules : Bool → Bool → Listing → Listing → Listing → List Rule
 roomRules min max A B old =
