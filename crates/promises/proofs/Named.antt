@@ -34,7 +34,7 @@ use Rattle.flag_change.specs.Flags.{flagTest, startTest}
 use Rattle.flag.specs.Changed.{changeTest, changedOf}
 use Rattle.search_masks.specs.Masks.{maskFits}
 use Rattle.search_walk.specs.Searched.{foundBy}
-use Rattle.search.specs.Outcome.{searchTest}
+use Rattle.search.specs.SearchedBy.{searchTest}
 use Rattle.promises.specs.Entries.{lent, flag, asked, tables}
 use Rattle.promises.specs.Named.{FirstThird, Named, of-shape, of-flags, not-bounded, no-subs, no-sups}
 use Rattle.promises.specs.Named.{sub-not-back}
@@ -188,9 +188,9 @@ module _ (m : Limits) (L : Listing) (f : List ℕ) where
   search-tells mask room =
       let out = not (maskFits (rank L) mask) in
       tells-or N (startTest m L f) _ start-tells (λ _.
-      tells-or N (on out (plain 21)) (on (foundBy L f mask room .over) (plain 22))
+      tells-or N (on out (plain 21)) (on (foundBy L f mask room .overflow) (plain 22))
       (flags-tells out 21 (omega arith) (omega arith))
-      (λ _. flags-tells (foundBy L f mask room .over) 22 (omega arith) (omega arith)))
+      (λ _. flags-tells (foundBy L f mask room .overflow) 22 (omega arith) (omega arith)))
 
   -- where closed refuses, the refusal is closed's
   module _ (z : tests.closed m L .no ≢ 0) where

@@ -5,7 +5,7 @@ use mathlib.Core.List.{List}
 use Prim.Native.Nat.{ℕ}
 use Rattle.listing.specs.Listing.{Listing, limits}
 use Rattle.search.specs.declared.Searched.{Searched}
-use Rattle.search.specs.Outcome.{searchedBy, tableAfter, bytesAfter}
+use Rattle.search.specs.SearchedBy.{searchedBy, tableAfter, bytesAfter}
 use Rattle.search.specs.Exact.{Promised}
 use Rattle.search.proofs.Exact.{promised}
 use Rattle.search.proofs.SearchBroken.{said, search-broken, refused-numbers}

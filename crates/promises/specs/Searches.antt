@@ -16,7 +16,7 @@ use Rattle.listing.specs.Listing.{Listing, limits, rank}
 use Rattle.search_store.specs.Rows.{rows}
 use Rattle.search.specs.declared.Searched.{Searched}
 use Rattle.search_walk.specs.Searched.{foundBy}
-use Rattle.search.specs.Outcome.{refusedAs, roomOf}
+use Rattle.search.specs.SearchedBy.{refusedAs, roomOf}
 use Rattle.search.specs.Exact.{Holds, Finds}
 use Rattle.listing.specs.Rules.{FirstBroken}
 use Rattle.search.specs.Rules.{searchRules}

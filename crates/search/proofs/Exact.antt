@@ -18,20 +18,20 @@ use Rattle.valid.proofs.ClosedExact.{closed-exact}
 use Rattle.flag_change.specs.Flags.{IsFlag, flagTest, startTest}
 use Rattle.flag_change.proofs.FlagExact.{flag-exact}
 use Rattle.flag_change.proofs.StartExact.{start-exact, start-none}
-use Rattle.search_theory.specs.Search.{State, More}
-use Rattle.search_theory.proofs.Found.{over-exact, over-full}
+use Rattle.search_theory.specs.Search.{State, AtLeast}
+use Rattle.search_theory.proofs.Found.{overflow-exact, overflow-full}
 use Rattle.search_theory.proofs.Prefix.{prefix}
 use Rattle.search_store.specs.Rows.{rows, sameList, flatten}
 use Rattle.search_store.proofs.Rows.{same-decides}
 use Rattle.search_masks.specs.Masks.{maskFits}
 use Rattle.search_masks.proofs.Ranks.{fits-exact}
 use Rattle.search.specs.declared.Searched.{Searched}
-use Rattle.search_walk.specs.Searched.{neighbours, foundBy}
-use Rattle.search.specs.Outcome.{refusedAs, foundAs, roomOf, tableAfter, bytesAfter}
-use Rattle.search.specs.Exact.{Inside, Taken, Leads, Holds, Finds, room, said, number, After, Promised}
-use Rattle.search.proofs.Leads.{more-leads}
-use Rattle.search.proofs.Outcomes.{Outcome, Written, room-fits, outcome-start, outcome-mask, said-full}
-use Rattle.search.proofs.Outcomes.{said-fine}
+use Rattle.search_walk.specs.Searched.{maskChanges, foundBy}
+use Rattle.search.specs.SearchedBy.{refusedAs, foundAs, roomOf, tableAfter, bytesAfter}
+use Rattle.search.specs.Exact.{Inside, Searchable, Leads, Holds, Finds, room, said, number, After, Promised}
+use Rattle.search.proofs.Leads.{least-leads}
+use Rattle.search.proofs.Cases.{Outcome, Written, room-fits, outcome-start, outcome-mask, said-full}
+use Rattle.search.proofs.Cases.{said-fine}
 use Rattle.search.proofs.Contents.{iff-trans, rows-are, holds, finds}
 use Rattle.search.proofs.Numbers.{start-most}
 
@@ -44,10 +44,10 @@ module _ (m : Limits) (L : Listing) (first : List ℕ) (mask : ℕ) (table bytes
     other-22 : number m L first mask table bytes ≢ 22
     table-kept : tableAfter m L first mask table bytes ≡ table
     bytes-kept : bytesAfter m L first mask table bytes ≡ bytes
-    untaken : ¬ Taken m L first mask
+    untaken : ¬ Searchable m L first mask
 
   refused : (r : Searched) → Outcome m L first mask table bytes r table bytes → r .answer .no ≢ 0 → r .answer .no ≢ 22
-      → (¬ Taken m L first mask) → Refused
+      → (¬ Searchable m L first mask) → Refused
   refused r o h k n = record {
     other-0 = rw (o .answer) at h;
     other-22 = rw (o .answer) at k;
@@ -56,21 +56,21 @@ module _ (m : Limits) (L : Listing) (first : List ℕ) (mask : ℕ) (table bytes
     untaken = n;
   }
 
-  tests : Taken m L first mask → (startTest m L first .no ≡ 0) × (maskFits (rank L) mask ≡ true)
+  tests : Searchable m L first mask → (startTest m L first .no ≡ 0) × (maskFits (rank L) mask ≡ true)
   tests T = (start-exact m L first .1 (T .closed, T .is-flag), fits-exact (rank L) mask .1 (T .within))
 
-  taken : startTest m L first .no ≡ 0 → maskFits (rank L) mask ≡ true → Taken m L first mask
+  taken : startTest m L first .no ≡ 0 → maskFits (rank L) mask ≡ true → Searchable m L first mask
   taken z f =
       let p = start-exact m L first .0 z in
       record { closed = p .0; is-flag = p .1; within = fits-exact (rank L) mask .0 f }
 
-  view : Refused ⊎ Taken m L first mask
+  view : Refused ⊎ Searchable m L first mask
   view = go (ℕ-discrete (startTest m L first .no) 0) (maskFits (rank L) mask) refl
     where
       a : Answer
       a = startTest m L first
 
-      go : Dec (a .no ≡ 0) → (b : Bool) → maskFits (rank L) mask ≡ b → Refused ⊎ Taken m L first mask
+      go : Dec (a .no ≡ 0) → (b : Bool) → maskFits (rank L) mask ≡ b → Refused ⊎ Searchable m L first mask
       go (no h) b f =
           inl (refused _ (outcome-start m L first mask table bytes a refl h) h
           (λ k. omega (arith, start-most m L first)) (λ T. h (tests T .0)))
@@ -81,24 +81,24 @@ module _ (m : Limits) (L : Listing) (first : List ℕ) (mask : ℕ) (table bytes
 
   -- ---- taken: over or not
 
-  module _ (T : Taken m L first mask) where
+  module _ (T : Searchable m L first mask) where
     abbrev F : State (List ℕ)
     F = foundBy L first mask (room m L first mask table bytes)
 
-    over-more : (F .over ≡ true) ↔ More (suc (room m L first mask table bytes)) (Leads L mask) first
+    overflow-more : (F .overflow ≡ true) ↔ AtLeast (suc (room m L first mask table bytes)) (Leads L mask) first
     unfolding foundBy
-    over-more = iff-trans (over-exact sameList same-decides _ (neighbours L mask) first) (more-leads T _)
+    overflow-more = iff-trans (overflow-exact sameList same-decides _ (maskChanges L mask) first) (least-leads T _)
 
-    full-said : F .over ≡ true → Written m L first mask table bytes (refusedAs (plain 22))
+    full-said : F .overflow ≡ true → Written m L first mask table bytes (refusedAs (plain 22))
     full-said o = said-full m L first mask table bytes (tests T .0) (tests T .1) o
 
-    fine-said : F .over ≡ false → Written m L first mask table bytes (foundAs fine (length (F .found)) (F .place))
+    fine-said : F .overflow ≡ false → Written m L first mask table bytes (foundAs fine (length (F .found)) (F .place))
     fine-said o = said-fine m L first mask table bytes (tests T .0) (tests T .1) o
 
-    full-number : F .over ≡ true → number m L first mask table bytes ≡ 22
+    full-number : F .overflow ≡ true → number m L first mask table bytes ≡ 22
     full-number o = ap (λ r. r .answer .no) (sym (full-said o .answer))
 
-    fine-number : F .over ≡ false → number m L first mask table bytes ≡ 0
+    fine-number : F .overflow ≡ false → number m L first mask table bytes ≡ 0
     fine-number o = ap (λ r. r .answer .no) (sym (fine-said o .answer))
 
     -- the slices have the room
@@ -118,34 +118,34 @@ module _ (m : Limits) (L : Listing) (first : List ℕ) (mask : ℕ) (table bytes
     held : Holds L first mask new-table new-bytes table bytes (length (F .found))
     held = holds T (room m L first mask table bytes) table bytes (fits .0) (fits .1)
 
-    full-long : F .over ≡ true → length (F .found) ≡ room m L first mask table bytes
+    full-long : F .overflow ≡ true → length (F .found) ≡ room m L first mask table bytes
     unfolding foundBy
-    full-long o = over-full sameList same-decides _ (neighbours L mask) first o
+    full-long o = overflow-full sameList same-decides _ (maskChanges L mask) first o
 
-    full-holds : F .over ≡ true → After m L first mask table bytes (room m L first mask table bytes)
+    full-holds : F .overflow ≡ true → After m L first mask table bytes (room m L first mask table bytes)
     full-holds o =
         let s = full-said o in
         rw (full-long o) at (rw (s .flags, s .turns) at held)
 
-    fine-holds : F .over ≡ false → After m L first mask table bytes (said m L first mask table bytes .count)
+    fine-holds : F .overflow ≡ false → After m L first mask table bytes (said m L first mask table bytes .count)
     fine-holds o =
         let s = fine-said o in
         rw (← s .answer) (rw (s .flags, s .turns) at held)
 
-    fine-finds : F .over ≡ false → Finds L first mask (tableAfter m L first mask table bytes)
+    fine-finds : F .overflow ≡ false → Finds L first mask (tableAfter m L first mask table bytes)
         (bytesAfter m L first mask table bytes) (said m L first mask table bytes)
     fine-finds o =
         let s = fine-said o in
         rw (← s .answer, ← s .flags, ← s .turns) (finds T (room m L first mask table bytes) table bytes o)
 
-    firsts : F .over ≡ true → (more : ℕ) → room m L first mask table bytes ≤ more
+    firsts : F .overflow ≡ true → (more : ℕ) → room m L first mask table bytes ≤ more
         → rows (rank L + 1) (tableAfter m L first mask table bytes) (room m L first mask table bytes)
         ≡ take (room m L first mask table bytes) (foundBy L first mask more .found)
     unfolding foundBy
     firsts o more h =
         let r = rows-are T (room m L first mask table bytes) table bytes in
         (rw (full-long o, full-said o .flags) at r)
-        ∙ prefix sameList same-decides _ more h (neighbours L mask) first .0
+        ∙ prefix sameList same-decides _ more h (maskChanges L mask) first .0
 
   -- ---- the refusals in their order
 
@@ -189,7 +189,7 @@ module _ (m : Limits) (L : Listing) (first : List ℕ) (mask : ℕ) (table bytes
     untouched = λ h k. (R .table-kept, R .bytes-kept);
   }
 
-  full-promised : (T : Taken m L first mask) → F T .over ≡ true → Promised m L first mask table bytes
+  full-promised : (T : Searchable m L first mask) → F T .overflow ≡ true → Promised m L first mask table bytes
   full-promised T o =
       let n = full-number T o in
       let other : number m L first mask table bytes ≢ 0 = λ e. omega arith in
@@ -197,8 +197,8 @@ module _ (m : Limits) (L : Listing) (first : List ℕ) (mask : ℕ) (table bytes
         unclosed = unclosed;
         no-flag = no-flag;
         outside = outside;
-        answered = (λ e. absurd (other e), λ p. absurd (p .1 (over-more T .0 o)));
-        full = (λ e. (T, over-more T .0 o), λ p. n);
+        answered = (λ e. absurd (other e), λ p. absurd (p .1 (overflow-more T .0 o)));
+        full = (λ e. (T, overflow-more T .0 o), λ p. n);
         fine-answer = λ e. absurd (other e);
         full-answer = λ e. sym (full-said T o .answer);
         holds = λ e. absurd (other e);
@@ -208,12 +208,12 @@ module _ (m : Limits) (L : Listing) (first : List ℕ) (mask : ℕ) (table bytes
         untouched = λ h k. absurd (k n);
       }
 
-  fine-promised : (T : Taken m L first mask) → F T .over ≡ false → Promised m L first mask table bytes
+  fine-promised : (T : Searchable m L first mask) → F T .overflow ≡ false → Promised m L first mask table bytes
   fine-promised T o =
       let n = fine-number T o in
       let other : number m L first mask table bytes ≢ 22 = λ e. omega arith in
-      let few : ¬ More (suc (room m L first mask table bytes)) (Leads L mask) first =
-      λ q. true≢false (sym (over-more T .1 q) ∙ o) in
+      let few : ¬ AtLeast (suc (room m L first mask table bytes)) (Leads L mask) first =
+      λ q. true≢false (sym (overflow-more T .1 q) ∙ o) in
       record {
         unclosed = unclosed;
         no-flag = no-flag;
@@ -236,11 +236,11 @@ pub promised : (m : Limits) (L : Listing) (first : List ℕ) (mask : ℕ) (table
     → Promised m L first mask table bytes
 promised m L first mask table bytes = go (view m L first mask table bytes)
   where
-    cases : (T : Taken m L first mask) (b : Bool) → F m L first mask table bytes T .over ≡ b
+    cases : (T : Searchable m L first mask) (b : Bool) → F m L first mask table bytes T .overflow ≡ b
         → Promised m L first mask table bytes
     cases T true o = full-promised m L first mask table bytes T o
     cases T false o = fine-promised m L first mask table bytes T o
 
-    go : Refused m L first mask table bytes ⊎ Taken m L first mask → Promised m L first mask table bytes
+    go : Refused m L first mask table bytes ⊎ Searchable m L first mask → Promised m L first mask table bytes
     go (inl R) = none-promised m L first mask table bytes R
-    go (inr T) = cases T (F m L first mask table bytes T .over) refl
+    go (inr T) = cases T (F m L first mask table bytes T .overflow) refl

@@ -15,7 +15,7 @@ use Rattle.search_theory.specs.Course.{Stands, Agrees, Inside, nbr, Came, Clash
 use Rattle.search_theory.proofs.Once.{in-at, at-in}
 use Rattle.search_masks.specs.Masks.{ranksOf}
 use Rattle.search_masks.proofs.Ranks.{ranks-exact, ranks-ascend}
-use Rattle.search_walk.specs.Searched.{neighbours}
+use Rattle.search_walk.specs.Searched.{maskChanges}
 use Rattle.search.specs.Exact.{Asked, FirstMet, Repeat}
 use Rattle.search_walk.proofs.Neighbours.{mem-in, in-mem}
 
@@ -55,18 +55,18 @@ module _ (mask : ℕ) where
 
 module _ (L : Listing) (mask : ℕ) (d : List ℕ) (row : ℕ → List ℕ) (byte : ℕ → ℕ) where
   abbrev N : List ℕ → List (List ℕ)
-  N = neighbours L mask
+  N = maskChanges L mask
 
   many : (j i : ℕ) → Inside N d row j i → i < length (ranksOf mask)
-  unfolding neighbours
+  unfolding maskChanges
   many j i h = omega (arith, map-length (λ r. changeAt L r (row j)) (ranksOf mask), h)
 
   few : (j i : ℕ) → i < length (ranksOf mask) → Inside N d row j i
-  unfolding neighbours
+  unfolding maskChanges
   few j i h = omega (arith, map-length (λ r. changeAt L r (row j)) (ranksOf mask), h)
 
   nbr-is : (j i : ℕ) → i < length (ranksOf mask) → nbr N d row j i ≡ changeAt L (rankAt mask i) (row j)
-  unfolding neighbours
+  unfolding maskChanges
   nbr-is j i h = map-at (λ r. changeAt L r (row j)) (ranksOf mask) i d h
 
   pub came-first : (p q k : ℕ) → Came N d row byte p q k → FirstMet L mask row byte k

@@ -1,5 +1,5 @@
 pub mod Numbers
-pub mod Outcomes
+pub mod Cases
 pub mod Leads
 pub mod Flat
 pub mod InOrder

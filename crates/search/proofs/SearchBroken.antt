@@ -17,13 +17,13 @@ use Rattle.valid.specs.Closed.{Closed}
 use Rattle.flag_change.specs.Flags.{startTest, IsFlag}
 use Rattle.flag_change.proofs.StartExact.{start-exact}
 use Rattle.flag_change.proofs.StartBroken.{start-then}
-use Rattle.search_theory.specs.Search.{State, More}
+use Rattle.search_theory.specs.Search.{State, AtLeast}
 use Rattle.search_masks.specs.Masks.{maskFits}
 use Rattle.search_masks.proofs.Ranks.{fits-exact}
 use Rattle.search_walk.specs.Searched.{foundBy}
 use Rattle.search.specs.declared.Searched.{Searched}
-use Rattle.search.specs.Outcome.{refusedAs, foundAs, roomOf, searchTest, searchedOf, searchedBy}
-use Rattle.search.specs.Exact.{Inside, Taken, Leads, Promised}
+use Rattle.search.specs.SearchedBy.{refusedAs, foundAs, roomOf, searchTest, searchedOf, searchedBy}
+use Rattle.search.specs.Exact.{Inside, Searchable, Leads, Promised}
 use Rattle.search.specs.Rules.{searchRules}
 use Rattle.search.proofs.Exact.{promised}
 
@@ -55,7 +55,7 @@ module _ (L : Listing) (first : List ℕ) (mask : ℕ) (table bytes : List ℕ) 
   test = searchTest limits L first mask room
 
   abbrev last : Answer
-  last = on (foundBy L first mask room .over) (plain 22)
+  last = on (foundBy L first mask room .overflow) (plain 22)
 
   P : Promised limits L first mask table bytes
   P = promised limits L first mask table bytes
@@ -72,12 +72,12 @@ module _ (L : Listing) (first : List ℕ) (mask : ℕ) (table bytes : List ℕ) 
       ∙ or-fine (on (not (maskFits (rank L) mask)) (plain 21)) last
       (on-off _ (plain 21) (ap not (fits-exact (rank L) mask .1 I)))
 
-  over-tested : Closed limits L → IsFlag L first → Inside L mask
-      → Tests 22 22 (¬ More (suc room) (Leads L mask) first) last
-  over-tested C F I =
+  overflow-tested : Closed limits L → IsFlag L first → Inside L mask
+      → Tests 22 22 (¬ AtLeast (suc room) (Leads L mask) first) last
+  overflow-tested C F I =
       let e : r .answer .no ≡ last .no = ap (λ (a : Answer). a .no) (said ∙ decides C F I) in
-      let T : Taken limits L first mask = record { closed = C; is-flag = F; within = I } in
-      tests-on (foundBy L first mask room .over) 22 (omega arith)
+      let T : Searchable limits L first mask = record { closed = C; is-flag = F; within = I } in
+      tests-on (foundBy L first mask room .overflow) 22 (omega arith)
       (λ f. P .answered .0 (e ∙ on-off _ (plain 22) f) .1)
       (λ n. on-no _ (plain 22) (λ z. omega arith) (sym e ∙ P .answered .1 (T, n)))
 
@@ -87,7 +87,7 @@ module _ (L : Listing) (first : List ℕ) (mask : ℕ) (table bytes : List ℕ) 
   search-broken =
       start-then limits L first _ _ (λ C F. broken-step _
       (tests-not (maskFits (rank L) mask) 21 (omega arith) (fits-exact (rank L) mask .0) (fits-exact (rank L) mask .1))
-      last (λ I. broken-last (over-tested C F I)))
+      last (λ I. broken-last (overflow-tested C F I)))
 
   -- Where it is refused, all other numbers are 0.
   pub refused-numbers : r .answer .no ≢ 0 → r ≡ refusedAs (r .answer)

@@ -33,29 +33,29 @@ use Rattle.valid.specs.Closed.{Closed}
 use Rattle.valid.specs.Tests.{closed}
 use Rattle.flag_change.specs.Flags.{IsFlag}
 use Rattle.flag_change.specs.Change.{changeAt}
-use Rattle.search_theory.specs.Search.{Once, More, Colouring, tone}
+use Rattle.search_theory.specs.Search.{Once, AtLeast, Colouring, tone}
 use Rattle.search_theory.specs.Course.{Stands, Agrees}
 use Rattle.search_store.specs.Rows.{rowOf, rows}
-use Rattle.search_masks.specs.Masks.{bit}
+use Rattle.search_masks.specs.Masks.{bitAt}
 use Rattle.search.specs.declared.Searched.{Searched}
 use Rattle.search_walk.specs.Searched.{foundBy}
-use Rattle.search.specs.Outcome.{refusedAs, roomOf, searchedBy, tableAfter, bytesAfter}
+use Rattle.search.specs.SearchedBy.{refusedAs, roomOf, searchedBy, tableAfter, bytesAfter}
 
 abbrev pub Inside : Listing → ℕ → Type 0
-Inside L mask = (r : ℕ) → r < 16 → bit mask r ≡ 1 → (0 < r) × (r < rank L)
+Inside L mask = (r : ℕ) → r < 16 → bitAt mask r ≡ 1 → (0 < r) × (r < rank L)
 
-pub record Taken (m : Limits) (L : Listing) (first : List ℕ) (mask : ℕ) : Type 0 where
+pub record Searchable (m : Limits) (L : Listing) (first : List ℕ) (mask : ℕ) : Type 0 where
   pub closed : Closed m L
   pub is-flag : IsFlag L first
   pub within : Inside L mask
 
 abbrev pub Asked : ℕ → ℕ → Type 0
-Asked mask r = (r < 16) × (bit mask r ≡ 1)
+Asked mask r = (r < 16) × (bitAt mask r ≡ 1)
 
 pub record Leads (L : Listing) (mask : ℕ) (f g : List ℕ) : Type 0 where
   pub at : ℕ
   pub inside : at < 16
-  pub asked : bit mask at ≡ 1
+  pub asked : bitAt mask at ≡ 1
   pub is-flag : IsFlag L g
   pub changed : ChangedAt at f g
 
@@ -104,7 +104,7 @@ module _ (L : Listing) (first : List ℕ) (mask : ℕ) (table′ bytes′ : List
 
   pub record Finds (r : Searched) : Type 0 where
     pub all : (f : List ℕ) → Reach (Leads L mask) first f → List·Memᴰ f (rows (rank L + 1) table′ (r .count))
-    pub count : More (r .count) (Leads L mask) first × ((n : ℕ) → More n (Leads L mask) first → n ≤ r .count)
+    pub count : AtLeast (r .count) (Leads L mask) first × ((n : ℕ) → AtLeast n (Leads L mask) first → n ≤ r .count)
     pub orientable : (r .orientable ≡ 1) ↔ Colouring (Leads L mask) first
     pub not-orientable : (r .orientable ≡ 0) ↔ (¬ Colouring (Leads L mask) first)
     pub place : (0 < r .place) ↔ (¬ Colouring (Leads L mask) first)
@@ -133,8 +133,8 @@ module _ (m : Limits) (L : Listing) (first : List ℕ) (mask : ℕ) (table bytes
     pub unclosed : ¬ Closed m L → said ≡ refusedAs (closed m L)
     pub no-flag : Closed m L → ¬ IsFlag L first → said ≡ refusedAs (plain notAFlag)
     pub outside : Closed m L → IsFlag L first → ¬ Inside L mask → said ≡ refusedAs (plain outsideRanks)
-    pub answered : (number ≡ 0) ↔ (Taken m L first mask × (¬ More (suc room) (Leads L mask) first))
-    pub full : (number ≡ moreFlags) ↔ (Taken m L first mask × More (suc room) (Leads L mask) first)
+    pub answered : (number ≡ 0) ↔ (Searchable m L first mask × (¬ AtLeast (suc room) (Leads L mask) first))
+    pub full : (number ≡ moreFlags) ↔ (Searchable m L first mask × AtLeast (suc room) (Leads L mask) first)
     pub fine-answer : number ≡ 0 → said .answer ≡ fine
     pub full-answer : number ≡ moreFlags → said ≡ refusedAs (plain moreFlags)
     pub holds : number ≡ 0 → After (said .count)

@@ -1,3 +1,3 @@
-pub mod Outcome
+pub mod SearchedBy
 pub mod Exact
 pub mod Rules

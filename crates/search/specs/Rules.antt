@@ -8,7 +8,7 @@ use Rattle.listing.specs.Listing.{Listing, Limits}
 use Rattle.listing.specs.Rules.{Rule, rule}
 use Rattle.valid.specs.Rules.{closedRules}
 use Rattle.flag_change.specs.Rules.{flagRule}
-use Rattle.search_theory.specs.Search.{More}
+use Rattle.search_theory.specs.Search.{AtLeast}
 use Rattle.search.specs.Exact.{Inside, Leads}
 
 abbrev pub searchRules : Limits → Listing → List ℕ → ℕ → ℕ → List Rule
@@ -16,4 +16,4 @@ searchRules m L f mask room =
     closedRules m L ++
     flagRule L f ∷
     rule outsideRanks (Inside L mask) ∷
-    rule moreFlags (¬ More (suc room) (Leads L mask) f) ∷ []
+    rule moreFlags (¬ AtLeast (suc room) (Leads L mask) f) ∷ []

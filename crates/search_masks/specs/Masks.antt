@@ -10,8 +10,8 @@ use Prim.Native.Nat.{ℕ, zero, suc, _+_, _/_, _%_, _^_}
 use lib.Dec.{eqb, ltb}
 use Rattle.order.specs.Tests.{every}
 
-abbrev pub bit : ℕ → ℕ → ℕ
-bit n r = n / 2 ^ r % 2
+abbrev pub bitAt : ℕ → ℕ → ℕ
+bitAt n r = n / 2 ^ r % 2
 
 unfoldable pub bitsIn : ℕ → ℕ → ℕ → List ℕ
 bitsIn zero b n = []
@@ -21,4 +21,4 @@ abbrev pub ranksOf : ℕ → List ℕ
 ranksOf mask = bitsIn 16 0 mask
 
 unfoldable pub maskFits : ℕ → ℕ → Bool
-maskFits rank mask = every (λ r. eqb (bit mask r) 0 || (ltb 0 r && ltb r rank)) 16
+maskFits rank mask = every (λ r. eqb (bitAt mask r) 0 || (ltb 0 r && ltb r rank)) 16

@@ -5,12 +5,12 @@ ghost use mathlib.Core.Bool.{_||_, _&&_};
 ghost use Prim.Native.Nat.{_-_, _^_, _≤_, _<_};
 ghost use lib.Dec.{eqb, ltb};
 ghost use lib.Count.{trailingZeros};
-ghost use Rattle.search_masks.specs.Masks.{bit, maskFits};
+ghost use Rattle.search_masks.specs.Masks.{bitAt, maskFits};
 
 // Whether rank r is to be changed.
 fn asked(mask: u16, r: u16) -> bool
     requires { ⌜ r < 16 ⌝ }
-    ensures { λ t. ⌜ t ≡ eqb (bit mask r) 1 ⌝ }
+    ensures { λ t. ⌜ t ≡ eqb (bitAt mask r) 1 ⌝ }
 {
     (mask >> r) & 1 == 1
 }
@@ -18,7 +18,7 @@ fn asked(mask: u16, r: u16) -> bool
 // Whether rank r is not to be changed, or can be: from 1 to rank - 1.
 fn allowed(mask: u16, rank: usize, r: u16) -> bool
     requires { ⌜ r < 16 ⌝ }
-    ensures { λ t. ⌜ t ≡ (eqb (bit mask r) 0 || (ltb 0 r && ltb r rank)) ⌝ }
+    ensures { λ t. ⌜ t ≡ (eqb (bitAt mask r) 0 || (ltb 0 r && ltb r rank)) ⌝ }
 {
     if !asked(mask, r) {
         return true;

@@ -20,7 +20,7 @@ ghost use Rattle.search_store.specs.Held.{stateOf, Held, Moved};
 pub struct Progress {
     pub count: u16,
     pub place: u16,
-    pub over: bool,
+    pub overflow: bool,
 }
 
 // The flag at hand, whose hash is h, goes into row n, with a byte.
@@ -63,7 +63,7 @@ pub fn meet(
 ) -> Progress
     requires { ⌜ (w ≤ 16) × (length (now flag) ≡ 16) × (h ≡ hashOf (take w (now flag))) ⌝ }
     requires { ⌜ Held w room (now table) (now bytes) (now heads) (now next) (s .count) ⌝ }
-    requires { ⌜ s .over ≡ false ⌝ }
+    requires { ⌜ s .overflow ≡ false ⌝ }
     ensures { λ r. ⌜ Moved w room (now (table .entry)) (now (bytes .entry)) s (now (table .exit)) (now (bytes .exit))
         (now (heads .exit)) (now (next .exit)) r
         (meetIn sameList room byte (stateOf w (now (table .entry)) (now (bytes .entry)) s)
@@ -81,7 +81,7 @@ pub fn meet(
         return Progress {
             count: n,
             place: n,
-            over: false,
+            overflow: false,
         };
     }
     if inner::wide(n) < room {
@@ -89,12 +89,12 @@ pub fn meet(
         return Progress {
             count: n + 1,
             place: s.place,
-            over: false,
+            overflow: false,
         };
     }
     Progress {
         count: n,
         place: s.place,
-        over: true,
+        overflow: true,
     }
 }

@@ -7,7 +7,7 @@ use Prim.Native.Nat.{ℕ, suc, _≤_, _<_}
 use native.Mathlib.Decide.{decLt}
 use native.Mathlib.Omega.{arith}
 use Rattle.order.specs.Lists.{Earlier}
-use Rattle.search_theory.specs.Course.{Stands, Agrees, Inside, nbr, Came, Clash}
+use Rattle.search_theory.specs.Course.{Stands, Agrees, HasNeighbour, nbr, Came, Clash}
 
 -- ---- which is met before which
 
@@ -45,7 +45,7 @@ module _ {A : Type 0} (nbrs : A → List A) (d : A) (row row′ : ℕ → A) (by
       let l : p < n = omega (arith, c .earlier) in
       record {
         earlier = c .earlier;
-        inside = rw (e p l) (c .inside);
+        there = rw (e p l) (c .there);
         is = rw (e p l, e k h) (c .is);
         turned = rw (f k h, f p l) (c .turned);
         first = λ j i m w.
@@ -61,7 +61,7 @@ module _ {A : Type 0} (nbrs : A → List A) (d : A) (row row′ : ℕ → A) (by
         from = c .from;
         at = c .at;
         known = c .known;
-        inside = rw (e (c .from) l) (c .inside);
+        there = rw (e (c .from) l) (c .there);
         index = c .index;
         below = c .below;
         is = rw (e (c .from) l, e (c .index) x) (c .is);
@@ -73,8 +73,8 @@ module _ {A : Type 0} (nbrs : A → List A) (d : A) (row row′ : ℕ → A) (by
       }
     where
       came : (a : ℕ) → a < k
-          → (j : ℕ) × (i : ℕ) × Earlier j i (c .from) (c .at) × Inside nbrs d row j i × (row a ≡ nbr nbrs d row j i)
-          → (j : ℕ) × (i : ℕ) × Earlier j i (c .from) (c .at) × Inside nbrs d row′ j i × (row′ a ≡ nbr nbrs d row′ j i)
+          → (j : ℕ) × (i : ℕ) × Earlier j i (c .from) (c .at) × HasNeighbour nbrs d row j i × (row a ≡ nbr nbrs d row j i)
+          → (j : ℕ) × (i : ℕ) × Earlier j i (c .from) (c .at) × HasNeighbour nbrs d row′ j i × (row′ a ≡ nbr nbrs d row′ j i)
       came a m t =
           let z : t .0 < n = omega (arith, earlier-le (t .2), c .known) in
           (t .0, t .1, t .2, rw (e (t .0) z) (t .3), rw (e (t .0) z, e a (omega arith)) (t .4))

@@ -10,16 +10,16 @@ use native.Mathlib.Omega.{arith}
 use lib.ListN.{length, getD, length-append}
 use lib.Seq.{getD-at}
 use Rattle.order.specs.Lists.{Earlier}
-use Rattle.search_theory.specs.Search.{State, nothing, add, overfull, placeAfter, again, indexIn, meet, meetAll, work}
+use Rattle.search_theory.specs.Search.{State, unbegun, add, overfull, placeAfter, again, indexIn, meet, meetAll, work}
 use Rattle.search_theory.specs.Search.{search, Decides}
-use Rattle.search_theory.specs.Course.{Inside, nbr, Came, Clash}
+use Rattle.search_theory.specs.Course.{HasNeighbour, nbr, Came, Clash}
 use Rattle.search_theory.proofs.Once.{length-snoc}
 use Rattle.search_theory.proofs.Lookup.{index-at}
 use Rattle.search_theory.proofs.Step.{place-kept, place-same, place-first, meet-cases, meet-paired, meet-fits}
 use Rattle.search_theory.proofs.Run.{run-ends}
 use Rattle.search_theory.proofs.Grown.{Grown, Grown·length, Grown·found, Grown·byte, again-grown, add-grown}
 use Rattle.search_theory.proofs.Grown.{meet-grown, work-grown}
-use Rattle.search_theory.proofs.Kept.{place-le}
+use Rattle.search_theory.proofs.Proper.{place-le}
 use Rattle.search_theory.proofs.Alike.{earlier-le, earlier-up, earlier-split, came-alike, clash-alike}
 use Rattle.search_theory.proofs.Stored.{Stored, Stored·grown, again-stored, add-stored}
 
@@ -38,19 +38,19 @@ module _ {A : Type 0} (nbrs : A → List A) (d : A) where
     placed : s .place ≤ length (s .found)
     came : (n : ℕ) → 0 < n → n < length (s .found)
         → (p : ℕ) × (q : ℕ) × Came nbrs d (rowIn s) (byteIn s) p q n × Earlier p q k i
-    met : s .over ≡ false → (j q : ℕ) → Earlier j q k i → Inside nbrs d (rowIn s) j q
+    met : s .overflow ≡ false → (j q : ℕ) → Earlier j q k i → HasNeighbour nbrs d (rowIn s) j q
         → Stored d (1 - byteIn s j) (nbr nbrs d (rowIn s) j q) s
     clash : 0 < s .place → Clash nbrs d (rowIn s) (byteIn s) (s .place)
 
-  module _ (k i b : ℕ) (s : State A) (y : A) (h : k < length (s .found)) (u : Inside nbrs d (rowIn s) k i)
+  module _ (k i b : ℕ) (s : State A) (y : A) (h : k < length (s .found)) (u : HasNeighbour nbrs d (rowIn s) k i)
       (e : nbr nbrs d (rowIn s) k i ≡ y) (g : b ≡ 1 - byteIn s k) (c : Course k i s) where
     came-up : (n : ℕ) → 0 < n → n < length (s .found)
         → (p : ℕ) × (q : ℕ) × Came nbrs d (rowIn s) (byteIn s) p q n × Earlier p q k (suc i)
     came-up n z m = let t = c .came n z m in (t .0, t .1, t .2, earlier-up (t .3))
 
-    over-course : (t : State A) → t .found ≡ s .found → t .bytes ≡ s .bytes → t .place ≡ s .place → t .over ≡ true
+    overflow-course : (t : State A) → t .found ≡ s .found → t .bytes ≡ s .bytes → t .place ≡ s .place → t .overflow ≡ true
         → Course k (suc i) t
-    over-course t f w p o = record {
+    overflow-course t f w p o = record {
       paired = rw (f, w) (c .paired);
       placed = rw (f, p) (c .placed);
       came = rw (f, w) came-up;
@@ -58,7 +58,7 @@ module _ {A : Type 0} (nbrs : A → List A) (d : A) where
       clash = rw (f, w, p) (c .clash);
     }
 
-    module _ (o : s .over ≡ false) where
+    module _ (o : s .overflow ≡ false) where
       -- the first repeat with another byte
       first-clash : (x : ℕ) → x < length (s .found) → rowIn s x ≡ y → s .place ≡ 0 → byteIn s x ≢ b
           → Clash nbrs d (rowIn s) (byteIn s) (length (s .found))
@@ -66,7 +66,7 @@ module _ {A : Type 0} (nbrs : A → List A) (d : A) where
         from = k;
         at = i;
         known = h;
-        inside = u;
+        there = u;
         index = x;
         below = l;
         is = w ∙ sym e;
@@ -74,7 +74,7 @@ module _ {A : Type 0} (nbrs : A → List A) (d : A) where
         met = λ j q m v.
             let t = c .met o j q m v in
             record { index = t .index; below = t .known; is = t .stands; with = t .byte z };
-        few = λ a v m. let t = c .came a v m in (t .0, t .1, t .3, t .2 .inside, t .2 .is);
+        few = λ a v m. let t = c .came a v m in (t .0, t .1, t .3, t .2 .there, t .2 .is);
       }
 
       again-course : (x : ℕ) → x < length (s .found) → rowIn s x ≡ y → Course k (suc i) (again b s x)
@@ -86,7 +86,7 @@ module _ {A : Type 0} (nbrs : A → List A) (d : A) where
         clash = clashed (ℕ-discrete (s .place) 0) (ℕ-discrete (byteIn s x) b);
       }
         where
-          known : (j q : ℕ) → Inside nbrs d (rowIn s) j q → Earlier j q k i ⊎ ((j ≡ k) × (q ≡ i))
+          known : (j q : ℕ) → HasNeighbour nbrs d (rowIn s) j q → Earlier j q k i ⊎ ((j ≡ k) × (q ≡ i))
               → Stored d (1 - byteIn s j) (nbr nbrs d (rowIn s) j q) (again b s x)
           known j q n (inl m) = Stored·grown d _ _ (again-grown b s x) (c .paired) (c .met o j q m n)
           known j q n (inr m) = rw (m .0, m .1, e, ← g) (again-stored d b y s x l w)
@@ -117,7 +117,7 @@ module _ {A : Type 0} (nbrs : A → List A) (d : A) where
           bytes : (n : ℕ) → n < length (s .found) → byteIn t n ≡ byteIn s n
           bytes n l = Grown·byte (add-grown b s y) n (omega (arith, c .paired))
 
-          known : (j q : ℕ) → Inside nbrs d (rowIn s) j q → Earlier j q k i ⊎ ((j ≡ k) × (q ≡ i))
+          known : (j q : ℕ) → HasNeighbour nbrs d (rowIn s) j q → Earlier j q k i ⊎ ((j ≡ k) × (q ≡ i))
               → Stored d (1 - byteIn s j) (nbr nbrs d (rowIn s) j q) t
           known j q n (inl m) = Stored·grown d _ _ (add-grown b s y) (c .paired) (c .met o j q m n)
           known j q n (inr m) = rw (m .0, m .1, e, ← g) (add-stored d b y s (c .paired))
@@ -126,7 +126,7 @@ module _ {A : Type 0} (nbrs : A → List A) (d : A) where
           new : Came nbrs d (rowIn t) (byteIn t) k i (length (s .found))
           new = record {
             earlier = h;
-            inside = rw (rows k h) u;
+            there = rw (rows k h) u;
             is = rw (rows k h) (getD-at (s .found) y [] d (length (s .found)) refl ∙ sym e);
             turned = rw (bytes k h) (getD-at (s .bytes) b [] 0 (length (s .found)) (c .paired) ∙ g);
             first = λ j q m n.
@@ -146,15 +146,15 @@ module _ {A : Type 0} (nbrs : A → List A) (d : A) where
               (k, i, rw w new, inr (refl, omega arith))
 
   module _ (same : A → A → Bool) (decides : Decides same) (room : ℕ) where
-    meet-course : (k i b : ℕ) (s : State A) (y : A) → k < length (s .found) → Inside nbrs d (rowIn s) k i
+    meet-course : (k i b : ℕ) (s : State A) (y : A) → k < length (s .found) → HasNeighbour nbrs d (rowIn s) k i
         → nbr nbrs d (rowIn s) k i ≡ y → b ≡ 1 - byteIn s k → Course k i s → Course k (suc i) (meet same room b s y)
     meet-course k i b s y h u e g c =
         meet-cases same room b s y (Course k (suc i))
-        (λ o. over-course k i b s y h u e g c s refl refl refl o)
+        (λ o. overflow-course k i b s y h u e g c s refl refl refl o)
         (λ o x. again-course k i b s y h u e g c o (indexIn same (s .found) y) x
         (index-at same decides (s .found) d y x))
         (λ o x r. add-course k i b s y h u e g c o)
-        (λ o x r. over-course k i b s y h u e g c (overfull s) refl refl refl refl)
+        (λ o x r. overflow-course k i b s y h u e g c (overfull s) refl refl refl refl)
 
     -- the neighbours of x, the kth, are met; those in `before` were
     meets-course : (k b : ℕ) (s : State A) (x : A) (before l : List A) → nbrs x ≡ before ++ l → k < length (s .found)
@@ -176,8 +176,8 @@ module _ {A : Type 0} (nbrs : A → List A) (d : A) where
         r : Grown s t
         r = meet-grown same room b s y
 
-        inside : Inside nbrs d (rowIn s) k (length before)
-        inside = rw (e, n) (omega (arith, length-append before (y ∷ l)))
+        inside : HasNeighbour nbrs d (rowIn s) k (length before)
+        there = rw (e, n) (omega (arith, length-append before (y ∷ l)))
 
         is : nbr nbrs d (rowIn s) k (length before) ≡ y
         is = rw (e, n) (getD-at before y l d (length before) refl)
@@ -192,7 +192,7 @@ module _ {A : Type 0} (nbrs : A → List A) (d : A) where
     clash = c .clash;
   }
     where
-      back : (j q : ℕ) → Inside nbrs d (rowIn s) j q → Earlier j q (suc k) 0
+      back : (j q : ℕ) → HasNeighbour nbrs d (rowIn s) j q → Earlier j q (suc k) 0
           → Earlier j q k (length (nbrs (rowIn s k)))
       back j q n (inr m) = absurd (omega (arith, m .1))
       back j q n (inl m) = go (decLt j k)
@@ -215,34 +215,34 @@ module _ {A : Type 0} (same : A → A → Bool) (decides : Decides same) (room :
       (rw (Grown·found (work-grown same room nbrs a k s) a k h)
       (meets-course nbrs a same decides room k _ s (getD (s .found) k a) [] _ refl h refl refl c))
 
-  start-course : Course nbrs a 0 0 (meet same room 0 nothing a)
+  start-course : Course nbrs a 0 0 (meet same room 0 unbegun a)
   start-course = record {
-    paired = meet-paired same room 0 nothing a refl;
+    paired = meet-paired same room 0 unbegun a refl;
     placed = rw still (omega arith);
     came = λ n z m. absurd (omega (arith, few));
     met = λ o j q m. absurd (none m);
     clash = λ p. absurd (omega (arith, still));
   }
     where
-      still : meet same room 0 nothing a .place ≡ 0
+      still : meet same room 0 unbegun a .place ≡ 0
       still =
-          meet-cases same room 0 nothing a (λ t. t .place ≡ 0) (λ o. refl) (λ o i. absurd (omega arith)) (λ o i r. refl)
+          meet-cases same room 0 unbegun a (λ t. t .place ≡ 0) (λ o. refl) (λ o i. absurd (omega arith)) (λ o i r. refl)
           (λ o i r. refl)
 
-      few : length (meet same room 0 nothing a .found) ≤ 1
+      few : length (meet same room 0 unbegun a .found) ≤ 1
       few =
-          meet-cases same room 0 nothing a (λ t. length (t .found) ≤ 1) (λ o. omega arith) (λ o i. omega arith)
+          meet-cases same room 0 unbegun a (λ t. length (t .found) ≤ 1) (λ o. omega arith) (λ o i. omega arith)
           (λ o i r. omega arith) (λ o i r. omega arith)
 
       none : {j q : ℕ} → Earlier j q 0 0 → ⊥
       none (inl m) = omega arith
       none (inr m) = omega (arith, m .1)
 
-  search-course : (k : ℕ) × Course nbrs a k 0 S × (S .over ≡ false → length (S .found) ≤ k)
+  search-course : (k : ℕ) × Course nbrs a k 0 S × (S .overflow ≡ false → length (S .found) ≤ k)
   unfolding search
   search-course =
       run-ends same room nbrs a (λ k. Course nbrs a k 0) (λ k s o i c. work-course k s i c) 0
-      (meet same room 0 nothing a) (meet-fits same room 0 nothing a (omega arith)) start-course
+      (meet same room 0 unbegun a) (meet-fits same room 0 unbegun a (omega arith)) start-course
 
   -- Each thing but the first came as a neighbour of one before it, and all that was met before stands before it.
   pub search-came : (n : ℕ) → 0 < n → n < length (S .found)

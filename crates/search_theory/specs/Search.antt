@@ -37,26 +37,26 @@ pub record State (A : Type 0) : Type 0 where
   pub found : List A
   pub bytes : List ℕ
   pub place : ℕ
-  pub over : Bool
+  pub overflow : Bool
 
 module _ {A : Type 0} where
-  abbrev pub nothing : State A
-  nothing = record { found = []; bytes = []; place = 0; over = false }
+  abbrev pub unbegun : State A
+  unbegun = record { found = []; bytes = []; place = 0; overflow = false }
 
   abbrev pub add : ℕ → State A → A → State A
-  add b s y = record { found = s .found ++ (y ∷ []); bytes = s .bytes ++ (b ∷ []); place = s .place; over = s .over }
+  add b s y = record { found = s .found ++ (y ∷ []); bytes = s .bytes ++ (b ∷ []); place = s .place; overflow = s .overflow }
 
   abbrev pub overfull : State A → State A
-  overfull s = record { found = s .found; bytes = s .bytes; place = s .place; over = true }
+  overfull s = record { found = s .found; bytes = s .bytes; place = s .place; overflow = true }
 
   unfoldable pub placeAfter : ℕ → State A → ℕ → ℕ
   placeAfter b s i = cond (eqb (s .place) 0 && not (eqb (getD (s .bytes) i 0) b)) (length (s .found)) (s .place)
 
   abbrev pub again : ℕ → State A → ℕ → State A
-  again b s i = record { found = s .found; bytes = s .bytes; place = placeAfter b s i; over = s .over }
+  again b s i = record { found = s .found; bytes = s .bytes; place = placeAfter b s i; overflow = s .overflow }
 
   unfoldable pub waits : ℕ → State A → Bool
-  waits k s = not (s .over) && ltb k (length (s .found))
+  waits k s = not (s .overflow) && ltb k (length (s .found))
 
 module _ {A : Type 0} (same : A → A → Bool) where
   unfoldable pub indexIn : List A → A → ℕ
@@ -66,7 +66,7 @@ module _ {A : Type 0} (same : A → A → Bool) where
   module _ (room : ℕ) where
     unfoldable pub meet : ℕ → State A → A → State A
     meet b s y =
-        cond (s .over) s
+        cond (s .overflow) s
         (cond (ltb (indexIn (s .found) y) (length (s .found))) (again b s (indexIn (s .found) y))
         (cond (ltb (length (s .found)) room) (add b s y)
         (overfull s)))
@@ -88,7 +88,7 @@ module _ {A : Type 0} (same : A → A → Bool) where
       run k s = runFor (room - k) k s
 
       unfoldable pub search : State A
-      search = run 0 (meet 0 nothing a)
+      search = run 0 (meet 0 unbegun a)
 
 module _ {A : Type 0} where
   abbrev pub Neighbour : (A → List A) → A → A → Type 0
@@ -101,7 +101,7 @@ module _ {A : Type 0} where
   Once [] = Unit {0}
   Once (x ∷ l) = (¬ List·Memᴰ x l) × Once l
 
-  pub record More (n : ℕ) (R : A → A → Type 0) (a : A) : Type 0 where
+  pub record AtLeast (n : ℕ) (R : A → A → Type 0) (a : A) : Type 0 where
     pub things : List A
     pub many : length things ≡ n
     pub once : Once things
@@ -113,14 +113,14 @@ module _ {A : Type 0} where
     pub missing : ¬ List·Memᴰ thing l
     pub reached : Reach R a thing
 
-  pub record Kept (room : ℕ) (R : A → A → Type 0) (a : A) (s : State A) : Type 0 where
+  pub record Proper (room : ℕ) (R : A → A → Type 0) (a : A) (s : State A) : Type 0 where
     pub once : Once (s .found)
     pub fits : length (s .found) ≤ room
     pub reached : (x : A) → List·Memᴰ x (s .found) → Reach R a x
     pub paired : length (s .bytes) ≡ length (s .found)
     pub binary : (k : ℕ) → getD (s .bytes) k 0 ≤ 1
     pub placed : s .place ≤ length (s .found)
-    pub beyond : s .over ≡ true → Beyond room R a (s .found)
+    pub beyond : s .overflow ≡ true → Beyond room R a (s .found)
 
   pub record Colouring (R : A → A → Type 0) (a : A) : Type 0 where
     pub colour : A → Bool

@@ -20,7 +20,7 @@ use Rattle.search_theory.proofs.Step.{meet-cases}
 use Rattle.search_store.specs.Rows.{rows}
 use Rattle.search_store.proofs.Rows.{rows-length, rows-at}
 use Rattle.search_masks.specs.Masks.{ranksOf}
-use Rattle.search_walk.specs.Searched.{neighbours}
+use Rattle.search_walk.specs.Searched.{maskChanges}
 use Rattle.search_walk.specs.Ready.{Within, AllFlags}
 
 -- a member, as the lists of numbers have it
@@ -31,8 +31,8 @@ mem-in x l (List·Memᴰ·tail {xs = m} h) = inr (mem-in x m h)
 
 module _ {m : Limits} (L : Listing) (C : Closed m L) (mask : ℕ) (W : Within L mask) (f : List ℕ) (F : IsFlag L f)
   where
-    pub neighbour-flag : (y : List ℕ) → List·Memᴰ y (neighbours L mask f) → IsFlag L y
-    unfolding neighbours
+    pub neighbour-flag : (y : List ℕ) → List·Memᴰ y (maskChanges L mask f) → IsFlag L y
+    unfolding maskChanges
     neighbour-flag y m =
         let t = Memᴰ·of-map (λ r. changeAt L r f) (ranksOf mask) m in
         let b = W (t .0) (mem-in (t .0) (ranksOf mask) (t .1)) in

@@ -14,14 +14,14 @@ use Rattle.order.specs.Lists.{In}
 use Rattle.listing.specs.Listing.{width, Listing, rank}
 use Rattle.flag_change.specs.Change.{changeAt}
 use Rattle.search_theory.specs.Search.{State, meet, meetAll}
-use Rattle.search_theory.proofs.Step.{meets-over}
+use Rattle.search_theory.proofs.Step.{meets-overflow}
 use Rattle.search_store.specs.declared.found.Progress.{Progress}
 use Rattle.search_store.specs.Rows.{sameList}
 use Rattle.search_store.specs.Held.{stateOf, Held, Rest, Moved}
 use Rattle.search_store.proofs.Meets.{moved-none}
 use Rattle.search_masks.specs.Masks.{ranksOf}
 use Rattle.search_masks.proofs.Ranks.{ranks-next, ranks-none}
-use Rattle.search_walk.specs.Searched.{neighbours}
+use Rattle.search_walk.specs.Searched.{maskChanges}
 use Rattle.search_walk.specs.Ready.{Within}
 
 -- ---- one move after another
@@ -63,13 +63,13 @@ pub record Working (L : Listing) (room : ℕ) (t₀ b₀ : List ℕ) (s₀ : Pro
   pub moved : Moved (length (L .counts)) room t₀ b₀ s₀ t b h x s (stateOf (length (L .counts)) t b s)
   pub small : left < width
   pub within : Within L left
-  pub whole : W ≡ meetAll sameList room byte (stateOf (length (L .counts)) t b s) (neighbours L left f)
+  pub whole : W ≡ meetAll sameList room byte (stateOf (length (L .counts)) t b s) (maskChanges L left f)
 
 module _ (L : Listing) (room : ℕ) (byte : ℕ) (f : List ℕ) where
   pub working-start : {t b h x : List ℕ} {s : Progress} (mask : ℕ) → Held (length (L .counts)) room t b h x (s .count)
       → mask < width → Within L mask
       → Working L room t b s byte f
-      (meetAll sameList room byte (stateOf (length (L .counts)) t b s) (neighbours L mask f))
+      (meetAll sameList room byte (stateOf (length (L .counts)) t b s) (maskChanges L mask f))
       t b h x mask s
   working-start {s = s} mask H m w =
       record { moved = moved-none _ _ _ _ _ _ s H s refl refl; small = m; within = w; whole = refl }
@@ -84,8 +84,8 @@ module _ (L : Listing) (room : ℕ) (byte : ℕ) (f : List ℕ) where
       unfolding In
       working-rank = K .within r (rw split (inl refl))
 
-      neighbours-next : neighbours L left f ≡ changeAt L r f ∷ neighbours L (left - 2 ^ r) f
-      unfolding neighbours
+      neighbours-next : maskChanges L left f ≡ changeAt L r f ∷ maskChanges L (left - 2 ^ r) f
+      unfolding maskChanges
       neighbours-next = ap (map (λ k. changeAt L k f)) split
 
       pub working-next : {t′ b′ h′ x′ : List ℕ} {s′ : Progress} (left′ : ℕ) → left′ ≡ left - 2 ^ r
@@ -100,16 +100,16 @@ module _ (L : Listing) (room : ℕ) (byte : ℕ) (f : List ℕ) where
             within = λ k m. K .within k (rw split (inr m));
             whole =
                 K .whole ∙ ap (meetAll sameList room byte (stateOf (length (L .counts)) t b s)) neighbours-next
-                ∙ ap (λ S. meetAll sameList room byte S (neighbours L (left - 2 ^ r) f)) (sym (M .state));
+                ∙ ap (λ S. meetAll sameList room byte S (maskChanges L (left - 2 ^ r) f)) (sym (M .state));
           })
 
-    pub working-stop : s .over ≡ true → Moved (length (L .counts)) room t₀ b₀ s₀ t b h x s W
+    pub working-stop : s .overflow ≡ true → Moved (length (L .counts)) room t₀ b₀ s₀ t b h x s W
     unfolding stateOf
     working-stop o =
         moved-to (K .moved)
         (sym (K .whole
-        ∙ meets-over sameList room byte (stateOf (length (L .counts)) t b s) (neighbours L left f) o))
+        ∙ meets-overflow sameList room byte (stateOf (length (L .counts)) t b s) (maskChanges L left f) o))
 
     pub working-end : left ≡ 0 → Moved (length (L .counts)) room t₀ b₀ s₀ t b h x s W
-    unfolding neighbours meetAll
+    unfolding maskChanges meetAll
     working-end z = moved-to (K .moved) (sym (K .whole ∙ rw (z, ranks-none) refl))

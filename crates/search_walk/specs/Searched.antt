@@ -10,8 +10,8 @@ use Rattle.search_theory.specs.Search.{State, search}
 use Rattle.search_store.specs.Rows.{sameList}
 use Rattle.search_masks.specs.Masks.{ranksOf}
 
-unfoldable pub neighbours : Listing → ℕ → List ℕ → List (List ℕ)
-neighbours L mask f = map (λ r. changeAt L r f) (ranksOf mask)
+unfoldable pub maskChanges : Listing → ℕ → List ℕ → List (List ℕ)
+maskChanges L mask f = map (λ r. changeAt L r f) (ranksOf mask)
 
 unfoldable pub foundBy : Listing → List ℕ → ℕ → ℕ → State (List ℕ)
-foundBy L first mask room = search sameList room (neighbours L mask) first
+foundBy L first mask room = search sameList room (maskChanges L mask) first

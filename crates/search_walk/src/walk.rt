@@ -22,7 +22,7 @@ ghost use Rattle.flag_change.specs.Change.{changeAt};
 ghost use Rattle.search_theory.specs.Search.{meet as meetIn, meetAll, run as runIn};
 ghost use Rattle.search_store.specs.Rows.{rowOf, sameList};
 ghost use Rattle.search_store.specs.Held.{stateOf, Held, Moved};
-ghost use Rattle.search_walk.specs.Searched.{neighbours, foundBy};
+ghost use Rattle.search_walk.specs.Searched.{maskChanges, foundBy};
 ghost use Rattle.search_walk.specs.Ready.{Ended, AllFlags, Places, Within, Ready, AtHand};
 
 // The byte of the other orientation.
@@ -70,7 +70,7 @@ fn try_next(
     requires { ⌜ AtHand (held counts ends inc) (now flag) sum ⌝ }
     requires { ⌜ (0 < r) × (r < rank (held counts ends inc)) ⌝ }
     requires { ⌜ Held (length (now counts)) room (now table) (now bytes) (now heads) (now next) (s .count) ⌝ }
-    requires { ⌜ s .over ≡ false ⌝ }
+    requires { ⌜ s .overflow ≡ false ⌝ }
     ensures { λ p. ⌜ now (flag .exit) ≡ now (flag .entry) ⌝ }
     ensures { λ p. ⌜ Moved (length (now (counts .entry))) room (now (table .entry)) (now (bytes .entry)) s
         (now (table .exit)) (now (bytes .exit)) (now (heads .exit)) (now (next .exit)) p
@@ -117,12 +117,12 @@ fn work(
     requires { ⌜ Within (held counts ends inc) mask ⌝ }
     requires { ⌜ Held (length (now counts)) room (now table) (now bytes) (now heads) (now next) (start .count) ⌝ }
     requires { ⌜ AllFlags (held counts ends inc) (now table) (start .count) ⌝ }
-    requires { ⌜ (k < start .count) × (start .over ≡ false) ⌝ }
+    requires { ⌜ (k < start .count) × (start .overflow ≡ false) ⌝ }
     ensures { λ p. ⌜ Moved (length (now (counts .entry))) room (now (table .entry)) (now (bytes .entry)) start
         (now (table .exit)) (now (bytes .exit)) (now (heads .exit)) (now (next .exit)) p
         (meetAll sameList room (1 - getD (now (bytes .entry)) k 0)
         (stateOf (length (now (counts .entry))) (now (table .entry)) (now (bytes .entry)) start)
-        (neighbours (held (counts .entry) (ends .entry) (inc .entry)) mask
+        (maskChanges (held (counts .entry) (ends .entry) (inc .entry)) mask
         (rowOf (length (now (counts .entry))) (now (table .entry)) k))) ⌝ }
 {
     let w = counts.len();
@@ -134,7 +134,7 @@ fn work(
     let mut left = mask;
     let mut s = start;
     while mask::any_left(left) {
-        if s.over {
+        if s.overflow {
             return s;
         }
         let r = mask::lowest(left);
@@ -181,13 +181,13 @@ fn run(
     requires { ⌜ AllFlags (held counts ends inc) (now table) (start .count) ⌝ }
     ensures { λ p. ⌜ ((a : List ℕ) → Moved (length (now (counts .entry))) room (now (table .entry)) (now (bytes .entry))
         start (now (table .exit)) (now (bytes .exit)) (now (heads .exit)) (now (next .exit)) p
-        (runIn sameList room (neighbours (held (counts .entry) (ends .entry) (inc .entry)) mask) a
+        (runIn sameList room (maskChanges (held (counts .entry) (ends .entry) (inc .entry)) mask) a
         0 (stateOf (length (now (counts .entry))) (now (table .entry)) (now (bytes .entry)) start))) ⌝ }
 {
     let mut s = start;
     let mut k: u16 = 0;
     while k < s.count {
-        if s.over {
+        if s.overflow {
             return s;
         }
         s = work(
@@ -241,7 +241,7 @@ pub fn search_from(
     let none = Progress {
         count: 0,
         place: 0,
-        over: false,
+        overflow: false,
     };
     let s = found::meet(
         table,

@@ -16,8 +16,8 @@ use Rattle.search_masks.specs.Masks.{maskFits}
 use Rattle.search_masks.proofs.Ranks.{fits-ranks}
 use Rattle.search_walk.specs.Ready.{Ended}
 use Rattle.search_walk.specs.Searched.{foundBy}
-use Rattle.search.specs.Outcome.{refusedAs, roomOf}
-use Rattle.search.proofs.Outcomes.{room-is, room-fits, outcome-start, outcome-mask, outcome-over, outcome-found}
+use Rattle.search.specs.SearchedBy.{refusedAs, roomOf}
+use Rattle.search.proofs.Cases.{room-is, room-fits, outcome-start, outcome-mask, outcome-overflow, outcome-found}
 use Rattle.search.proofs.search.Statement.{statement}
 use Rattle.search.proofs.search.Tie as tie
 
@@ -152,7 +152,7 @@ returns-3 c =
     let e = searched (c .before .before .before) in
     let r = ready e in
     let s = began (passed (r .before)) in
-    let o = outcome-over limits (L s) (s .args .first .now) (s .args .mask) (s .args .table .now) (s .args .bytes .now)
+    let o = outcome-overflow limits (L s) (s .args .first .now) (s .args .mask) (s .args .table .now) (s .args .bytes .now)
     (start-fine (passed (r .before))) (mask-fine (r .before)) (ended e) (within e) (c .before .before .if3 .taken) in
     (c .refused3 .ensures ∙ ap refusedAs (c .before .plain2 .ensures) ∙ o .answer, (o .flags, o .turns))
 

@@ -71,7 +71,7 @@ returns-3 c =
     let f = sought (c .before) in
     let s = begun (f .before) in
     let a = s .args .s in
-    none s (record { count = a .count; place = a .count; over = false }) refl
+    none s (record { count = a .count; place = a .count; overflow = false }) refl
     (known-first _ _ _ _ _ (s .pre .1 .1) _ _ _ (f .find .ensures) (c .before .before .before .before .before .if1 .taken) (c .before .before .before .if2 .left)
     (λ q. c .if3 .left (rw (c .before .before .wide .ensures .0) q)))
 
@@ -122,7 +122,7 @@ returns-5 c =
     let f = c .before .before .before in
     let s = begun (f .before) in
     let a = s .args .s in
-    none s (record { count = a .count; place = a .place; over = true }) refl
+    none s (record { count = a .count; place = a .place; overflow = true }) refl
     (new-full _ _ _ _ _ (s .pre .1 .1) _ _ _ (f .find .ensures) (c .before .before .if1 .left) (omega arith))
 
 pub meet-spec : {M : Type 1} → statement M

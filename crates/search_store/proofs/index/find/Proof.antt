@@ -7,7 +7,7 @@ use Prim.Native.Nat.{ℕ, _-_}
 use native.Mathlib.Omega.{arith}
 use borrow.Author.Needs.{needs}
 use lib.ListN.{take}
-use Rattle.search_store.proofs.Chains.{Down, down-start, down-next, down-found, down-none, chain-below}
+use Rattle.search_store.proofs.Indexing.{Down, down-start, down-next, down-found, down-none, chain-below}
 use Rattle.search_store.proofs.Rows.{row-end}
 use Rattle.search_store.proofs.Hash.{hash-small}
 use Rattle.search_store.proofs.index.find.Statement.{statement}

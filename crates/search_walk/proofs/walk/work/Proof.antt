@@ -15,7 +15,7 @@ use Rattle.search_store.specs.Rows.{sameList, rowOf}
 use Rattle.search_store.proofs.Rows.{row-end}
 use Rattle.search_masks.proofs.Low.{low-fits}
 use Rattle.search_walk.specs.Ready.{AtHand}
-use Rattle.search_walk.specs.Searched.{neighbours}
+use Rattle.search_walk.specs.Searched.{maskChanges}
 use Rattle.search_walk.proofs.Works.{Working, working-start, working-rank, working-next, working-stop, working-end}
 use Rattle.search_walk.proofs.walk.work.Statement.{statement}
 use Rattle.search_walk.proofs.walk.work.Tie as tie
@@ -26,7 +26,7 @@ Inv-loop counts ends inc places weights table₀ bytes₀ heads₀ next₀ mask 
     (flag ≡ flag₀) × Working (listing counts ends inc) room table₀ bytes₀ s₀ (1 - getD bytes₀ k 0)
     (rowOf (length counts) table₀ k)
     (meetAll sameList room (1 - getD bytes₀ k 0) (stateOf (length counts) table₀ bytes₀ s₀)
-    (neighbours (listing counts ends inc) mask (rowOf (length counts) table₀ k))) table bytes heads next left s
+    (maskChanges (listing counts ends inc) mask (rowOf (length counts) table₀ k))) table bytes heads next left s
 
 abbrev μ-loop : tie.MeasureT-loop
 μ-loop counts ends inc places weights table₀ bytes₀ heads₀ next₀ mask k room w at flag₀ sum byte left₀ s₀ table bytes

@@ -39,7 +39,7 @@ unfoldable pub searchTest : Limits → Listing → List ℕ → ℕ → ℕ → 
 searchTest m L first mask room =
     startTest m L first orElse
     on (not (maskFits (rank L) mask)) (plain outsideRanks) orElse
-    on (foundBy L first mask room .over) (plain moreFlags)
+    on (foundBy L first mask room .overflow) (plain moreFlags)
 
 unfoldable pub searchedOf : Answer → State (List ℕ) → Searched
 searchedOf a s = ifZero (a .no) (foundAs a (length (s .found)) (s .place)) (refusedAs a)

@@ -20,6 +20,6 @@ module _ {A : Type 0} where
     pub has : 0 < p → hash (row (p - 1)) ≡ h
     pub none : (k : ℕ) → p ≤ k → k < n → hash (row k) ≢ h
 
-  pub record Walk (same : A → A → Bool) (hash : A → ℕ) (row : ℕ → A) (n : ℕ) (y : A) (p : ℕ) : Type 0 where
+  pub record WayBack (same : A → A → Bool) (hash : A → ℕ) (row : ℕ → A) (n : ℕ) (y : A) (p : ℕ) : Type 0 where
     pub has : 0 < p → hash (row (p - 1)) ≡ hash y
     pub none : (k : ℕ) → p ≤ k → k < n → same (row k) y ≡ false

@@ -22,8 +22,8 @@ use Rattle.search_store.proofs.Rows.{rows-length, rows-flat}
 use Rattle.search_masks.specs.Masks.{maskFits}
 use Rattle.search.specs.declared.Searched.{Searched}
 use Rattle.search_walk.specs.Searched.{foundBy}
-use Rattle.search.specs.Outcome.{refusedAs, foundAs, roomOf, searchTest, searchedOf, after, searchedBy}
-use Rattle.search.specs.Outcome.{tableAfter, bytesAfter}
+use Rattle.search.specs.SearchedBy.{refusedAs, foundAs, roomOf, searchTest, searchedOf, after, searchedBy}
+use Rattle.search.specs.SearchedBy.{tableAfter, bytesAfter}
 use Rattle.search_walk.specs.Ready.{Ended}
 use Rattle.search.proofs.Numbers.{start-most}
 
@@ -117,11 +117,11 @@ module _ (m : Limits) (L : Listing) (first : List ℕ) (mask : ℕ) (table bytes
     -- ---- what was found is written
 
     module _ (f : maskFits (rank L) mask ≡ true) where
-      last : test ≡ on (foundBy L first mask room .over) (plain 22)
+      last : test ≡ on (foundBy L first mask room .overflow) (plain 22)
       unfolding searchTest
       last = or-fine (startTest m L first) _ z ∙ rw f (or-fine fine _ refl)
 
-      pub said-full : foundBy L first mask room .over ≡ true → Written (refusedAs (plain 22))
+      pub said-full : foundBy L first mask room .overflow ≡ true → Written (refusedAs (plain 22))
       unfolding searchedBy tableAfter bytesAfter
       said-full o =
           let e : test ≡ plain 22 = last ∙ rw o in
@@ -131,7 +131,7 @@ module _ (m : Limits) (L : Listing) (first : List ℕ) (mask : ℕ) (table bytes
             turns = rw e (after-full (plain 22) (foundBy L first mask room .bytes) bytes refl);
           }
 
-      pub said-fine : foundBy L first mask room .over ≡ false
+      pub said-fine : foundBy L first mask room .overflow ≡ false
           → Written (foundAs fine (length (foundBy L first mask room .found)) (foundBy L first mask room .place))
       unfolding searchedBy tableAfter bytesAfter
       said-fine o =
@@ -173,12 +173,12 @@ module _ (m : Limits) (L : Listing) (first : List ℕ) (mask : ℕ) (table bytes
             rw (← ap (λ S. S .bytes) (E .state), length-take-le (p .count) bytes′ i, ← E .rest .bytes-past)
             (take-append-drop (p .count) bytes′)
 
-        pub outcome-over : p .over ≡ true → Outcome (refusedAs (plain 22)) table′ bytes′
+        pub outcome-overflow : p .overflow ≡ true → Outcome (refusedAs (plain 22)) table′ bytes′
         unfolding stateOf
-        outcome-over o = rw (table-found, bytes-found) at (said-full (sym (ap (λ S. S .over) (E .state)) ∙ o))
+        outcome-overflow o = rw (table-found, bytes-found) at (said-full (sym (ap (λ S. S .overflow) (E .state)) ∙ o))
 
-        pub outcome-found : p .over ≡ false → Outcome (foundAs fine (p .count) (p .place)) table′ bytes′
+        pub outcome-found : p .overflow ≡ false → Outcome (foundAs fine (p .count) (p .place)) table′ bytes′
         unfolding stateOf
         outcome-found o =
             rw (table-found, bytes-found, count-found, sym (ap (λ S. S .place) (E .state)))
-            at (said-fine (sym (ap (λ S. S .over) (E .state)) ∙ o))
+            at (said-fine (sym (ap (λ S. S .overflow) (E .state)) ∙ o))
