@@ -34,11 +34,11 @@ use Rattle.valid.specs.Ascent.{Ascends}
 use Rattle.valid.specs.Closed.{Closed}
 use Rattle.product.specs.declared.Built.{Built}
 use Rattle.flag_change.specs.Change.{Changes, changeAt, padded}
-use Rattle.flag.specs.declared.Event.{Event}
-use Rattle.flag.specs.declared.Event.the-variants.{Nothing}
-use Rattle.flag.specs.declared.Said.{Said}
+use Rattle.search_events.specs.declared.Event.{Event}
+use Rattle.search_events.specs.declared.Event.the-variants.{Nothing}
+use Rattle.search_events.specs.declared.Said.{Said}
 use Rattle.flag.specs.Orientations.{byteOf}
-use Rattle.flag.specs.Events.{events, eventsOf, saidOf, Stepped, SaidStep}
+use Rattle.search_events.specs.Events.{events, eventsOf, saidOf, Stepped, SaidStep}
 use Rattle.listing.proofs.class.Reads as class
 use Rattle.listing.proofs.band_number.Reads as band-number
 use Rattle.listing.proofs.rank.Reads as rank-count
@@ -56,7 +56,7 @@ use Rattle.flag.proofs.Orientation.flip.Reads as flip
 use Rattle.flag.proofs.Orientation.sign.Reads as sign
 use Rattle.flag.proofs.Orientation.byte.Reads as byte
 use Rattle.flag.proofs.Orientation.of_byte.Reads as of-byte
-use Rattle.flag.proofs.numbers.Reads as numbers
+use Rattle.search_events.proofs.numbers.Reads as numbers
 use Rattle.search.proofs.search.Reads as search
 use Rattle.product.proofs.duopyramid.Reads as duopyramid
 use Rattle.product.proofs.duoprism.Reads as duoprism

@@ -5,8 +5,8 @@ use mathlib.Core.Bool.{true, false}
 use Prim.Native.Nat.{ℕ, _+_, _-_, _≤_, _<_}
 use native.Mathlib.Omega.{arith}
 use borrow.Author.Tests.{lt-ltb, le-ltb, le-leb, lt-leb, eq-eqb, ne-eqb}
-use Rattle.flag.specs.declared.Event.the-variants.{Flag, NonOrientable, Nothing}
-use Rattle.flag.specs.Events.{within, eventAt, events, nextAt}
+use Rattle.search_events.specs.declared.Event.the-variants.{Flag, NonOrientable, Nothing}
+use Rattle.search_events.specs.Events.{within, eventAt, events, nextAt}
 
 module _ (n p : ℕ) where
   pub events-more : within n p ≡ true → events n p ≡ n + 1

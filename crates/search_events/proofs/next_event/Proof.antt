@@ -45,25 +45,25 @@ use denote.Triple.Walked.{says, Stays, stay-ref, stay-none, walkOf, AllGo, goes-
 use denote.Triple.Walked.{walk-meets}
 use denote.Triple.Clauses.{ensured, lasts}
 use denote.Exit.{yes}
-use Rattle.flag.specs.Events.{eventAt, nextAt}
-use Rattle.flag.specs.declared.Cursor.{Cursor}
-use Rattle.flag.specs.declared.Event.{Event}
-use Rattle.flag.proofs.Cursor as T
-use Rattle.flag.proofs.Cursor.Laws as T′
-use Rattle.flag.proofs.Event as S
-use Rattle.flag.proofs.Event.Laws as S′
-use Rattle.flag.proofs.next_at as next
-use Rattle.flag.proofs.next_at.Symbol as next-def
-use Rattle.flag.proofs.next_at.Symbol.{name as #flag·next-at}
-use Rattle.flag.proofs.next_at.Met as next-thm
-use Rattle.flag.proofs.event_at as event
-use Rattle.flag.proofs.event_at.Symbol as event-def
-use Rattle.flag.proofs.event_at.Symbol.{name as #flag·event-at}
-use Rattle.flag.proofs.event_at.Met as event-thm
-use Rattle.flag.proofs.next_event.Key.{name as #flag·next-event}
-use Rattle.flag.proofs.next_event as f
-use Rattle.flag.proofs.next_event.Statement as stated
-use Rattle.flag.proofs.next_event.Code as code
+use Rattle.search_events.specs.Events.{eventAt, nextAt}
+use Rattle.search_events.specs.declared.Cursor.{Cursor}
+use Rattle.search_events.specs.declared.Event.{Event}
+use Rattle.search_events.proofs.Cursor as T
+use Rattle.search_events.proofs.Cursor.Laws as T′
+use Rattle.search_events.proofs.Event as S
+use Rattle.search_events.proofs.Event.Laws as S′
+use Rattle.search_events.proofs.next_at as next
+use Rattle.search_events.proofs.next_at.Symbol as next-def
+use Rattle.search_events.proofs.next_at.Symbol.{name as #search-events·next-at}
+use Rattle.search_events.proofs.next_at.Met as next-thm
+use Rattle.search_events.proofs.event_at as event
+use Rattle.search_events.proofs.event_at.Symbol as event-def
+use Rattle.search_events.proofs.event_at.Symbol.{name as #search-events·event-at}
+use Rattle.search_events.proofs.event_at.Met as event-thm
+use Rattle.search_events.proofs.next_event.Key.{name as #search-events·next-event}
+use Rattle.search_events.proofs.next_event as f
+use Rattle.search_events.proofs.next_event.Statement as stated
+use Rattle.search_events.proofs.next_event.Code as code
 
 abbrev Arg : Type 0
 Arg = RefT Cursor × (ℕ × (ℕ × Unit {0}))
@@ -164,8 +164,8 @@ module _ {M : Type 1} (𝓤 : URA M) (H : Heap 𝓤) (A : Atoms 𝓤) (W : Given
       move ! (1 ∷ 0 ∷ []) $ fjoin ! $ frame ! $ done !
 
   module _ (C : Calls 𝓤 H) (Λ : Loops 𝓤 H) (fm : FmC 𝓤 H (W .laws) C)
-      (known-next : Triple 𝓤 (C #flag·next-at) (Next 𝓤 H A at-mem run))
-      (known-at : Triple 𝓤 (C #flag·event-at) (At 𝓤 H A at-mem run)) where
+      (known-next : Triple 𝓤 (C #search-events·next-at) (Next 𝓤 H A at-mem run))
+      (known-at : Triple 𝓤 (C #search-events·event-at) (At 𝓤 H A at-mem run)) where
     walk : ent 𝓤 (onEntry 𝓤 H A f.signature (κ, tt) (q, tt) x at)
         (WpFn 𝓤 H C Λ code.function (vptr b o ∷ vint w16 n ∷ vint w16 p ∷ []) Post)
     walk =
@@ -229,7 +229,7 @@ module _ {M : Type 1} (𝓤 : URA M) (H : Heap 𝓤) (A : Atoms 𝓤) (W : Given
 module _ {M : Type 1} (𝓤 : URA M) (H : Heap 𝓤) (A : Atoms 𝓤) (W : Given 𝓤 H A) (at-mem : Memory → SProp 𝓤)
     (run : Routine → Fun 𝓤) where
   next-event-walks : (C : Calls 𝓤 H) (Λ : Loops 𝓤 H) → FmC 𝓤 H (W .laws) C
-      → Triple 𝓤 (C #flag·next-at) (Next 𝓤 H A at-mem run) → Triple 𝓤 (C #flag·event-at) (At 𝓤 H A at-mem run)
+      → Triple 𝓤 (C #search-events·next-at) (Next 𝓤 H A at-mem run) → Triple 𝓤 (C #search-events·event-at) (At 𝓤 H A at-mem run)
       → Walks 𝓤 H A f.ended stayed (WpFn 𝓤 H C Λ code.function) (f.clauses 𝓤 H A at-mem run)
   next-event-walks C Λ fm known-next known-at =
       walked 𝓤 H A f.ended stayed (f.clauses 𝓤 H A at-mem run) (WpFn 𝓤 H C Λ code.function)
@@ -246,8 +246,8 @@ module _ {M : Type 1} (𝓤 : URA M) (H : Heap 𝓤) (A : Atoms 𝓤) (W : Given
     (goes-none 𝓤 H A W 1 (λ _. u16) yes (λ κs x f. refl), (goes-none 𝓤 H A W 1 (λ _. u16) yes (λ κs x f. refl), tt)),
   )
 
-  next-event-meets : (𝓣 : Tables 𝓤 H) → Triple 𝓤 (𝓣 .C #flag·next-at) (Next 𝓤 H A at-mem run)
-      → Triple 𝓤 (𝓣 .C #flag·event-at) (At 𝓤 H A at-mem run)
+  next-event-meets : (𝓣 : Tables 𝓤 H) → Triple 𝓤 (𝓣 .C #search-events·next-at) (Next 𝓤 H A at-mem run)
+      → Triple 𝓤 (𝓣 .C #search-events·event-at) (At 𝓤 H A at-mem run)
       → Meets 𝓤 H A f.signature (WpFn 𝓤 H (𝓣 .C) (𝓣 .Λ) code.function) (f.spec 𝓤 H A at-mem run)
   next-event-meets 𝓣 known-next known-at =
       walk-meets 𝓤 H A f.ended stayed W goes (f.clauses 𝓤 H A at-mem run)
@@ -258,10 +258,10 @@ pub next-event-spec : {M : Type 1} → stated.statement M
 unfolding code.routine tablesOf
 next-event-spec 𝓤 H 𝓜 𝓖 𝓡 =
     entered 𝓤 H (tripleOf 𝓤 H (𝓖 .A) f.signature (f.spec 𝓤 H (𝓖 .A) (𝓜 .mem) (𝓡 .run)))
-    (tables 𝓤 H 𝓜 𝓡 code.env .C) (tables 𝓤 H 𝓜 𝓡 code.env .Λ) #flag·next-event code.function
+    (tables 𝓤 H 𝓜 𝓡 code.env .C) (tables 𝓤 H 𝓜 𝓡 code.env .Λ) #search-events·next-event code.function
     (code.unfolded 𝓤 H 𝓜 𝓡)
     (next-event-meets 𝓤 H (𝓖 .A) (givenOf 𝓤 H 𝓜 𝓖) (𝓜 .mem) (𝓡 .run) (tablesOf 𝓤 H 𝓜 (tables 𝓤 H 𝓜 𝓡 code.env))
-    (cited 𝓤 H (Next 𝓤 H (𝓖 .A) (𝓜 .mem) (𝓡 .run)) 𝓜 𝓡 code.env #flag·next-at next-def.routine
-    code.calls-flag·next-at (next-thm.met 𝓤 H 𝓜 𝓖 𝓡))
-    (cited 𝓤 H (At 𝓤 H (𝓖 .A) (𝓜 .mem) (𝓡 .run)) 𝓜 𝓡 code.env #flag·event-at event-def.routine
-    code.calls-flag·event-at (event-thm.met 𝓤 H 𝓜 𝓖 𝓡)))
+    (cited 𝓤 H (Next 𝓤 H (𝓖 .A) (𝓜 .mem) (𝓡 .run)) 𝓜 𝓡 code.env #search-events·next-at next-def.routine
+    code.calls-search-events·next-at (next-thm.met 𝓤 H 𝓜 𝓖 𝓡))
+    (cited 𝓤 H (At 𝓤 H (𝓖 .A) (𝓜 .mem) (𝓡 .run)) 𝓜 𝓡 code.env #search-events·event-at event-def.routine
+    code.calls-search-events·event-at (event-thm.met 𝓤 H 𝓜 𝓖 𝓡)))

@@ -12,11 +12,11 @@ use borrow.Author.Tests.{leb-true}
 use lib.Dec.{leb}
 use lib.ListN.{replicate}
 use Rattle.order.proofs.Tests.{and-true}
-use Rattle.flag.specs.declared.Event.{Event}
-use Rattle.flag.specs.declared.Event.the-variants.{Flag, NonOrientable, Nothing}
-use Rattle.flag.specs.Events.{within, eventAt, events, nextAt, upFrom, eventsOf, taken}
-use Rattle.flag.proofs.EventRow.{events-more, events-plain, goes-on, stays}
-use Rattle.flag.proofs.EventRow.{flag-before, at-place, flag-after, past-after, flag-plain, past-plain}
+use Rattle.search_events.specs.declared.Event.{Event}
+use Rattle.search_events.specs.declared.Event.the-variants.{Flag, NonOrientable, Nothing}
+use Rattle.search_events.specs.Events.{within, eventAt, events, nextAt, upFrom, eventsOf, taken}
+use Rattle.search_events.proofs.EventRow.{events-more, events-plain, goes-on, stays}
+use Rattle.search_events.proofs.EventRow.{flag-before, at-place, flag-after, past-after, flag-plain, past-plain}
 
 -- ---- events in a row
 

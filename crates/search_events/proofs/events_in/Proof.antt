@@ -2,9 +2,9 @@
 -- Assumes nothing.
 use mathlib.Core.Path.{sym, _∙_}
 use borrow.Author.Needs.{needs}
-use Rattle.flag.proofs.EventRow.{events-more, events-plain}
-use Rattle.flag.proofs.events_in.Statement.{statement}
-use Rattle.flag.proofs.events_in.Tie as tie
+use Rattle.search_events.proofs.EventRow.{events-more, events-plain}
+use Rattle.search_events.proofs.events_in.Statement.{statement}
+use Rattle.search_events.proofs.events_in.Tie as tie
 
 is-within-requires : tie.Need-is-within-requires
 is-within-requires c κs = search needs

@@ -16,9 +16,9 @@ use mathlib.Core.Bool.{Bool, cond, _&&_}
 use mathlib.Core.List.{List, [], _∷_, _++_}
 use Prim.Native.Nat.{ℕ, zero, suc, _+_, _-_}
 use lib.Dec.{ltb, leb, eqb}
-use Rattle.flag.specs.declared.Said.{Said}
-use Rattle.flag.specs.declared.Event.{Event}
-use Rattle.flag.specs.declared.Event.the-variants.{Flag, NonOrientable, Nothing}
+use Rattle.search_events.specs.declared.Said.{Said}
+use Rattle.search_events.specs.declared.Event.{Event}
+use Rattle.search_events.specs.declared.Event.the-variants.{Flag, NonOrientable, Nothing}
 
 abbrev pub within : ℕ → ℕ → Bool
 within count place = leb 1 place && leb place count

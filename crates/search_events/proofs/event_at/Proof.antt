@@ -4,10 +4,10 @@ use mathlib.Core.Path.{_≡_, sym, _∙_}
 use mathlib.Core.Bool.{Bool}
 use native.Mathlib.Omega.{arith}
 use borrow.Author.Needs.{needs}
-use Rattle.flag.specs.Events.{within}
-use Rattle.flag.proofs.EventRow.{flag-before, at-place, flag-after, past-after, flag-plain, past-plain}
-use Rattle.flag.proofs.event_at.Statement.{statement}
-use Rattle.flag.proofs.event_at.Tie as tie
+use Rattle.search_events.specs.Events.{within}
+use Rattle.search_events.proofs.EventRow.{flag-before, at-place, flag-after, past-after, flag-plain, past-plain}
+use Rattle.search_events.proofs.event_at.Statement.{statement}
+use Rattle.search_events.proofs.event_at.Tie as tie
 
 -- what is_within said
 told : (c : tie.After-is-within) {t : Bool} → c .is-within .result ≡ t

@@ -3,9 +3,9 @@
 use mathlib.Core.Path.{sym}
 use native.Mathlib.Omega.{arith}
 use borrow.Author.Needs.{needs}
-use Rattle.flag.proofs.EventRow.{goes-on, stays}
-use Rattle.flag.proofs.next_at.Statement.{statement}
-use Rattle.flag.proofs.next_at.Tie as tie
+use Rattle.search_events.proofs.EventRow.{goes-on, stays}
+use Rattle.search_events.proofs.next_at.Statement.{statement}
+use Rattle.search_events.proofs.next_at.Tie as tie
 
 events-in-requires : tie.Need-events-in-requires
 events-in-requires c κs = search needs

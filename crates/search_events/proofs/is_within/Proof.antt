@@ -2,8 +2,8 @@
 -- Assumes nothing.
 use native.Mathlib.Omega.{arith}
 use borrow.Author.Tests.{le-leb, lt-leb}
-use Rattle.flag.proofs.is_within.Statement.{statement}
-use Rattle.flag.proofs.is_within.Tie as tie
+use Rattle.search_events.proofs.is_within.Statement.{statement}
+use Rattle.search_events.proofs.is_within.Tie as tie
 
 returns : tie.Need-returns
 returns c = simp (le-leb 1 (c .before .args .place) (omega arith))

@@ -2,9 +2,9 @@
 -- Assumes nothing.
 use mathlib.Core.Path.{sym, ap}
 use borrow.Author.Needs.{needs}
-use Rattle.flag.specs.Events.{saidOf}
-use Rattle.flag.proofs.numbers.Statement.{statement}
-use Rattle.flag.proofs.numbers.Tie as tie
+use Rattle.search_events.specs.Events.{saidOf}
+use Rattle.search_events.proofs.numbers.Statement.{statement}
+use Rattle.search_events.proofs.numbers.Tie as tie
 
 enum-known-e : tie.Need-enum-known-e
 enum-known-e c = search needs
