@@ -1,4 +1,4 @@
--- Chains of rows with one hash: the last such row before a number, and a walk from row to row that misses none.
+-- Chains of rows with one hash: the last such row before a number, and a way from row to row that misses none.
 -- Assumes nothing.
 use mathlib.Core.Path.{_≡_, refl, ap}
 use mathlib.Core.Bool.{Bool, false}
@@ -56,7 +56,7 @@ latest-alike hash row other h zero e = refl
 latest-alike hash row other h (suc n) e =
     rw (e n (omega arith), latest-alike hash row other h n (λ k m. e k (omega arith)))
 
--- ---- a walk back along the rows with the hash of y
+-- ---- the way back along the rows with the hash of y
 
 module _ {A : Type 0} (same : A → A → Bool) (decides : Decides same) (hash : A → ℕ) (row : ℕ → A) (n : ℕ) (y : A) where
   -- a row with another hash is another row

@@ -1,4 +1,5 @@
--- The chained index: a walk down a chain finds the row of a flag, and one more row goes to the front of its chain.
+-- The chained index: the way back along a chain finds the row of a flag, and one more row goes to the front of its
+-- chain.
 -- Assumes nothing.
 use mathlib.Core.Path.{_≡_, sym, ap, _∙_}
 use mathlib.Core.Bool.{true, false}
@@ -13,15 +14,16 @@ use Rattle.search_theory.specs.Search.{indexIn}
 use Rattle.search_store.specs.Chain.{latest, WayBack}
 use Rattle.search_theory.proofs.Once.{once-snoc}
 use Rattle.search_theory.proofs.Lookup.{index-none, index-only, index-in}
-use Rattle.search_store.proofs.Chain.{latest-this, latest-other, latest-exact, latest-alike, back-start, back-next}
+use Rattle.search_store.proofs.Chain.{latest-this, latest-other, latest-exact, latest-alike, back-start}
+use Rattle.search_store.proofs.Chain.{back-next}
 use Rattle.search_store.specs.Rows.{rowOf, rows, sameList}
 use Rattle.search_store.specs.Hash.{hashes, hashOf}
 use Rattle.search_store.specs.Index.{Indexed}
 use Rattle.search_store.proofs.Rows.{same-decides, rows-length, rows-at, put-kept, put-row, put-rows, put-length}
 
--- ---- the walk
+-- ---- the way back
 
--- the walk has come down to the number p
+-- it has come down to the number p
 pub record Down (w n : ℕ) (table y : List ℕ) (p : ℕ) : Type 0 where
   pub most : p ≤ n
   pub back : WayBack sameList hashOf (rowOf w table) n y p

@@ -106,45 +106,48 @@ module _ (w room : ℕ) (table bytes heads next : List ℕ) (s : Progress)
       rest = record { long = refl; past = refl; bytes-long = refl; bytes-past = refl };
     }
 
-    -- the flag was added
-    module _ (flag : List ℕ) (h b : ℕ) (e : h ≡ hashOf (take w flag)) (wide : w ≤ length flag) (o : s .overflow ≡ false)
-        (i : s .count ≤ indexIn sameList (rows w table (s .count)) (take w flag)) (r : s .count < room) where
-      abbrev n : ℕ
-      n = s .count
+-- the flag was added
+module _ (w room : ℕ) (table bytes heads next : List ℕ) (s : Progress)
+    (H : Held w room table bytes heads next (s .count)) (flag : List ℕ) (h b : ℕ) (e : h ≡ hashOf (take w flag))
+    (wide : w ≤ length flag) (o : s .overflow ≡ false)
+    (i : s .count ≤ indexIn sameList (rows w table (s .count)) (take w flag)) (r : s .count < room)
+  where
+    abbrev n : ℕ
+    n = s .count
 
-      in-table : n * w + w ≤ length table
-      in-table = row-fits w room table bytes heads next n H r
+    abbrev table′ : List ℕ
+    table′ = paste table (n * w) flag w
 
-      added-held : Held w room (paste table (n * w) flag w) (set bytes n b) (set heads h (n + 1))
-          (set next n (getD heads h 0)) (n + 1)
-      added-held = record {
-        room-rows = omega (arith, put-length w table n flag in-table wide, H .room-rows);
-        room-bytes = omega (arith, length-set bytes n b, H .room-bytes);
-        room-few = H .room-few;
-        fits = omega arith;
-        indexed =
-            index-more w n table heads next flag (H .indexed) h
-            (omega (arith, hash-small (take w flag))) e in-table wide
-            (omega (arith, H .room-few)) i;
-      }
+    in-table : n * w + w ≤ length table
+    in-table = row-fits w room table bytes heads next n H r
 
-      added-rest : Rest w (n + 1) table bytes (paste table (n * w) flag w) (set bytes n b)
-      added-rest = record {
-        long = put-length w table n flag in-table wide;
-        past = put-rest w table n flag in-table wide;
-        bytes-long = length-set bytes n b;
-        bytes-past = drop-set-lt (n + 1) bytes n b (omega arith);
-      }
+    added-held : Held w room table′ (set bytes n b) (set heads h (n + 1)) (set next n (getD heads h 0)) (n + 1)
+    added-held = record {
+      room-rows = omega (arith, put-length w table n flag in-table wide, H .room-rows);
+      room-bytes = omega (arith, length-set bytes n b, H .room-bytes);
+      room-few = H .room-few;
+      fits = omega arith;
+      indexed =
+          index-more w n table heads next flag (H .indexed) h (omega (arith, hash-small (take w flag))) e in-table wide
+          (omega (arith, H .room-few)) i;
+    }
 
-      pub moved-added : Moved w room table bytes s (paste table (n * w) flag w) (set bytes n b) (set heads h (n + 1))
-          (set next n (getD heads h 0)) (record { count = n + 1; place = s .place; overflow = false })
-          (meet sameList room b (stateOf w table bytes s) (take w flag))
-      moved-added = record {
-        state =
-            new-added w room table bytes s o b (take w flag) _ refl i (paste table (n * w) flag w) (set bytes n b)
-            (put-rows w table n flag in-table wide)
-            (rw add-one (take-suc-set bytes n b (omega (arith, H .room-bytes)))) r;
-        held = added-held;
-        more = omega arith;
-        rest = added-rest;
-      }
+    added-rest : Rest w (n + 1) table bytes table′ (set bytes n b)
+    added-rest = record {
+      long = put-length w table n flag in-table wide;
+      past = put-rest w table n flag in-table wide;
+      bytes-long = length-set bytes n b;
+      bytes-past = drop-set-lt (n + 1) bytes n b (omega arith);
+    }
+
+    added-state : stateOf w table′ (set bytes n b) (record { count = n + 1; place = s .place; overflow = false })
+        ≡ meet sameList room b (stateOf w table bytes s) (take w flag)
+    added-state =
+        new-added w room table bytes s o b (take w flag) _ refl i table′ (set bytes n b)
+        (put-rows w table n flag in-table wide)
+        (rw add-one (take-suc-set bytes n b (omega (arith, H .room-bytes)))) r
+
+    pub moved-added : Moved w room table bytes s (paste table (n * w) flag w) (set bytes n b) (set heads h (n + 1))
+        (set next n (getD heads h 0)) (record { count = n + 1; place = s .place; overflow = false })
+        (meet sameList room b (stateOf w table bytes s) (take w flag))
+    moved-added = record { state = added-state; held = added-held; more = omega arith; rest = added-rest }

@@ -2,8 +2,8 @@
 --
 -- latest   the number after the last k < n whose row has the hash h, 0 if none has
 -- Latest   what that says of a number p
--- Walk     a walk back along a chain from n rows to the number p: none of the rows from p on is y, and the row before p
---          has the hash of y
+-- WayBack  the way back along a chain from n rows has come to the number p: none of the rows from p on is y, and the
+--          row before p has the hash of y
 use mathlib.Core.Path.{_≡_}
 use mathlib.Core.Logic.{_≢_}
 use mathlib.Core.Bool.{Bool, false, cond}

@@ -35,7 +35,7 @@ fn add(
     byte: u8,
     n: u16,
 )
-    requires { ⌜ (w ≤ 16) × (length (now flag) ≡ 16) × (h ≡ hashOf (take w (now flag))) ⌝ }
+    requires { ⌜ (w ≤ limits .ranks) × (length (now flag) ≡ limits .ranks) × (h ≡ hashOf (take w (now flag))) ⌝ }
     requires { ⌜ (n * w + w ≤ length (now table)) × (n < length (now bytes)) × (n < limits .flags) ⌝ }
     ensures { λ _. ⌜ (now (table .exit) ≡ paste (now (table .entry)) (n * w) (now (flag .entry)) w)
         × (now (bytes .exit) ≡ set (now (bytes .entry)) n byte)
@@ -61,7 +61,7 @@ pub fn meet(
     room: usize,
     s: Progress,
 ) -> Progress
-    requires { ⌜ (w ≤ 16) × (length (now flag) ≡ 16) × (h ≡ hashOf (take w (now flag))) ⌝ }
+    requires { ⌜ (w ≤ limits .ranks) × (length (now flag) ≡ limits .ranks) × (h ≡ hashOf (take w (now flag))) ⌝ }
     requires { ⌜ Held w room (now table) (now bytes) (now heads) (now next) (s .count) ⌝ }
     requires { ⌜ s .overflow ≡ false ⌝ }
     ensures { λ r. ⌜ Moved w room (now (table .entry)) (now (bytes .entry)) s (now (table .exit)) (now (bytes .exit))

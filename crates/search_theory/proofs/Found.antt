@@ -1,5 +1,5 @@
--- A search that is not over found exactly what is reachable, each thing once. It is over exactly if more is reachable
--- than there is room for, and then as many are found as there is room for.
+-- A search without an overflow found exactly what is reachable, each thing once. There is one exactly if more is
+-- reachable than there is room for, and then as many are found as there is room for.
 -- Assumes nothing.
 use mathlib.Core.Path.{_≡_, refl, sym, ap, _∙_}
 use mathlib.Core.Logic.{_↔_, _⊎_, inl, inr, ⊎-elim}
@@ -24,7 +24,7 @@ module _ {A : Type 0} (same : A → A → Bool) (decides : Decides same) (room :
   facts : Proper room (Neighbour nbrs) a S
   facts = search-proper same decides room nbrs a
 
-  -- ---- not over: what was found
+  -- ---- no overflow: what was found
 
   module _ (o : S .overflow ≡ false) where
     start-in : List·Memᴰ a (S .found)
@@ -56,7 +56,7 @@ module _ {A : Type 0} (same : A → A → Bool) (decides : Decides same) (room :
         most n m =
             omega (arith, m .many, once-fits (m .things) (S .found) (m .once) (λ x i. all-found x (m .reached x i)))
 
-  -- ---- over
+  -- ---- an overflow
 
   pub overflow-full : S .overflow ≡ true → length (S .found) ≡ room
   overflow-full o = facts .beyond o .many
@@ -73,7 +73,7 @@ module _ {A : Type 0} (same : A → A → Bool) (decides : Decides same) (room :
   too-many m true o = o
   too-many m false o = absurd (omega (arith, found-count o .1 (suc room) m, facts .fits))
 
--- The search is over exactly if more different things are reachable than there is room for.
+-- There is an overflow exactly if more different things are reachable than there is room for.
 pub overflow-exact : {A : Type 0} (same : A → A → Bool) (decides : Decides same) (room : ℕ) (nbrs : A → List A) (a : A)
     → (search same room nbrs a .overflow ≡ true) ↔ AtLeast (suc room) (Neighbour nbrs) a
 overflow-exact same decides room nbrs a = (

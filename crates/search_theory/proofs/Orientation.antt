@@ -1,5 +1,5 @@
--- The bytes of a search that is not over: with no place they are a colouring of what is reachable, and there is a place
--- exactly if there is no colouring.
+-- The bytes of a search without an overflow: with no place they are a colouring of what is reachable, and there is a
+-- place exactly if there is no colouring.
 -- Assumes nothing.
 use mathlib.Core.Path.{_≡_, refl, ap, _∙_}
 use mathlib.Core.Logic.{_↔_}

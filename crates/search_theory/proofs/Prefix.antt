@@ -11,7 +11,8 @@ use lib.ListN.{length, take}
 use lib.Seq.{take-all, take-at}
 use Rattle.search_theory.specs.Search.{State, unbegun, overfull, meet, meetAll, work, run, search}
 use Rattle.search_theory.specs.Search.{Neighbour, Decides, Proper}
-use Rattle.search_theory.proofs.Step.{meet-stop, meet-again, meet-new, meet-cases, meets-overflow, meet-fits, meets-fits}
+use Rattle.search_theory.proofs.Step.{meet-stop, meet-again, meet-new, meet-cases, meets-overflow, meet-fits}
+use Rattle.search_theory.proofs.Step.{meets-fits}
 use Rattle.search_theory.proofs.Run.{run-next, run-stop, run-end, run-ends}
 use Rattle.search_theory.proofs.Grown.{Grown, Grown·trans, meet-grown, meets-grown, work-grown}
 use Rattle.search_theory.proofs.Proper.{search-proper}

@@ -1,5 +1,5 @@
 -- What holds of each state of a search: nothing was found twice, all that was found fits and is reachable, there is a
--- byte for each, and once over one more is reachable.
+-- byte for each, and after an overflow one more is reachable.
 -- Assumes nothing.
 use mathlib.Core.Path.{_≡_, refl, sym, _∙_}
 use mathlib.Core.Logic.{⊎-elim}
@@ -11,7 +11,8 @@ use native.Mathlib.Decide.{ℕ-discrete}
 use native.Mathlib.Omega.{arith}
 use lib.ListN.{length, getD}
 use Rattle.order.specs.Steps.{Reach, start, next}
-use Rattle.search_theory.specs.Search.{State, unbegun, add, overfull, placeAfter, again, indexIn, meet, meetAll, work}
+use Rattle.search_theory.specs.Search.{State, unbegun, add, overfull, placeAfter, again, indexIn, meet, meetAll}
+use Rattle.search_theory.specs.Search.{work}
 use Rattle.search_theory.specs.Search.{search, Neighbour, Decides, Once, Proper}
 use Rattle.search_theory.proofs.Once.{length-snoc, once-snoc, in-at}
 use Rattle.search_theory.proofs.Lookup.{index-in}

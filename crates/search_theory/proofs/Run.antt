@@ -1,5 +1,5 @@
 -- Those found are worked in order. A loop keeps `W ≡ the state after what is left`: -next is a turn, -stop its end
--- once it is over, -end its end at the last.
+-- once there was an overflow, -end its end at the last.
 -- Assumes nothing.
 use mathlib.Core.Path.{_≡_, refl, sym, ap, _∙_}
 use mathlib.Core.Bool.{Bool, true, false, not, and-false, true≢false}

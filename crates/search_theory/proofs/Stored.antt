@@ -62,7 +62,7 @@ module _ {A : Type 0} (same : A → A → Bool) (decides : Decides same) (room :
       (λ o i r e. add-stored d b y s p)
       (λ o i r e. absurd (true≢false e))
 
-  -- not over: each of those that were met is stored
+  -- no overflow: each of those that were met is stored
   meets-stored : (d : A) (b : ℕ) (s : State A) (l : List A) (y : A) → List·Memᴰ y l
       → length (s .bytes) ≡ length (s .found) → meetAll same room b s l .overflow ≡ false
       → Stored d b y (meetAll same room b s l)
@@ -119,7 +119,7 @@ module _ {A : Type 0} (same : A → A → Bool) (decides : Decides same) (room :
         k : Proper room (Neighbour nbrs) a (meet same room 0 unbegun a)
         k = start-proper same decides room nbrs a
 
-    -- not over: each neighbour of the kth is stored with the byte that the kth does not have
+    -- no overflow: each neighbour of the kth is stored with the byte that the kth does not have
     pub search-stored : search same room nbrs a .overflow ≡ false → (k : ℕ) → k < length (search same room nbrs a .found)
         → (y : A) → Neighbour nbrs (getD (search same room nbrs a .found) k a) y
         → Stored a (1 - getD (search same room nbrs a .bytes) k 0) y (search same room nbrs a)

@@ -1,14 +1,15 @@
 -- The course of a search: those found are worked in order, and the neighbours of each are met in order. That neighbour
 -- i of the jth is met before neighbour q of the pth is `Earlier j i p q`.
 --
--- Stands    y stands among the first n
--- Agrees    y stands among the first n, with the byte b
--- HasNeighbour    the jth has a neighbour i
--- nbr       neighbour i of the jth
--- Came      the kth is neighbour `at` of one before it and has the byte that this one does not have, and all that was
---           met before stands before it
--- Clash     neighbour `at` of one of the first n stands among these with another byte than it should have; all that was
---           met before stands among these with the byte that it should have, and these were all met before
+-- Stands         y stands among the first n
+-- Agrees         y stands among the first n, with the byte b
+-- HasNeighbour   the jth has a neighbour i
+-- nbr            neighbour i of the jth
+-- Came           the kth is neighbour `at` of one before it and has the byte that this one does not have, and all that
+--                was met before stands before it
+-- Clash          neighbour `at` of one of the first n stands among these with another byte than it should have; all
+--                that was met before stands among these with the byte that it should have, and these were all met
+--                before
 use mathlib.Core.Path.{_≡_}
 use mathlib.Core.Logic.{_≢_}
 use mathlib.Core.List.{List}

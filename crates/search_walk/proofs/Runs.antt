@@ -7,7 +7,7 @@ use Prim.Native.Nat.{ℕ, _+_, _-_, _≤_, _<_}
 use native.Mathlib.Omega.{arith}
 use lib.ListN.{length, getD}
 use lib.Seq.{getD-take}
-use Rattle.listing.specs.Listing.{Listing, limits}
+use Rattle.listing.specs.Listing.{Listing, limits, rank}
 use Rattle.valid.specs.Closed.{Closed}
 use Rattle.flag_change.specs.Flags.{IsFlag}
 use Rattle.search_theory.specs.Search.{meetAll, work, run}
@@ -17,8 +17,9 @@ use Rattle.search_store.specs.Rows.{rowOf, sameList}
 use Rattle.search_store.specs.Held.{stateOf, Held, Moved}
 use Rattle.search_store.proofs.Rows.{rows-at}
 use Rattle.search_store.proofs.Meets.{count-is, moved-none}
+use Rattle.search_masks.specs.Masks.{InnerRanks}
 use Rattle.search_walk.specs.Searched.{maskChanges}
-use Rattle.search_walk.specs.Ready.{AllFlags, Within}
+use Rattle.search_walk.specs.Ready.{AllFlags}
 use Rattle.search_walk.proofs.Neighbours.{meets-all, neighbour-flag, rows-flags, flags-rows}
 use Rattle.search_walk.proofs.Works.{moved-trans, moved-to}
 
@@ -40,7 +41,7 @@ work-is L room mask t b s k a h =
     ap₂ (λ c f. meetAll sameList room (1 - c) (stateOf (length (L .counts)) t b s) (maskChanges L mask f))
     (getD-take (s .count) b k 0 h) (rows-at (length (L .counts)) t (s .count) k a h)
 
-module _ (L : Listing) (C : Closed limits L) (room mask : ℕ) (A : Within L mask) where
+module _ (L : Listing) (C : Closed limits L) (room mask : ℕ) (A : InnerRanks (rank L) mask) where
   pub running-start : {t b h x : List ℕ} {s : Progress} → Held (length (L .counts)) room t b h x (s .count)
       → AllFlags L t (s .count) → Running L room mask t b s t b h x s 0
   running-start {s = s} H f = record { moved = moved-none _ _ _ _ _ _ s H s refl refl; flags = f; whole = λ a. refl }

@@ -1,7 +1,7 @@
 -- What a search finds.
 --
--- neighbours   the changes of a flag that a mask asks for, from the lowest rank upward
--- foundBy      the search from the first flag, as a state: the flags found in order, their bytes, the place
+-- maskChanges   the changes of a flag that a mask asks for, from the lowest rank upward
+-- foundBy       the search from the first flag, as a state: the flags found in order, their bytes, the place
 use mathlib.Core.List.{List, map}
 use Prim.Native.Nat.{ℕ}
 use Rattle.listing.specs.Listing.{Listing}

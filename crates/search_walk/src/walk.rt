@@ -22,8 +22,9 @@ ghost use Rattle.flag_change.specs.Change.{changeAt};
 ghost use Rattle.search_theory.specs.Search.{meet as meetIn, meetAll, run as runIn};
 ghost use Rattle.search_store.specs.Rows.{rowOf, sameList};
 ghost use Rattle.search_store.specs.Held.{stateOf, Held, Moved};
+ghost use Rattle.search_masks.specs.Masks.{InnerRanks};
 ghost use Rattle.search_walk.specs.Searched.{maskChanges, foundBy};
-ghost use Rattle.search_walk.specs.Ready.{Ended, AllFlags, Places, Within, Ready, AtHand};
+ghost use Rattle.search_walk.specs.Ready.{Ended, AllFlags, Places, Ready, AtHand};
 
 // The byte of the other orientation.
 fn flipped(byte: u8) -> u8
@@ -34,7 +35,7 @@ fn flipped(byte: u8) -> u8
 
 // The places where the ranks begin.
 fn places_of(counts: &[Index]) -> [usize; limit::RANKS]
-    requires { ⌜ length (now counts) ≤ 16 ⌝ }
+    requires { ⌜ length (now counts) ≤ limits .ranks ⌝ }
     ensures { λ a. ⌜ Places (now (counts .entry)) a ⌝ }
 {
     let mut a = [0usize; limit::RANKS];
@@ -114,7 +115,7 @@ fn work(
     start: Progress,
 ) -> Progress
     requires { ⌜ Ready (held counts ends inc) (now places) (now weights) ⌝ }
-    requires { ⌜ Within (held counts ends inc) mask ⌝ }
+    requires { ⌜ InnerRanks (rank (held counts ends inc)) mask ⌝ }
     requires { ⌜ Held (length (now counts)) room (now table) (now bytes) (now heads) (now next) (start .count) ⌝ }
     requires { ⌜ AllFlags (held counts ends inc) (now table) (start .count) ⌝ }
     requires { ⌜ (k < start .count) × (start .overflow ≡ false) ⌝ }
@@ -176,7 +177,7 @@ fn run(
     start: Progress,
 ) -> Progress
     requires { ⌜ Ready (held counts ends inc) (now places) (now weights) ⌝ }
-    requires { ⌜ Within (held counts ends inc) mask ⌝ }
+    requires { ⌜ InnerRanks (rank (held counts ends inc)) mask ⌝ }
     requires { ⌜ Held (length (now counts)) room (now table) (now bytes) (now heads) (now next) (start .count) ⌝ }
     requires { ⌜ AllFlags (held counts ends inc) (now table) (start .count) ⌝ }
     ensures { λ p. ⌜ ((a : List ℕ) → Moved (length (now (counts .entry))) room (now (table .entry)) (now (bytes .entry))
@@ -223,7 +224,7 @@ pub fn search_from(
 ) -> Progress
     requires { ⌜ Closed limits (held counts ends inc) ⌝ }
     requires { ⌜ IsFlag (held counts ends inc) (now first) ⌝ }
-    requires { ⌜ Within (held counts ends inc) mask ⌝ }
+    requires { ⌜ InnerRanks (rank (held counts ends inc)) mask ⌝ }
     requires { ⌜ (room * length (now counts) ≤ length (now table)) × (room ≤ length (now bytes))
         × (room ≤ limits .flags) ⌝ }
     ensures { λ p. ⌜ Ended (length (now (counts .entry))) room (now (table .entry)) (now (bytes .entry))

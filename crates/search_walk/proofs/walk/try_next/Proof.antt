@@ -119,7 +119,7 @@ meet-requires c κs =
     rw z (
       (
         few s,
-        length-set (s .args .flag .now) _ _ ∙ s .pre .1 .0 .sixteen,
+        length-set (s .args .flag .now) _ _ ∙ s .pre .1 .0 .long,
         (rw z at (c .before .before .before .before .before .hash-changed .ensures))
             ∙ hand-hash (s .pre .0 .closed) (s .pre .1 .0) (s .args .r) (q .0) (q .1) _ _ (weighs s),
       ),
