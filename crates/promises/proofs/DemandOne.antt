@@ -22,7 +22,7 @@ use Rattle.listing.proofs.ShapeBroken.{counted-broken, shape-alone}
 use Rattle.valid.proofs.TestsBroken.{bounded-broken, incident-broken, dyadic-broken, valid-broken, closed-broken}
 use Rattle.flag.proofs.ChangeBroken.{change-broken}
 use Rattle.promises.proofs.Produced.{produces}
-use Rattle.promises.proofs.Searched.{searches}
+use Rattle.search.proofs.Exact.{promised}
 use Rattle.promises.proofs.Named as named
 
 -- the flag of a change that is refused
@@ -55,7 +55,7 @@ demand-one = record {
   change-refuses = λ k a r x p. rw p
       (change-broken limits (lent a) (flag a) (asked a), refused-flag limits (lent a) (flag a) (asked a));
   search-searches = λ k a r x p. rw (p .0, p .1 .0, p .1 .1)
-      (searches (lent a) (flag a) (asked a) (tables a .0) (tables a .1));
+      (promised limits (lent a) (flag a) (asked a) (tables a .0) (tables a .1));
   duopyramid-produces = λ k a r x. produces false false;
   duoprism-produces = λ k a r x. produces true false;
   duotegum-produces = λ k a r x. produces false true;

@@ -23,12 +23,12 @@ use Rattle.valid.specs.Tests as tests
 use Rattle.valid.proofs.BoundsExact.{bounded-exact}
 use Rattle.valid.proofs.ClosedExact.{valid-exact, closed-exact}
 use Rattle.flag.proofs.ChangeAnswers.{change-changes}
-use Rattle.promises.specs.Entries.{lent, flag, asked, tables}
+use Rattle.promises.specs.Entries.{lent, flag, asked}
 use Rattle.promises.specs.Demands.{DemandTwo}
 use Rattle.promises.proofs.Cases.{byte-flipped, sign-of, byte-of}
 use Rattle.promises.proofs.Cases.{in-order, said-in-order, stays-past, said-stays-past}
 use Rattle.promises.proofs.Counted.{counted-value, facets-counted}
-use Rattle.promises.proofs.Searched.{found}
+use Rattle.promises.proofs.DemandOne.{demand-one}
 
 bounded-is : (L : Listing) → tests.bounded limits L .no ≡ 0 ↔ (Shaped limits L × Bounded L)
 unfolding tests.bounded
@@ -76,8 +76,9 @@ demand-two = record {
   valid-by-the-book = λ k a r x p D. rw p (valid-is (lent a) D);
   closed-by-the-book = λ k a r x p. rw p (closed-exact limits (lent a));
   change-by-the-book = λ k a r x p. rw p (change-changes limits (lent a) (flag a) (asked a));
-  search-by-the-book = λ k a r x p. rw (p .0, p .1 .0, p .1 .1)
-      (found (lent a) (flag a) (asked a) (tables a .0) (tables a .1));
+  search-by-the-book = λ k a r x p z.
+      let P = demand-one .search-searches k a r x p in
+      (P .holds z, P .finds z);
   flip-by-byte = λ k a r x p. rw p (byte-flipped (a .0));
   sign-by-byte = λ k a r x p. rw p (sign-of (a .0));
   byte-by-byte = λ k a r x p. p;

@@ -3,7 +3,6 @@ pub mod Firsts
 pub mod Counted
 pub mod Cases
 pub mod Produced
-pub mod Searched
 pub mod Taking
 pub mod NamedIncidences
 pub mod NamedTests

@@ -265,10 +265,10 @@ refusals-named = record {
   change-as-closed = λ k l a c r s x y p q e. rw (p, q, e)
       (λ z. change-refused limits (lent a) (flag c) z (asked c));
   search-as-closed = λ k l a c r s x y p q e. rw (p, q .0, e)
-      (λ z. said (lent a) (flag c) (asked c) (tables c .0) (tables c .1)
+      (λ z. said limits (lent a) (flag c) (asked c) (tables c .0) (tables c .1)
       ∙ search-refused limits (lent a) (flag c) z (asked c) _);
   change-names = λ k a r x p. rw p (change-tells limits (lent a) (flag a) (asked a));
-  search-names = λ k a r x p. rw (p .0, said (lent a) (flag a) (asked a) (tables a .0) (tables a .1))
+  search-names = λ k a r x p. rw (p .0, said limits (lent a) (flag a) (asked a) (tables a .0) (tables a .1))
       (search-tells limits (lent a) (flag a) (asked a) _);
   duopyramid-plain = λ k a r x. outcome-plain false false;
   duoprism-plain = λ k a r x. outcome-plain true false;

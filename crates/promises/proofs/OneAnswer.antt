@@ -14,7 +14,11 @@ use Rattle.product.specs.Outcome.{after, Outcome}
 use Rattle.search_events.specs.declared.Event.{Event}
 use Rattle.search_events.specs.declared.Said.{Said}
 use Rattle.search_events.specs.Events.{Stepped, SaidStep}
-use Rattle.promises.specs.Entries.{OneAnswer, OneOutcome, outputs, tables}
+use Rattle.search.specs.declared.Searched.{Searched}
+use Rattle.search.specs.Promised.{Promised}
+use Rattle.search.proofs.Exact.{promised}
+use Rattle.search.proofs.OneAnswer.{one-found}
+use Rattle.promises.specs.Entries.{Says, OneAnswer, OneOutcome, lent, flag, asked, outputs, tables}
 use Rattle.listing.proofs.class.Reads as class
 use Rattle.listing.proofs.band_number.Reads as band-number
 use Rattle.listing.proofs.rank.Reads as rank
@@ -159,6 +163,17 @@ one-numbers k a b c x y = alike
 
 pub one-search : OneOutcome search.Post tables
 one-search k a b c x y p q = same-search (p .0) (p .1 .0) (p .1 .1) (q .0) (q .1 .0) (q .1 .1)
+
+-- What it found is determined by what is promised of it, whatever its definition says: another answer s, table t and
+-- bytes b of which the same is promised are the same.
+pub one-found-search : Says search.Post (λ a r x. r .answer .no ≡ 0 → (s : Searched) (t b : List ℕ)
+    → Promised limits (lent a) (flag a) (asked a) (tables a .0) (tables a .1) s t b → s .answer .no ≡ 0
+    → (r .count ≡ s .count) × (r .place ≡ s .place) × (r .orientable ≡ s .orientable)
+    × (tables x .0 ≡ t) × (tables x .1 ≡ b))
+one-found-search k a r x p z s t b Q e =
+    let P : Promised limits (lent a) (flag a) (asked a) (tables a .0) (tables a .1) r (tables x .0) (tables x .1) =
+    rw (p .0, p .1 .0, p .1 .1) (promised limits (lent a) (flag a) (asked a) (tables a .0) (tables a .1)) in
+    one-found (P .holds z) (P .finds z) (Q .holds e) (Q .finds e)
 
 -- The products.
 

@@ -69,7 +69,8 @@ use Rattle.listing.specs.Rules.{Rule, FirstBroken, countRules, shapeRules}
 use Rattle.valid.specs.Rules.{boundedRules, incidentRules, dyadicRules, validRules, closedRules}
 use Rattle.flag.specs.Rules.{changeRules}
 use Rattle.promises.specs.Products.{prefix, Produces, Kept, Exchange}
-use Rattle.promises.specs.Searches.{Searches, Found}
+use Rattle.search.specs.Exact.{Holds, Finds}
+use Rattle.search.specs.Promised.{Promised}
 use Rattle.promises.specs.Named.{RefusalsNamed}
 
 module _ {K A X : Type 0} where
@@ -126,8 +127,8 @@ pub record DemandOne : Type 0 where
       (λ a r x. FirstBroken (changeRules limits (lent a) (flag a) (asked a)) (r .answer .no)
       × (r .answer .no ≢ 0 → r .flag ≡ replicate 16 0))
   -- a search refuses as closed does, then with 20, 21 and 22; nothing is then written, but the first flags at 22
-  pub search-searches : Says search.Post (λ a r x. Searches (lent a) (flag a) (asked a) (tables a .0) (tables a .1) r
-      (tables x .0) (tables x .1))
+  pub search-searches : Says search.Post (λ a r x. Promised limits (lent a) (flag a) (asked a) (tables a .0)
+      (tables a .1) r (tables x .0) (tables x .1))
   -- the duopyramid refuses in the order 30 to 36 and then changes no number; else it writes its result, and no more
   pub duopyramid-produces : Makes false false duopyramid.Post
   -- so does the duoprism, which leaves minimal elements out of the pairs and adds one
@@ -170,7 +171,8 @@ pub record DemandTwo : Type 0 where
   -- a search finds all flags that changes lead to, each once and in the order found, counts them, two-colours them
   -- where that can be done, and where not says the place of the event
   pub search-by-the-book : Says search.Post (λ a r x. r .answer .no ≡ 0
-      → Found (lent a) (flag a) (asked a) (tables a .0) (tables a .1) r (tables x .0) (tables x .1))
+      → Holds (lent a) (flag a) (asked a) (tables x .0) (tables x .1) (tables a .0) (tables a .1) (r .count)
+      × Finds (lent a) (flag a) (asked a) (tables x .0) (tables x .1) r)
   -- the other orientation has the other byte
   pub flip-by-byte : Says flip.Post (λ a r x. byteOf r ≡ 1 - byteOf (a .0))
   -- the sign is 1.0 at byte 0 and -1.0 at byte 1

@@ -2,7 +2,6 @@ pub mod Entries
 pub mod Taking
 pub mod Cases
 pub mod Products
-pub mod Searches
 pub mod Named
 pub mod Demands
 pub mod Boundary

@@ -1,18 +1,20 @@
 -- What a search holds in its slices: the flags that changes lead to from the first, none twice, in the order found, and
--- their bytes; and where it is not over, all such flags and their colours.
+-- their bytes; and where there was no overflow, all such flags and their colours.
 -- Assumes nothing.
 use mathlib.Core.Path.{_≡_, refl, sym, ap, _∙_}
 use mathlib.Core.Bool.{false, cond}
 use mathlib.Core.Logic.{_↔_}
-use mathlib.Core.List.{List, [], _∷_, _++_, List·Memᴰ}
+use mathlib.Core.List.{List, [], _∷_, List·Memᴰ}
 use Prim.Native.Nat.{ℕ, zero, suc, _+_, _-_, _*_, _≤_, _<_}
 use native.Mathlib.Nat.{mul-le-mul-right}
 use native.Mathlib.Decide.{ℕ-discrete}
 use native.Mathlib.Omega.{arith}
 use borrow.Author.Tests.{ne-eqb}
 use lib.Dec.{eqb}
-use lib.ListN.{length, getD, drop, length-append, length-drop, List·getD-append}
-use lib.Seq.{drop-at, ext-getD}
+use lib.ListN.{length, getD, List·getD-append}
+use lib.Seq.{ext-getD}
+use Rattle.order.specs.Lists.{over}
+use Rattle.order.proofs.Over.{over-length, over-past}
 use Rattle.order.specs.Steps.{Reach}
 use Rattle.listing.specs.Answers.{fine}
 use Rattle.listing.specs.Listing.{Listing, Limits, rank}
@@ -32,8 +34,8 @@ use Rattle.search_store.proofs.Rows.{same-decides, rows-length, rows-at}
 use Rattle.search_walk.specs.Searched.{maskChanges, foundBy}
 use Rattle.search.specs.SearchedBy.{foundAs}
 use Rattle.search.specs.Exact.{Searchable, Leads, FirstMet, Repeat, Holds, Finds}
-use Rattle.search.proofs.Flat.{flat-length, flat-row, flat-past}
-use Rattle.search.proofs.Leads.{of-leads, to-reach, of-reach, reach-flag, least-leads, flips-leads}
+use Rattle.search.proofs.Flat.{flat-length, flat-row}
+use Rattle.search.proofs.Leads.{iff-trans, of-leads, to-reach, of-reach, reach-flag, least-leads, flips-leads}
 use Rattle.search.proofs.Leads.{colours-leads}
 use Rattle.search.proofs.InOrder.{came-first, clash-repeat}
 
@@ -57,9 +59,6 @@ orient-none : (p : ℕ) → (side p ≡ 0) ↔ (0 < p)
 orient-none zero = (λ e. absurd (omega arith), λ e. absurd (omega arith))
 orient-none (suc p) = rw (ne-eqb (suc p) 0 (λ e. omega arith)) (λ e. omega arith, λ e. refl)
 
-pub iff-trans : {A B C : Type 0} → A ↔ B → B ↔ C → A ↔ C
-iff-trans p q = (λ a. q .0 (p .0 a), λ c. p .1 (q .1 c))
-
 -- ---- what was found, in the slices
 
 module _ {m : Limits} {L : Listing} {first : List ℕ} {mask : ℕ} (T : Searchable m L first mask) (room : ℕ)
@@ -71,10 +70,10 @@ module _ {m : Limits} {L : Listing} {first : List ℕ} {mask : ℕ} (T : Searcha
   w = rank L + 1
 
   abbrev t′ : List ℕ
-  t′ = flatten (S .found) ++ drop (length (flatten (S .found))) table
+  t′ = over (flatten (S .found)) table
 
   abbrev b′ : List ℕ
-  b′ = S .bytes ++ drop (length (S .bytes)) bytes
+  b′ = over (S .bytes) bytes
 
   abbrev row : ℕ → List ℕ
   row = rowOf w t′
@@ -124,6 +123,10 @@ module _ {m : Limits} {L : Listing} {first : List ℕ} {mask : ℕ} (T : Searcha
     byte-is 0 h ∙ rw (start-even sameList room (maskChanges L mask) first (begins h) .1) refl,
   )
 
+  -- as many numbers as the rows in use have
+  flat : length (flatten (S .found)) ≡ length (S .found) * w
+  flat = flat-length w (S .found) (λ f i. flag-found f i .1)
+
   pub holds : room * w ≤ length table → room ≤ length bytes
       → Holds L first mask t′ b′ table bytes (length (S .found))
   holds p q = record {
@@ -133,25 +136,13 @@ module _ {m : Limits} {L : Listing} {first : List ℕ} {mask : ℕ} (T : Searcha
     binary = λ k h. rw (byte-is k h) (proper .binary k);
     start = start;
     came = came;
-    long = omega (
-      arith,
-      length-append (flatten (S .found)) (drop (length (flatten (S .found))) table),
-      length-drop (length (flatten (S .found))) table,
-      flat-length w (S .found) (λ f i. flag-found f i .1),
-      mul-le-mul-right w (proper .fits),
-    );
-    past = flat-past w (S .found) table (λ f i. flag-found f i .1);
-    bytes-long = omega (
-      arith,
-      length-append (S .bytes) (drop (length (S .bytes)) bytes),
-      length-drop (length (S .bytes)) bytes,
-      proper .paired,
-      proper .fits,
-    );
-    bytes-past = rw (← proper .paired) (drop-at (S .bytes) _ (length (S .bytes)) refl);
+    long = over-length (flatten (S .found)) table (omega (arith, flat, mul-le-mul-right w (proper .fits)));
+    past = over-past (flatten (S .found)) table (length (S .found) * w) flat;
+    bytes-long = over-length (S .bytes) bytes (omega (arith, proper .paired, proper .fits));
+    bytes-past = over-past (S .bytes) bytes (length (S .found)) (proper .paired);
   }
 
-  -- ---- not over: all that is reachable
+  -- ---- no overflow: all that is reachable
 
   module _ (o : S .overflow ≡ false) where
     all-found : (f : List ℕ) → Reach (Leads L mask) first f → List·Memᴰ f (S .found)

@@ -4,6 +4,6 @@ pub mod Leads
 pub mod Flat
 pub mod InOrder
 pub mod Contents
+pub mod SearchBroken
 pub mod Exact
 pub mod OneAnswer
-pub mod SearchBroken

@@ -1,23 +1,22 @@
 -- Four returns: a refusal of the closed test or 20, 21, 22, and the answer. No loop.
 -- Assumes nothing.
-use mathlib.Core.Bool.{true}
 use mathlib.Core.Path.{_≡_, sym, ap, _∙_}
-use Prim.Native.Nat.{ℕ, _*_, _≤_}
+use Prim.Native.Nat.{ℕ, _*_, _≤_, _<_}
 use native.Mathlib.Omega.{arith}
 use borrow.Author.Tests.{not-true, not-false}
 use borrow.Author.Needs.{needs}
 use lib.ListN.{length}
 use Rattle.listing.proofs.Answers.{no-of}
-use Rattle.listing.specs.Listing.{Listing, listing, limits, rank}
-use Rattle.valid.specs.Closed.{Closed}
+use Rattle.listing.specs.Listing.{Listing, listing, limits}
 use Rattle.flag_change.proofs.StartExact.{start-exact}
-use Rattle.flag_change.specs.Flags.{startTest, IsFlag}
-use Rattle.search_masks.specs.Masks.{maskFits}
-use Rattle.search_masks.proofs.Ranks.{fits-ranks}
+use Rattle.flag_change.specs.Flags.{startTest}
 use Rattle.search_walk.specs.Ready.{Ended}
 use Rattle.search_walk.specs.Searched.{foundBy}
-use Rattle.search.specs.SearchedBy.{refusedAs, roomOf}
-use Rattle.search.proofs.Cases.{room-is, room-fits, outcome-start, outcome-mask, outcome-overflow, outcome-found}
+use Rattle.search.specs.SearchedBy.{refusedAs}
+use Rattle.search.specs.Exact.{Searchable}
+use Rattle.search.specs.Promised.{roomIn}
+use Rattle.search.proofs.Cases.{room-is, room-fits, ends-start, ends-mask, searchable-exact, ends-full}
+use Rattle.search.proofs.Cases.{ends-found}
 use Rattle.search.proofs.search.Statement.{statement}
 use Rattle.search.proofs.search.Tie as tie
 
@@ -47,23 +46,27 @@ searched c = c .before .before .before .before
 start-fine : (c : tie.Else1) → startTest limits (L (began c)) (began c .args .first .now) .no ≡ 0
 start-fine c = no-of (c .before .before .check-flag .ensures) (c .if1 .left)
 
-started : (c : tie.Else1) → Closed limits (L (began c)) × IsFlag (L (began c)) (began c .args .first .now)
-started c = start-exact limits (L (began c)) (began c .args .first .now) .0 (start-fine c)
+-- and the mask asks for inner ranks: it is what a search asks
+some-rank : (c : tie.Else1) → 0 < length (began c .args .counts .now)
+some-rank c = start-exact limits (L (began c)) (began c .args .first .now) .0 (start-fine c) .0 .shaped .some-rank
 
--- the mask fits
-mask-fine : (c : tie.Else2) → maskFits (rank (L (began (passed c)))) (began (passed c) .args .mask) ≡ true
-mask-fine c = sym (c .before .fits2 .ensures) ∙ not-false _ (c .if2 .left)
+searchable : (c : tie.Else2) → let s = began (passed c) in
+    Searchable limits (L s) (s .args .first .now) (s .args .mask)
+searchable c =
+    let s = began (passed c) in
+    searchable-exact limits (L s) (s .args .first .now) (s .args .mask) .0
+    (start-fine (passed c), sym (c .before .fits2 .ensures) ∙ not-false _ (c .if2 .left))
 
 -- the room, and what fits there
 abbrev room : tie.Start → ℕ
-room s = roomOf limits (L s) (length (s .args .table .now)) (length (s .args .bytes .now))
+room s = roomIn limits (L s) (s .args .table .now) (s .args .bytes .now)
 
 room-here : (c : tie.After-room-of) → c .room-of .result ≡ room (began (passed (c .before)))
 room-here c =
     let s = began (passed (c .before)) in
     c .room-of .ensures
     ∙ room-is limits (L s) (length (s .args .table .now)) (length (s .args .bytes .now))
-    (started (passed (c .before)) .0 .shaped .some-rank)
+    (some-rank (passed (c .before)))
 
 room-held : (c : tie.After-room-of) → let s = began (passed (c .before)) in
     (c .room-of .result * length (s .args .counts .now) ≤ length (s .args .table .now))
@@ -101,12 +104,12 @@ returns : tie.Need-returns
 returns c =
     let f = c .before .before .before in
     let s = begun f in
-    let o = outcome-start limits (L s) (s .args .first .now) (s .args .mask) (s .args .table .now) (s .args .bytes .now)
+    let o = ends-start limits (L s) (s .args .first .now) (s .args .mask) (s .args .table .now) (s .args .bytes .now)
     (f .check-flag .result) (f .check-flag .ensures) (c .before .if1 .taken) in
     (c .refused .ensures ∙ o .answer, (o .flags, o .turns))
 
 sub-fits : tie.Need-sub-fits
-sub-fits c = omega (arith, started c .0 .shaped .some-rank)
+sub-fits c = omega (arith, some-rank c)
 
 fits-requires : tie.Need-fits-requires
 fits-requires c κs = search needs
@@ -121,19 +124,18 @@ returns-2 : tie.Need-returns-2
 returns-2 c =
     let p = c .before .before .before .before in
     let s = began p in
-    let o = outcome-mask limits (L s) (s .args .first .now) (s .args .mask) (s .args .table .now) (s .args .bytes .now)
+    let o = ends-mask limits (L s) (s .args .first .now) (s .args .mask) (s .args .table .now) (s .args .bytes .now)
     (start-fine p) (sym (c .before .before .before .fits2 .ensures) ∙ not-true _ (c .before .before .if2 .taken)) in
     (c .refused2 .ensures ∙ ap refusedAs (c .before .plain .ensures) ∙ o .answer, (o .flags, o .turns))
 
 room-of-requires : tie.Need-room-of-requires
-room-of-requires c κs = started (c .before .before) .0 .shaped .some-rank
+room-of-requires c κs = some-rank (passed c)
 
 search-from-requires : tie.Need-search-from-requires
 search-from-requires c κs =
     let r = c .before .before in
-    let s = began (passed (r .before)) in
-    let p = started (passed (r .before)) in
-    (p .0, (p .1, (fits-ranks (rank (L s)) (s .args .mask) (mask-fine (r .before)), room-held r)))
+    let T = searchable (r .before) in
+    (T .closed, (T .is-flag, (T .inner, room-held r)))
 
 plain-requires-2 : tie.Need-plain-requires-2
 plain-requires-2 c κs = search needs
@@ -150,10 +152,8 @@ same-length-2 c = search needs
 returns-3 : tie.Need-returns-3
 returns-3 c =
     let e = searched (c .before .before .before) in
-    let r = ready e in
-    let s = began (passed (r .before)) in
-    let o = outcome-overflow limits (L s) (s .args .first .now) (s .args .mask) (s .args .table .now) (s .args .bytes .now)
-    (start-fine (passed (r .before))) (mask-fine (r .before)) (ended e) (within e) (c .before .before .if3 .taken) in
+    let T = searchable (ready e .before) in
+    let o = ends-full T _ _ (ended e) (within e) (c .before .before .if3 .taken) in
     (c .refused3 .ensures ∙ ap refusedAs (c .before .plain2 .ensures) ∙ o .answer, (o .flags, o .turns))
 
 found-requires : tie.Need-found-requires
@@ -168,10 +168,8 @@ same-length-4 c = search needs
 returns-4 : tie.Need-returns-4
 returns-4 c =
     let e = searched (c .before .before) in
-    let r = ready e in
-    let s = began (passed (r .before)) in
-    let o = outcome-found limits (L s) (s .args .first .now) (s .args .mask) (s .args .table .now) (s .args .bytes .now)
-    (start-fine (passed (r .before))) (mask-fine (r .before)) (ended e) (within e) (c .before .if3 .left) in
+    let T = searchable (ready e .before) in
+    let o = ends-found T _ _ (ended e) (within e) (c .before .if3 .left) in
     (c .found .ensures ∙ o .answer, (o .flags, o .turns))
 
 pub search-spec : {M : Type 1} → statement M
