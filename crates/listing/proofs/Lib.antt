@@ -9,3 +9,4 @@ pub mod Written
 pub mod Broken
 pub mod Among
 pub mod ShapeBroken
+pub mod Clear

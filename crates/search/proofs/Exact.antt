@@ -9,7 +9,6 @@ use native.Mathlib.Omega.{arith}
 use lib.ListN.{length, take}
 use Rattle.order.specs.Lists.{over}
 use Rattle.listing.specs.Refusals.{moreFlags}
-use Rattle.listing.specs.Answers.{fine}
 use Rattle.listing.specs.Listing.{Listing, Limits, rank}
 use Rattle.listing.proofs.Broken.{zero-or}
 use Rattle.flag_change.specs.Flags.{startTest}
@@ -146,9 +145,6 @@ module _ (m : Limits) (L : Listing) (first : List ℕ) (mask : ℕ) (table bytes
         let s = said-fine T table bytes o in
         rw (← s .answer, ← s .flags, ← s .turns) (finds T room table bytes o)
 
-    fine-answer : S .overflow ≡ false → r .answer ≡ fine
-    fine-answer o = ap (λ x. x .answer) (sym (said-fine T table bytes o .answer))
-
   -- For any listing, first flag, mask, table and bytes: what a search answers and writes. It answers 0 or 22 exactly if
   -- the listing is closed, the first is a flag of it and the mask asks for inner ranks: 22 if more flags are reachable
   -- than there is room for, and else 0, with all of them in the table in the order found, counted, and coloured by the
@@ -158,7 +154,6 @@ module _ (m : Limits) (L : Listing) (first : List ℕ) (mask : ℕ) (table bytes
   promised = record {
     refusals = rw (said m L first mask table bytes) (search-broken m L first mask room);
     numbers = refused-numbers m L first mask table bytes;
-    fine-answer = λ e. let c = fine-case e in fine-answer (c .0) (c .1);
     untouched = other-case;
     full = λ e. let c = full-case e in full-holds (c .0) (c .1);
     first-found = λ e. let c = full-case e in firsts (c .0) (c .1);

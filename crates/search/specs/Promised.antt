@@ -12,7 +12,6 @@ use mathlib.Core.List.{List}
 use Prim.Native.Nat.{ℕ, _+_, _≤_}
 use lib.ListN.{length, take}
 use Rattle.listing.specs.Refusals.{moreFlags}
-use Rattle.listing.specs.Answers.{fine}
 use Rattle.listing.specs.Listing.{Listing, Limits, rank}
 use Rattle.listing.specs.Rules.{FirstBroken}
 use Rattle.search_store.specs.Rows.{rows}
@@ -29,7 +28,6 @@ pub record Promised (m : Limits) (L : Listing) (first : List ℕ) (mask : ℕ) (
     (table′ bytes′ : List ℕ) : Type 0 where
   pub refusals : FirstBroken (searchRules m L first mask (roomIn m L table bytes)) (r .answer .no)
   pub numbers : r .answer .no ≢ 0 → r ≡ refusedAs (r .answer)
-  pub fine-answer : r .answer .no ≡ 0 → r .answer ≡ fine
   pub untouched : r .answer .no ≢ 0 → r .answer .no ≢ moreFlags → (table′ ≡ table) × (bytes′ ≡ bytes)
   pub full : r .answer .no ≡ moreFlags → Holds L first mask table′ bytes′ table bytes (roomIn m L table bytes)
   pub first-found : r .answer .no ≡ moreFlags → (more : ℕ) → roomIn m L table bytes ≤ more
