@@ -18,7 +18,7 @@ ghost use Rattle.product.specs.Outcome.{Outcome};
 ghost use Rattle.flag.specs.Changed.{changedOf};
 ghost use Rattle.search_events.specs.Events.{SaidStep};
 ghost use Rattle.flag.specs.Orientations.{ofByte, signOf};
-ghost use Rattle.search.specs.Outcome.{searchedBy, tableAfter, bytesAfter};
+ghost use Rattle.search.specs.SearchedBy.{searchedBy, tableAfter, bytesAfter};
 
 #[no_mangle]
 pub extern "C" fn fd_rank(counts: &[Index]) -> Number

@@ -8,3 +8,5 @@ pub mod Added
 pub mod Struck
 pub mod Trim
 pub mod Product
+pub mod Over
+pub mod Earlier

@@ -4,7 +4,6 @@ pub mod NamedIncidences
 pub mod NamedTests
 pub mod NamedBetween
 pub mod Produced
-pub mod Searched
 pub mod Cases
 pub mod OfTests
 pub mod OfProducts

@@ -21,8 +21,10 @@ use Rattle.flag.proofs.ChangeAnswers.{change-changes}
 use Rattle.flag.proofs.ChangeBroken.{change-broken}
 use Rattle.search_masks.specs.Masks.{maskFits}
 use Rattle.search_walk.specs.Searched.{foundBy}
-use Rattle.search.specs.Outcome.{searchTest}
+use Rattle.search.specs.SearchedBy.{searchTest}
 use Rattle.search.proofs.SearchBroken.{said}
+use Rattle.search.proofs.Exact.{promised}
+use Rattle.search.proofs.OneAnswer as search
 use Rattle.promises.specs.Entries.{lent, flag, asked, tables}
 use Rattle.promises.specs.Named.{Named, of-flags}
 use Rattle.promises.specs.OfFlags.{FlagsTaken, FlagsRefuse, FlagsNamed, FlagsAnswer, FlagsOnce}
@@ -31,7 +33,6 @@ use Rattle.promises.proofs.Cases.{byte-flipped, sign-of, byte-of}
 use Rattle.promises.proofs.Cases.{in-order, said-in-order, stays-past, said-stays-past}
 use Rattle.promises.proofs.Firsts.{Tells, tells-or, tells-on}
 use Rattle.promises.proofs.NamedTests.{closed-named}
-use Rattle.promises.proofs.Searched.{searches, found}
 
 pub flags-taken : FlagsTaken
 flags-taken = record { flags = (any, any, any, any, any); search = any; events = (any, any, any, any, any) }
@@ -55,7 +56,7 @@ change-clear m L f r = clear-or (startTest m L f) (clear-plain (not (ltb 0 r && 
 search-clear : (m : Limits) (L : Listing) (f : List ℕ) (mask room : ℕ) → Clear (searchTest m L f mask room)
 unfolding searchTest
 search-clear m L f mask room =
-    clear-or (startTest m L f) (clear-or _ (clear-plain (foundBy L f mask room .over) 22))
+    clear-or (startTest m L f) (clear-or _ (clear-plain (foundBy L f mask room .overflow) 22))
 
 pub flags-refuse : FlagsRefuse
 unfolding changedOf
@@ -63,10 +64,10 @@ flags-refuse = record {
   change-refuses = λ k a r x p. rw p
       (change-broken limits (lent a) (flag a) (asked a), refused-flag limits (lent a) (flag a) (asked a));
   search-searches = λ k a r x p. rw (p .0, p .1 .0, p .1 .1)
-      (searches (lent a) (flag a) (asked a) (tables a .0) (tables a .1));
+      (promised limits (lent a) (flag a) (asked a) (tables a .0) (tables a .1));
   answered-fine = (
     λ k a r x p. rw p (clear-exact (change-clear limits (lent a) (flag a) (asked a))),
-    λ k a r x p. rw (p .0, said (lent a) (flag a) (asked a) (tables a .0) (tables a .1))
+    λ k a r x p. rw (p .0, said limits (lent a) (flag a) (asked a) (tables a .0) (tables a .1))
         (clear-exact (search-clear limits (lent a) (flag a) (asked a) _)),
   );
 }
@@ -97,9 +98,9 @@ module _ (m : Limits) (L : Listing) (f : List ℕ) where
   search-tells mask room =
       let out = not (maskFits (rank L) mask) in
       tells-or N (startTest m L f) _ start-tells (λ _.
-      tells-or N (on out (plain 21)) (on (foundBy L f mask room .over) (plain 22))
+      tells-or N (on out (plain 21)) (on (foundBy L f mask room .overflow) (plain 22))
       (flags-tells out 21 (omega arith) (omega arith))
-      (λ _. flags-tells (foundBy L f mask room .over) 22 (omega arith) (omega arith)))
+      (λ _. flags-tells (foundBy L f mask room .overflow) 22 (omega arith) (omega arith)))
 
   -- where closed refuses, the refusal is closed's
   module _ (z : tests.closed m L .no ≢ 0) where
@@ -124,10 +125,10 @@ flags-named = record {
   change-as-closed = λ k l a c r s x y p q e. rw (p, q, e)
       (λ z. change-refused limits (lent a) (flag c) z (asked c));
   search-as-closed = λ k l a c r s x y p q e. rw (p, q .0, e)
-      (λ z. said (lent a) (flag c) (asked c) (tables c .0) (tables c .1)
+      (λ z. said limits (lent a) (flag c) (asked c) (tables c .0) (tables c .1)
       ∙ search-refused limits (lent a) (flag c) z (asked c) _);
   change-names = λ k a r x p. rw p (change-tells limits (lent a) (flag a) (asked a));
-  search-names = λ k a r x p. rw (p .0, said (lent a) (flag a) (asked a) (tables a .0) (tables a .1))
+  search-names = λ k a r x p. rw (p .0, said limits (lent a) (flag a) (asked a) (tables a .0) (tables a .1))
       (search-tells limits (lent a) (flag a) (asked a) _);
 }
 
@@ -136,8 +137,9 @@ flags-named = record {
 pub flags-answer : FlagsAnswer
 flags-answer = record {
   change-by-the-book = λ k a r x p. rw p (change-changes limits (lent a) (flag a) (asked a));
-  search-by-the-book = λ k a r x p. rw (p .0, p .1 .0, p .1 .1)
-      (found (lent a) (flag a) (asked a) (tables a .0) (tables a .1));
+  search-by-the-book = λ k a r x p z.
+      let P = flags-refuse .search-searches k a r x p in
+      (P .holds z, P .finds z);
   flip-by-byte = λ k a r x p. rw p (byte-flipped (a .0));
   sign-by-byte = λ k a r x p. rw p (sign-of (a .0));
   byte-by-byte = λ k a r x p. p;
@@ -162,6 +164,9 @@ flags-once = record {
   one-byte = λ k a b c x y. alike;
   one-of-byte = λ k a b c x y. alike;
   one-search = λ k a b c x y p q. same-search (p .0) (p .1 .0) (p .1 .1) (q .0) (q .1 .0) (q .1 .1);
+  one-found = λ k a r x p z s u v Q e.
+      let P = flags-refuse .search-searches k a r x p in
+      search.one-found (P .holds z) (P .finds z) (Q .holds e) (Q .finds e);
   one-is-marked = λ k a b c x y. alike;
   one-event-at = λ k a b c x y. alike;
   one-events-in = λ k a b c x y. alike;

@@ -6,12 +6,11 @@
 --      (counts, classes, tests), OfProducts, OfFlags (changes, orientations, search, events), OfBoundary (C)
 --   5. the rows of refusals, which stand with the tests that refuse: Rules in listing, valid, flag, search, product
 --   6. Named: what each refusal says of the elements that it names
---   7. Products and Searches: what is promised of one product, of one search
+--   7. Products: what is promised of one product; of one search it stands with the search, search/specs/Promised
 --   8. Starred: the listings to try, in one table
 pub mod Entries
 pub mod Named
 pub mod Products
-pub mod Searches
 pub mod OfTests
 pub mod OfProducts
 pub mod OfFlags

@@ -27,6 +27,8 @@ use Rattle.flag_change.specs.Change.{Changes, changeAt, padded}
 use Rattle.flag.specs.Orientations.{byteOf}
 use Rattle.flag.specs.Rules.{changeRules}
 use Rattle.search.specs.declared.Searched.{Searched}
+use Rattle.search.specs.Exact.{Holds, Finds}
+use Rattle.search.specs.Promised.{Promised}
 use Rattle.search_events.specs.declared.Event.{Event}
 use Rattle.search_events.specs.declared.Event.the-variants.{Nothing}
 use Rattle.search_events.specs.declared.Said.{Said}
@@ -43,7 +45,6 @@ use Rattle.search_events.proofs.events_in.Reads as events-in
 use Rattle.search_events.proofs.next_at.Reads as next-at
 use Rattle.search_events.proofs.numbers.Reads as numbers
 use Rattle.promises.specs.Entries.{Takes, Says, SaysOfTwo, OneAnswer, OneOutcome, Three, lent, flag, asked, tables}
-use Rattle.promises.specs.Searches.{Searches, Found}
 use Rattle.promises.specs.Named.{Named}
 
 pub record SignAt (b : ℕ) (x : Float) : Type 0 where
@@ -78,7 +79,7 @@ pub record FlagsRefuse : Type 0 where
       (λ a r x. FirstBroken (changeRules limits (lent a) (flag a) (asked a)) (r .answer .no)
       × (r .answer .no ≢ 0 → r .flag ≡ replicate (limits .ranks) 0))
   -- a search refuses as closed does, then with 20, 21 and 22; nothing is then written, but the first flags at 22
-  pub search-searches : SearchSays Searches
+  pub search-searches : SearchSays (Promised limits)
   -- a change or a search that is answered carries nothing but 0s beside what it found
   pub answered-fine : Says change.Post (λ a r x. r .answer .no ≡ 0 ↔ r .answer ≡ fine)
       × Says search.Post (λ a r x. r .answer .no ≡ 0 ↔ r .answer ≡ fine)
@@ -101,7 +102,8 @@ pub record FlagsAnswer : Type 0 where
       → Changes (lent a) (flag a) (asked a) × (r .flag ≡ padded (changeAt (lent a) (asked a) (flag a))))
   -- a search finds all flags that changes lead to, each once and in the order found, counts them, two-colours them
   -- where that can be done, and where not says the place of the event
-  pub search-by-the-book : SearchSays (λ L f mask t b r t′ b′. r .answer .no ≡ 0 → Found L f mask t b r t′ b′)
+  pub search-by-the-book : SearchSays (λ L f mask t b r t′ b′. r .answer .no ≡ 0
+      → Holds L f mask t′ b′ t b (r .count) × Finds L f mask t′ b′ r)
   -- the other orientation has the other byte
   pub flip-by-byte : Says flip.Post (λ a r x. byteOf r ≡ 1 - byteOf (a .0))
   -- the sign is 1.0 at byte 0 and -1.0 at byte 1
@@ -133,6 +135,10 @@ pub record FlagsOnce : Type 0 where
   pub one-byte : OneAnswer byte.Post
   pub one-of-byte : OneAnswer of-byte.Post
   pub one-search : OneOutcome search.Post tables
+  -- what a search found is determined by what is promised of it alone: no other answer s, table u and bytes v fit
+  pub one-found : SearchSays (λ L f mask t b r t′ b′. r .answer .no ≡ 0 → (s : Searched) (u v : List ℕ)
+      → Promised limits L f mask t b s u v → s .answer .no ≡ 0
+      → (r .count ≡ s .count) × (r .place ≡ s .place) × (r .orientable ≡ s .orientable) × (t′ ≡ u) × (b′ ≡ v))
   pub one-is-marked : OneAnswer is-marked.Post
   pub one-event-at : OneAnswer event-at.Post
   pub one-events-in : OneAnswer events-in.Post

@@ -1,246 +1,162 @@
--- What a search promises: the flags that changes lead to from the first, all of them and none twice, and their colours.
+-- What is promised of a search holds: which refusal comes when, and what the table and the bytes then hold.
 -- Assumes nothing.
 use mathlib.Core.Path.{_≡_, refl, sym, ap, _∙_}
-use mathlib.Core.Bool.{Bool, true, false, true≢false}
-use mathlib.Core.Logic.{_≢_, _↔_, _⊎_, inl, inr}
-use mathlib.Core.List.{List, _++_}
-use Prim.Native.Nat.{ℕ, suc, _+_, _*_, _≤_}
-use native.Mathlib.Decide.{ℕ-discrete}
+use mathlib.Core.Bool.{Bool, true, false}
+use mathlib.Core.Logic.{_≢_, _⊎_, inl, inr}
+use mathlib.Core.List.{List}
+use Prim.Native.Nat.{ℕ, _+_, _*_, _≤_}
 use native.Mathlib.Omega.{arith}
-use lib.ListN.{length, take, drop}
-use Rattle.listing.specs.declared.Answer.{Answer}
-use Rattle.listing.specs.Answers.{plain, fine}
+use lib.ListN.{length, take}
+use Rattle.order.specs.Lists.{over}
+use Rattle.listing.specs.Refusals.{moreFlags}
 use Rattle.listing.specs.Listing.{Listing, Limits, rank}
-use Rattle.listing.proofs.Answers.{or-stop}
-use Rattle.valid.specs.Closed.{Closed}
-use Rattle.valid.specs.Tests.{closed}
-use Rattle.valid.proofs.ClosedExact.{closed-exact}
-use Rattle.flag_change.specs.Flags.{IsFlag, flagTest, startTest}
-use Rattle.flag_change.proofs.FlagExact.{flag-exact}
-use Rattle.flag_change.proofs.StartExact.{start-exact, start-none}
-use Rattle.search_theory.specs.Search.{State, More}
-use Rattle.search_theory.proofs.Found.{over-exact, over-full}
+use Rattle.listing.proofs.Broken.{zero-or}
+use Rattle.flag_change.specs.Flags.{startTest}
+use Rattle.search_theory.specs.Search.{State}
+use Rattle.search_theory.proofs.Found.{overflow-full}
 use Rattle.search_theory.proofs.Prefix.{prefix}
 use Rattle.search_store.specs.Rows.{rows, sameList, flatten}
 use Rattle.search_store.proofs.Rows.{same-decides}
 use Rattle.search_masks.specs.Masks.{maskFits}
-use Rattle.search_masks.proofs.Ranks.{fits-exact}
+use Rattle.search_walk.specs.Searched.{maskChanges, foundBy}
 use Rattle.search.specs.declared.Searched.{Searched}
-use Rattle.search_walk.specs.Searched.{neighbours, foundBy}
-use Rattle.search.specs.Outcome.{refusedAs, foundAs, roomOf, tableAfter, bytesAfter}
-use Rattle.search.specs.Exact.{Inside, Taken, Leads, Holds, Finds, room, said, number, After, Promised}
-use Rattle.search.proofs.Leads.{more-leads}
-use Rattle.search.proofs.Outcomes.{Outcome, Written, room-fits, outcome-start, outcome-mask, said-full}
-use Rattle.search.proofs.Outcomes.{said-fine}
-use Rattle.search.proofs.Contents.{iff-trans, rows-are, holds, finds}
+use Rattle.search.specs.SearchedBy.{roomOf, searchedBy, tableAfter, bytesAfter}
+use Rattle.search.specs.Exact.{Searchable, Holds, Finds}
+use Rattle.search.specs.Promised.{roomIn, Promised}
+use Rattle.search.proofs.Cases.{Ends, room-fits, ends-start, ends-mask, searchable-exact, said-full, said-fine}
+use Rattle.search.proofs.Contents.{rows-are, holds, finds}
 use Rattle.search.proofs.Numbers.{start-most}
-
--- ---- refused or taken
+use Rattle.search.proofs.SearchBroken.{search-broken, said, refused-numbers}
 
 module _ (m : Limits) (L : Listing) (first : List ℕ) (mask : ℕ) (table bytes : List ℕ) where
+  abbrev room : ℕ
+  room = roomIn m L table bytes
+
+  abbrev S : State (List ℕ)
+  S = foundBy L first mask room
+
+  abbrev r : Searched
+  r = searchedBy m L first mask table bytes
+
+  abbrev t : List ℕ
+  t = tableAfter m L first mask table bytes
+
+  abbrev b : List ℕ
+  b = bytesAfter m L first mask table bytes
+
+  -- ---- refused, or what a search asks
+
   -- nothing is written, and the number is another than 0 and 22
   record Refused : Type 0 where
-    other-0 : number m L first mask table bytes ≢ 0
-    other-22 : number m L first mask table bytes ≢ 22
-    table-kept : tableAfter m L first mask table bytes ≡ table
-    bytes-kept : bytesAfter m L first mask table bytes ≡ bytes
-    untaken : ¬ Taken m L first mask
+    other-0 : r .answer .no ≢ 0
+    other-22 : r .answer .no ≢ moreFlags
+    untouched : (t ≡ table) × (b ≡ bytes)
 
-  refused : (r : Searched) → Outcome m L first mask table bytes r table bytes → r .answer .no ≢ 0 → r .answer .no ≢ 22
-      → (¬ Taken m L first mask) → Refused
-  refused r o h k n = record {
+  refused : (x : Searched) → Ends m L first mask table bytes x table bytes → x .answer .no ≢ 0
+      → x .answer .no ≢ moreFlags → Refused
+  refused x o h k = record {
     other-0 = rw (o .answer) at h;
     other-22 = rw (o .answer) at k;
-    table-kept = sym (o .flags);
-    bytes-kept = sym (o .turns);
-    untaken = n;
+    untouched = (sym (o .flags), sym (o .turns));
   }
 
-  tests : Taken m L first mask → (startTest m L first .no ≡ 0) × (maskFits (rank L) mask ≡ true)
-  tests T = (start-exact m L first .1 (T .closed, T .is-flag), fits-exact (rank L) mask .1 (T .within))
-
-  taken : startTest m L first .no ≡ 0 → maskFits (rank L) mask ≡ true → Taken m L first mask
-  taken z f =
-      let p = start-exact m L first .0 z in
-      record { closed = p .0; is-flag = p .1; within = fits-exact (rank L) mask .0 f }
-
-  view : Refused ⊎ Taken m L first mask
-  view = go (ℕ-discrete (startTest m L first .no) 0) (maskFits (rank L) mask) refl
+  view : Refused ⊎ Searchable m L first mask
+  view = go (zero-or (startTest m L first .no)) (maskFits (rank L) mask) refl
     where
-      a : Answer
-      a = startTest m L first
+      go : (startTest m L first .no ≡ 0) ⊎ (startTest m L first .no ≢ 0) → (f : Bool) → maskFits (rank L) mask ≡ f
+          → Refused ⊎ Searchable m L first mask
+      go (inr h) f e =
+          inl (refused _ (ends-start m L first mask table bytes _ refl h) h
+          (λ k. omega (arith, start-most m L first)))
+      go (inl z) true e = inr (searchable-exact m L first mask .0 (z, e))
+      go (inl z) false e =
+          inl (refused _ (ends-mask m L first mask table bytes z e) (λ k. omega arith) (λ k. omega arith))
 
-      go : Dec (a .no ≡ 0) → (b : Bool) → maskFits (rank L) mask ≡ b → Refused ⊎ Taken m L first mask
-      go (no h) b f =
-          inl (refused _ (outcome-start m L first mask table bytes a refl h) h
-          (λ k. omega (arith, start-most m L first)) (λ T. h (tests T .0)))
-      go (yes z) true f = inr (taken z f)
-      go (yes z) false f =
-          inl (refused _ (outcome-mask m L first mask table bytes z f) (λ k. omega arith) (λ k. omega arith)
-          (λ T. true≢false (sym (tests T .1) ∙ f)))
+  -- ---- the number says which
 
-  -- ---- taken: over or not
+  full-number : Searchable m L first mask → S .overflow ≡ true → r .answer .no ≡ moreFlags
+  full-number T o = ap (λ x. x .answer .no) (sym (said-full T table bytes o .answer))
 
-  module _ (T : Taken m L first mask) where
-    abbrev F : State (List ℕ)
-    F = foundBy L first mask (room m L first mask table bytes)
+  fine-number : Searchable m L first mask → S .overflow ≡ false → r .answer .no ≡ 0
+  fine-number T o = ap (λ x. x .answer .no) (sym (said-fine T table bytes o .answer))
 
-    over-more : (F .over ≡ true) ↔ More (suc (room m L first mask table bytes)) (Leads L mask) first
-    unfolding foundBy
-    over-more = iff-trans (over-exact sameList same-decides _ (neighbours L mask) first) (more-leads T _)
+  full-case : r .answer .no ≡ moreFlags → Searchable m L first mask × (S .overflow ≡ true)
+  full-case e = go view (S .overflow) refl
+    where
+      go : Refused ⊎ Searchable m L first mask → (v : Bool) → S .overflow ≡ v
+          → Searchable m L first mask × (S .overflow ≡ true)
+      go (inl R) v o = absurd (R .other-22 e)
+      go (inr T) true o = (T, o)
+      go (inr T) false o = absurd (omega (arith, e, fine-number T o))
 
-    full-said : F .over ≡ true → Written m L first mask table bytes (refusedAs (plain 22))
-    full-said o = said-full m L first mask table bytes (tests T .0) (tests T .1) o
+  fine-case : r .answer .no ≡ 0 → Searchable m L first mask × (S .overflow ≡ false)
+  fine-case e = go view (S .overflow) refl
+    where
+      go : Refused ⊎ Searchable m L first mask → (v : Bool) → S .overflow ≡ v
+          → Searchable m L first mask × (S .overflow ≡ false)
+      go (inl R) v o = absurd (R .other-0 e)
+      go (inr T) true o = absurd (omega (arith, e, full-number T o))
+      go (inr T) false o = (T, o)
 
-    fine-said : F .over ≡ false → Written m L first mask table bytes (foundAs fine (length (F .found)) (F .place))
-    fine-said o = said-fine m L first mask table bytes (tests T .0) (tests T .1) o
+  other-case : r .answer .no ≢ 0 → r .answer .no ≢ moreFlags → (t ≡ table) × (b ≡ bytes)
+  other-case h k = go view (S .overflow) refl
+    where
+      go : Refused ⊎ Searchable m L first mask → (v : Bool) → S .overflow ≡ v → (t ≡ table) × (b ≡ bytes)
+      go (inl R) v o = R .untouched
+      go (inr T) true o = absurd (k (full-number T o))
+      go (inr T) false o = absurd (h (fine-number T o))
 
-    full-number : F .over ≡ true → number m L first mask table bytes ≡ 22
-    full-number o = ap (λ r. r .answer .no) (sym (full-said o .answer))
+  -- ---- what the slices hold
 
-    fine-number : F .over ≡ false → number m L first mask table bytes ≡ 0
-    fine-number o = ap (λ r. r .answer .no) (sym (fine-said o .answer))
-
+  module _ (T : Searchable m L first mask) where
     -- the slices have the room
-    fits : (room m L first mask table bytes * (rank L + 1) ≤ length table)
-        × (room m L first mask table bytes ≤ length bytes)
+    fits : (room * (rank L + 1) ≤ length table) × (room ≤ length bytes)
     unfolding roomOf
     fits =
-        let f = room-fits m (length table) (length bytes) (rank L + 1) (room m L first mask table bytes) refl in
+        let f = room-fits m (length table) (length bytes) (rank L + 1) room refl in
         (f .0, f .1)
 
-    abbrev new-table : List ℕ
-    new-table = flatten (F .found) ++ drop (length (flatten (F .found))) table
+    held : Holds L first mask (over (flatten (S .found)) table) (over (S .bytes) bytes) table bytes (length (S .found))
+    held = holds T room table bytes (fits .0) (fits .1)
 
-    abbrev new-bytes : List ℕ
-    new-bytes = F .bytes ++ drop (length (F .bytes)) bytes
-
-    held : Holds L first mask new-table new-bytes table bytes (length (F .found))
-    held = holds T (room m L first mask table bytes) table bytes (fits .0) (fits .1)
-
-    full-long : F .over ≡ true → length (F .found) ≡ room m L first mask table bytes
+    full-long : S .overflow ≡ true → length (S .found) ≡ room
     unfolding foundBy
-    full-long o = over-full sameList same-decides _ (neighbours L mask) first o
+    full-long o = overflow-full sameList same-decides room (maskChanges L mask) first o
 
-    full-holds : F .over ≡ true → After m L first mask table bytes (room m L first mask table bytes)
+    full-holds : S .overflow ≡ true → Holds L first mask t b table bytes room
     full-holds o =
-        let s = full-said o in
+        let s = said-full T table bytes o in
         rw (full-long o) at (rw (s .flags, s .turns) at held)
 
-    fine-holds : F .over ≡ false → After m L first mask table bytes (said m L first mask table bytes .count)
-    fine-holds o =
-        let s = fine-said o in
-        rw (← s .answer) (rw (s .flags, s .turns) at held)
-
-    fine-finds : F .over ≡ false → Finds L first mask (tableAfter m L first mask table bytes)
-        (bytesAfter m L first mask table bytes) (said m L first mask table bytes)
-    fine-finds o =
-        let s = fine-said o in
-        rw (← s .answer, ← s .flags, ← s .turns) (finds T (room m L first mask table bytes) table bytes o)
-
-    firsts : F .over ≡ true → (more : ℕ) → room m L first mask table bytes ≤ more
-        → rows (rank L + 1) (tableAfter m L first mask table bytes) (room m L first mask table bytes)
-        ≡ take (room m L first mask table bytes) (foundBy L first mask more .found)
+    firsts : S .overflow ≡ true → (more : ℕ) → room ≤ more
+        → rows (rank L + 1) t room ≡ take room (foundBy L first mask more .found)
     unfolding foundBy
     firsts o more h =
-        let r = rows-are T (room m L first mask table bytes) table bytes in
-        (rw (full-long o, full-said o .flags) at r)
-        ∙ prefix sameList same-decides _ more h (neighbours L mask) first .0
+        (rw (full-long o, said-full T table bytes o .flags) at (rows-are T room table bytes))
+        ∙ prefix sameList same-decides room more h (maskChanges L mask) first .0
 
-  -- ---- the refusals in their order
+    fine-holds : S .overflow ≡ false → Holds L first mask t b table bytes (r .count)
+    fine-holds o =
+        let s = said-fine T table bytes o in
+        rw (← s .answer) (rw (s .flags, s .turns) at held)
 
-  unclosed : ¬ Closed m L → said m L first mask table bytes ≡ refusedAs (closed m L)
-  unfolding startTest
-  unclosed n =
-      let h : closed m L .no ≢ 0 = λ e. n (closed-exact m L .0 e) in
-      sym (outcome-start m L first mask table bytes (closed m L) (sym (or-stop (closed m L) _ h)) h .answer)
+    fine-finds : S .overflow ≡ false → Finds L first mask t b r
+    fine-finds o =
+        let s = said-fine T table bytes o in
+        rw (← s .answer, ← s .flags, ← s .turns) (finds T room table bytes o)
 
-  no-flag : Closed m L → ¬ IsFlag L first → said m L first mask table bytes ≡ refusedAs (plain 20)
-  no-flag C n = go (flagTest L first) refl
-    where
-      go : (b : Bool) → flagTest L first ≡ b → said m L first mask table bytes ≡ refusedAs (plain 20)
-      go true f = absurd (n (flag-exact L first .0 f))
-      go false f =
-          let e : plain 20 ≡ startTest m L first = start-none m L first refl (closed-exact m L .1 C) f refl in
-          sym (outcome-start m L first mask table bytes (plain 20) e (λ k. omega arith) .answer)
-
-  outside : Closed m L → IsFlag L first → ¬ Inside L mask → said m L first mask table bytes ≡ refusedAs (plain 21)
-  outside C f n = go (maskFits (rank L) mask) refl
-    where
-      go : (b : Bool) → maskFits (rank L) mask ≡ b → said m L first mask table bytes ≡ refusedAs (plain 21)
-      go true e = absurd (n (fits-exact (rank L) mask .0 e))
-      go false e = sym (outcome-mask m L first mask table bytes (start-exact m L first .1 (C, f)) e .answer)
-
-  -- ---- in all cases
-
-  none-promised : Refused → Promised m L first mask table bytes
-  none-promised R = record {
-    unclosed = unclosed;
-    no-flag = no-flag;
-    outside = outside;
-    answered = (λ e. absurd (R .other-0 e), λ p. absurd (R .untaken (p .0)));
-    full = (λ e. absurd (R .other-22 e), λ p. absurd (R .untaken (p .0)));
-    fine-answer = λ e. absurd (R .other-0 e);
-    full-answer = λ e. absurd (R .other-22 e);
-    holds = λ e. absurd (R .other-0 e);
-    finds = λ e. absurd (R .other-0 e);
-    holds-first = λ e. absurd (R .other-22 e);
-    first-found = λ e. absurd (R .other-22 e);
-    untouched = λ h k. (R .table-kept, R .bytes-kept);
+  -- For any listing, first flag, mask, table and bytes: what a search answers and writes. It answers 0 or 22 exactly if
+  -- the listing is closed, the first is a flag of it and the mask asks for inner ranks: 22 if more flags are reachable
+  -- than there is room for, and else 0, with all of them in the table in the order found, counted, and coloured by the
+  -- bytes if they can be.
+  pub promised : Promised m L first mask table bytes (searchedBy m L first mask table bytes)
+      (tableAfter m L first mask table bytes) (bytesAfter m L first mask table bytes)
+  promised = record {
+    refusals = rw (said m L first mask table bytes) (search-broken m L first mask room);
+    numbers = refused-numbers m L first mask table bytes;
+    untouched = other-case;
+    full = λ e. let c = full-case e in full-holds (c .0) (c .1);
+    first-found = λ e. let c = full-case e in firsts (c .0) (c .1);
+    holds = λ e. let c = fine-case e in fine-holds (c .0) (c .1);
+    finds = λ e. let c = fine-case e in fine-finds (c .0) (c .1);
   }
-
-  full-promised : (T : Taken m L first mask) → F T .over ≡ true → Promised m L first mask table bytes
-  full-promised T o =
-      let n = full-number T o in
-      let other : number m L first mask table bytes ≢ 0 = λ e. omega arith in
-      record {
-        unclosed = unclosed;
-        no-flag = no-flag;
-        outside = outside;
-        answered = (λ e. absurd (other e), λ p. absurd (p .1 (over-more T .0 o)));
-        full = (λ e. (T, over-more T .0 o), λ p. n);
-        fine-answer = λ e. absurd (other e);
-        full-answer = λ e. sym (full-said T o .answer);
-        holds = λ e. absurd (other e);
-        finds = λ e. absurd (other e);
-        holds-first = λ e. full-holds T o;
-        first-found = λ e. firsts T o;
-        untouched = λ h k. absurd (k n);
-      }
-
-  fine-promised : (T : Taken m L first mask) → F T .over ≡ false → Promised m L first mask table bytes
-  fine-promised T o =
-      let n = fine-number T o in
-      let other : number m L first mask table bytes ≢ 22 = λ e. omega arith in
-      let few : ¬ More (suc (room m L first mask table bytes)) (Leads L mask) first =
-      λ q. true≢false (sym (over-more T .1 q) ∙ o) in
-      record {
-        unclosed = unclosed;
-        no-flag = no-flag;
-        outside = outside;
-        answered = (λ e. (T, few), λ p. n);
-        full = (λ e. absurd (other e), λ p. absurd (few (p .1)));
-        fine-answer = λ e. ap (λ r. r .answer) (sym (fine-said T o .answer));
-        full-answer = λ e. absurd (other e);
-        holds = λ e. fine-holds T o;
-        finds = λ e. fine-finds T o;
-        holds-first = λ e. absurd (other e);
-        first-found = λ e. absurd (other e);
-        untouched = λ h k. absurd (h n);
-      }
-
--- For any listing, first flag, mask, table and bytes: what a search answers and writes. It answers 0 or 22 exactly if
--- the listing is closed, the first is a flag of it and the mask fits: 22 if more flags are reachable than there is room
--- for, and else 0, with all of them in the table in the order found, counted, and coloured by the bytes if they can be.
-pub promised : (m : Limits) (L : Listing) (first : List ℕ) (mask : ℕ) (table bytes : List ℕ)
-    → Promised m L first mask table bytes
-promised m L first mask table bytes = go (view m L first mask table bytes)
-  where
-    cases : (T : Taken m L first mask) (b : Bool) → F m L first mask table bytes T .over ≡ b
-        → Promised m L first mask table bytes
-    cases T true o = full-promised m L first mask table bytes T o
-    cases T false o = fine-promised m L first mask table bytes T o
-
-    go : Refused m L first mask table bytes ⊎ Taken m L first mask → Promised m L first mask table bytes
-    go (inl R) = none-promised m L first mask table bytes R
-    go (inr T) = cases T (F m L first mask table bytes T .over) refl

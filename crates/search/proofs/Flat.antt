@@ -1,12 +1,12 @@
--- Flags written one after another: each stands in its row, and past them is what stood there.
+-- Flags written one after another: how many numbers that makes, and each stands in its row.
 -- Assumes nothing.
 use mathlib.Core.Path.{_≡_, refl, sym, _∙_}
 use mathlib.Core.List.{List, [], _∷_, _++_, List·Memᴰ·head, List·Memᴰ·tail, append-assoc}
 use Prim.Native.Nat.{ℕ, zero, suc, _+_, _*_, _<_}
 use native.Mathlib.Nat.{suc-mul, zero-mul}
 use native.Mathlib.Omega.{arith}
-use lib.ListN.{length, getD, drop, length-append}
-use lib.Seq.{take-at, drop-at, drop-append-add}
+use lib.ListN.{length, getD, length-append}
+use lib.Seq.{take-at, drop-append-add}
 use Rattle.search_store.specs.Rows.{rowOf, flatten}
 use Rattle.search_walk.proofs.Neighbours.{All}
 
@@ -32,9 +32,3 @@ module _ (w : ℕ) where
       let e : suc k * w ≡ length f + k * w = omega (arith, suc-mul k w, h f (List·Memᴰ·head refl)) in
       rw (e, append-assoc f (flatten l) rest, drop-append-add f (flatten l ++ rest) (k * w))
       (flat-row l rest (λ g m. h g (List·Memᴰ·tail m)) k (omega arith))
-
-  pub flat-past : (l : List (List ℕ)) (old : List ℕ) → Wide l
-      → drop (length l * w) (flatten l ++ drop (length (flatten l)) old) ≡ drop (length l * w) old
-  flat-past l old h =
-      let e = flat-length l h in
-      rw e (drop-at (flatten l) (drop (length l * w) old) (length l * w) e)

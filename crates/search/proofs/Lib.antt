@@ -1,9 +1,9 @@
 pub mod Numbers
-pub mod Outcomes
+pub mod Cases
 pub mod Leads
 pub mod Flat
 pub mod InOrder
 pub mod Contents
+pub mod SearchBroken
 pub mod Exact
 pub mod OneAnswer
-pub mod SearchBroken

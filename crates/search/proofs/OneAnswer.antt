@@ -1,8 +1,8 @@
--- No second answer fits what is promised of a search: it determines each number of the table and the bytes, the count
--- and the place.
+-- No second answer fits what is promised of a search that found its flags: it determines each number of the table and
+-- the bytes, the count, the place and whether they are orientable.
 -- Assumes nothing.
 use mathlib.Core.Path.{_≡_, sym, ap, _∙_}
-use mathlib.Core.Logic.{_≢_, _⊎_, inl, inr}
+use mathlib.Core.Logic.{_≢_, inl, inr}
 use mathlib.Core.List.{List, [], _∷_, _++_, Memᴰ·cast}
 use Prim.Native.Nat.{ℕ, zero, suc, _+_, _-_, _*_, _≤_, _<_}
 use native.Mathlib.Decide.{ℕ-discrete, decLt}
@@ -10,32 +10,15 @@ use native.Mathlib.Omega.{arith}
 use lib.ListN.{length, getD, take, drop, take-append-drop}
 use lib.Seq.{ext-getD, getD-drop}
 use Rattle.order.specs.Lists.{Earlier}
+use Rattle.order.proofs.Earlier.{Compared, compare, earlier-at}
 use Rattle.listing.specs.Listing.{Listing, rank}
 use Rattle.flag_change.specs.Change.{changeAt}
-use Rattle.search_theory.specs.Search.{Once}
+use Rattle.search_theory.specs.Search.{Once, Colouring}
 use Rattle.search_theory.proofs.Once.{in-at}
 use Rattle.search_store.specs.Rows.{rowOf, rows, flatten}
 use Rattle.search_store.proofs.Rows.{rows-length, rows-at, rows-flat}
 use Rattle.search.specs.declared.Searched.{Searched}
-use Rattle.search.specs.Exact.{FirstMet, Repeat, Holds, Finds}
-
--- ---- which is met before which
-
-abbrev Compared : ℕ → ℕ → ℕ → ℕ → Type 0
-Compared j i p q = Earlier j i p q ⊎ (Earlier p q j i ⊎ ((j ≡ p) × (i ≡ q)))
-
-compare : (j i p q : ℕ) → Compared j i p q
-compare j i p q = go (decLt j p) (decLt p j) (decLt i q) (decLt q i)
-  where
-    go : Dec (j < p) → Dec (p < j) → Dec (i < q) → Dec (q < i) → Compared j i p q
-    go (yes a) b c d = inl (inl a)
-    go (no a) (yes b) c d = inr (inl (inl b))
-    go (no a) (no b) (yes c) d = inl (inr (omega arith, c))
-    go (no a) (no b) (no c) (yes d) = inr (inl (inr (omega arith, d)))
-    go (no a) (no b) (no c) (no d) = inr (inr (omega arith, omega arith))
-
-earlier-at : {j i p q p′ q′ : ℕ} → p ≡ p′ → q ≡ q′ → Earlier j i p q → Earlier j i p′ q′
-earlier-at e f h = rw (e, f) at h
+use Rattle.search.specs.Exact.{Leads, FirstMet, Repeat, Holds, Finds}
 
 -- ---- nothing stands twice
 
@@ -71,7 +54,7 @@ module _ (L : Listing) (mask : ℕ) where
       → ((j : ℕ) → j < k → row j ≢ row k) → (c : FirstMet L mask row byte k) (d : FirstMet L mask row′ byte′ k)
       → ¬ Earlier (c .from) (c .at) (d .from) (d .at)
   not-earlier row row′ byte byte′ k e o c d h =
-      let s = d .first (c .from) (c .at) h (c .asked) in
+      let s = d .first (c .from) (c .at) h (c .in-mask) in
       o (s .index) (s .below)
       (e (s .index) (s .below) ∙ s .is ∙ ap (changeAt L (c .at)) (sym (e (c .from) (c .earlier))) ∙ sym (c .is))
 
@@ -117,7 +100,7 @@ module _ (L : Listing) (mask : ℕ) where
     sooner : (p q : ℕ) → p ≤ n → q ≤ n → (c : Repeat L mask row byte p) (d : Repeat L mask row byte q)
         → ¬ Earlier (c .from) (c .at) (d .from) (d .at)
     sooner p q h k c d e =
-        let s = d .met (c .from) (c .at) e (c .asked) in
+        let s = d .met (c .from) (c .at) e (c .in-mask) in
         let i : s .index ≡ c .index =
         apart-same n row o (s .index) (c .index) (omega (arith, s .below)) (omega (arith, c .below))
         (s .is ∙ sym (c .is)) in
@@ -189,6 +172,20 @@ module _ {L : Listing} {first : List ℕ} {mask : ℕ} {table bytes t b t′ b�
     ext-getD 0 b b′ (H .bytes-long ∙ sym (H′ .bytes-long)) same-bytes,
   )
 
+module _ {L : Listing} {first : List ℕ} {mask : ℕ} {t b t′ b′ : List ℕ} {r r′ : Searched}
+    (F : Finds L first mask t b r) (F′ : Finds L first mask t′ b′ r′) where
+  same-count : r .count ≡ r′ .count
+  same-count = omega (arith, F .count .1 (r′ .count) (F′ .count .0), F′ .count .1 (r .count) (F .count .0))
+
+  same-orientable : r .orientable ≡ r′ .orientable
+  same-orientable = go (ℕ-discrete (r .orientable) 1)
+    where
+      go : Dec (r .orientable ≡ 1) → r .orientable ≡ r′ .orientable
+      go (yes e) = e ∙ sym (F′ .orientable .1 (F .orientable .0 e))
+      go (no e) =
+          let n : ¬ Colouring (Leads L mask) first = λ c. e (F .orientable .1 c) in
+          F .not-orientable .1 n ∙ sym (F′ .not-orientable .1 n)
+
 -- The count and the place of an answer are determined by the slices.
 pub one-count : {L : Listing} {first : List ℕ} {mask : ℕ} {table bytes t b : List ℕ} {r r′ : Searched}
     → Holds L first mask t b table bytes (r .count) → Finds L first mask t b r → Finds L first mask t b r′
@@ -197,7 +194,7 @@ one-count {L} {first} {mask} {table} {bytes} {t} {b} {r} {r′} H F F′ =
     (many, go (ℕ-discrete (r .place) 0) (ℕ-discrete (r′ .place) 0))
   where
     many : r .count ≡ r′ .count
-    many = omega (arith, F .count .1 (r′ .count) (F′ .count .0), F′ .count .1 (r .count) (F .count .0))
+    many = same-count F F′
 
     go : Dec (r .place ≡ 0) → Dec (r′ .place ≡ 0) → r .place ≡ r′ .place
     go (yes a) (yes c) = a ∙ sym c
@@ -207,3 +204,14 @@ one-count {L} {first} {mask} {table} {bytes} {t} {b} {r} {r′} H F F′ =
         same-place L mask (rowOf (rank L + 1) t) (λ k. getD b k 0) (r .count)
         (rows-apart (rank L + 1) t (r .count) (H .once)) (r .place) (r′ .place) (F .placed)
         (omega (arith, F′ .placed, many)) (F .event (omega arith)) (F′ .event (omega arith))
+
+-- Two outcomes of one call that are both promised, and in both of which the flags were found, are the same.
+pub one-found : {L : Listing} {first : List ℕ} {mask : ℕ} {table bytes t b t′ b′ : List ℕ} {r r′ : Searched}
+    → Holds L first mask t b table bytes (r .count) → Finds L first mask t b r
+    → Holds L first mask t′ b′ table bytes (r′ .count) → Finds L first mask t′ b′ r′
+    → (r .count ≡ r′ .count) × (r .place ≡ r′ .place) × (r .orientable ≡ r′ .orientable) × (t ≡ t′) × (b ≡ b′)
+one-found H F H′ F′ =
+    let n = same-count F F′ in
+    let s = one-table H (rw (sym n) at H′) in
+    let p = one-count H F (rw (sym (s .0), sym (s .1)) at F′) in
+    (n, p .1, same-orientable F F′, s .0, s .1)

@@ -1,61 +1,43 @@
--- What a search promises, said of flags and of the slices that it writes. Only `first-found` names the search itself,
--- with more room.
+-- What a search finds, said of flags and of the slices that it writes.
 --
--- Inside     the set bits of a mask are ranks from 1 to rank - 1
--- Taken      what a search asks: a closed listing, a flag of it to begin with, and a mask whose bits are inside
--- Asked      the mask asks for the change at rank r
--- Leads      g is a flag that differs from f at one rank exactly, at which the mask asks for a change
--- FirstMet   flag k is the change at a rank of a flag before it, with the byte that this one does not have, and all
---            changes that were met before stand before it: flags are taken in order, ranks from the lowest upward
--- Repeat     the change at a rank of one of the first n flags stands among these with the byte of the flag that it came
---            of; all changes that were met before stand among these with the other byte, and these were all met before
--- Holds      n flags, each reachable and none twice, stand in the first rows of a table in the order found, with a byte
---            0 or 1 for each, and past them the table and the bytes are as they were
--- Finds      an answer that is no refusal: the flags held are all that are reachable, and it counts them; it says
---            whether they can be given two colours so that each change exchanges these, and if so the bytes are these
---            colours, and if not how many flags were known at the first repeat with another byte
--- row, byte  flag k of a table, and its byte
--- room       how many flags there is room for
--- said       what a search answers, and number its number
--- After      n flags are held by what the table and the bytes hold afterwards
--- Promised   what a search answers and writes, in all cases
+-- Searchable   what a search asks: a closed listing, a flag of it to begin with, and a mask that asks for inner ranks
+-- Leads        g is a flag that differs from f at one rank exactly, at which the mask asks for a change
+-- FirstMet     flag k is the change at a rank of a flag before it, with the byte that this one does not have, and all
+--              changes that were met before stand before it: flags are taken in order, ranks from the lowest upward
+-- Repeat       the change at a rank of one of the first n flags stands among these with the byte of the flag that it
+--              came of; all changes that were met before stand among these with the other byte, and these were all met
+--              before
+-- row, byte    flag k of a table, and its byte
+-- Holds        n flags, each reachable and none twice, stand in the first rows of a table in the order found, with a
+--              byte 0 or 1 for each, and past them the table and the bytes are as they were
+-- Finds        an answer that is no refusal: the flags held are all that are reachable, and it counts them; it says
+--              whether they can be given two colours so that each change exchanges these, and if so the bytes are these
+--              colours, and if not how many flags were known at the first repeat with another byte
 use mathlib.Core.Path.{_≡_}
-use mathlib.Core.Logic.{_≢_, _↔_}
+use mathlib.Core.Logic.{_↔_}
 use mathlib.Core.List.{List, List·Memᴰ}
-use Prim.Native.Nat.{ℕ, suc, _+_, _-_, _*_, _≤_, _<_}
-use lib.ListN.{length, getD, take, drop}
+use Prim.Native.Nat.{ℕ, _+_, _-_, _*_, _≤_, _<_}
+use lib.ListN.{length, getD, drop}
 use Rattle.order.specs.Lists.{Earlier}
 use Rattle.order.specs.Steps.{ChangedAt, Reach}
-use Rattle.listing.specs.Refusals.{notAFlag, outsideRanks, moreFlags}
-use Rattle.listing.specs.Answers.{plain, fine}
 use Rattle.listing.specs.Listing.{Listing, Limits, rank}
 use Rattle.valid.specs.Closed.{Closed}
-use Rattle.valid.specs.Tests.{closed}
 use Rattle.flag_change.specs.Flags.{IsFlag}
 use Rattle.flag_change.specs.Change.{changeAt}
-use Rattle.search_theory.specs.Search.{Once, More, Colouring, tone}
+use Rattle.search_theory.specs.Search.{Once, AtLeast, Colouring, tone}
 use Rattle.search_theory.specs.Course.{Stands, Agrees}
 use Rattle.search_store.specs.Rows.{rowOf, rows}
-use Rattle.search_masks.specs.Masks.{bit}
+use Rattle.search_masks.specs.Masks.{InMask, InnerRanks}
 use Rattle.search.specs.declared.Searched.{Searched}
-use Rattle.search_walk.specs.Searched.{foundBy}
-use Rattle.search.specs.Outcome.{refusedAs, roomOf, searchedBy, tableAfter, bytesAfter}
 
-abbrev pub Inside : Listing → ℕ → Type 0
-Inside L mask = (r : ℕ) → r < 16 → bit mask r ≡ 1 → (0 < r) × (r < rank L)
-
-pub record Taken (m : Limits) (L : Listing) (first : List ℕ) (mask : ℕ) : Type 0 where
+pub record Searchable (m : Limits) (L : Listing) (first : List ℕ) (mask : ℕ) : Type 0 where
   pub closed : Closed m L
   pub is-flag : IsFlag L first
-  pub within : Inside L mask
-
-abbrev pub Asked : ℕ → ℕ → Type 0
-Asked mask r = (r < 16) × (bit mask r ≡ 1)
+  pub inner : InnerRanks (rank L) mask
 
 pub record Leads (L : Listing) (mask : ℕ) (f g : List ℕ) : Type 0 where
   pub at : ℕ
-  pub inside : at < 16
-  pub asked : bit mask at ≡ 1
+  pub in-mask : InMask mask at
   pub is-flag : IsFlag L g
   pub changed : ChangedAt at f g
 
@@ -64,24 +46,24 @@ module _ (L : Listing) (mask : ℕ) (row : ℕ → List ℕ) (byte : ℕ → ℕ
     pub from : ℕ
     pub at : ℕ
     pub earlier : from < k
-    pub asked : Asked mask at
+    pub in-mask : InMask mask at
     pub is : row k ≡ changeAt L at (row from)
     pub turned : byte k ≡ 1 - byte from
-    pub first : (j r : ℕ) → Earlier j r from at → Asked mask r → Stands row k (changeAt L r (row j))
+    pub first : (j r : ℕ) → Earlier j r from at → InMask mask r → Stands row k (changeAt L r (row j))
 
   pub record Repeat (n : ℕ) : Type 0 where
     pub from : ℕ
     pub at : ℕ
     pub known : from < n
-    pub asked : Asked mask at
+    pub in-mask : InMask mask at
     pub index : ℕ
     pub below : index < n
     pub is : row index ≡ changeAt L at (row from)
     pub alike : byte index ≡ byte from
-    pub met : (j r : ℕ) → Earlier j r from at → Asked mask r
+    pub met : (j r : ℕ) → Earlier j r from at → InMask mask r
         → Agrees row byte n (changeAt L r (row j)) (1 - byte j)
     pub few : (k : ℕ) → 0 < k → k < n
-        → (j : ℕ) × (r : ℕ) × Earlier j r from at × Asked mask r × (row k ≡ changeAt L r (row j))
+        → (j : ℕ) × (r : ℕ) × Earlier j r from at × InMask mask r × (row k ≡ changeAt L r (row j))
 
 module _ (L : Listing) (first : List ℕ) (mask : ℕ) (table′ bytes′ : List ℕ) where
   abbrev pub row : ℕ → List ℕ
@@ -104,7 +86,7 @@ module _ (L : Listing) (first : List ℕ) (mask : ℕ) (table′ bytes′ : List
 
   pub record Finds (r : Searched) : Type 0 where
     pub all : (f : List ℕ) → Reach (Leads L mask) first f → List·Memᴰ f (rows (rank L + 1) table′ (r .count))
-    pub count : More (r .count) (Leads L mask) first × ((n : ℕ) → More n (Leads L mask) first → n ≤ r .count)
+    pub count : AtLeast (r .count) (Leads L mask) first × ((n : ℕ) → AtLeast n (Leads L mask) first → n ≤ r .count)
     pub orientable : (r .orientable ≡ 1) ↔ Colouring (Leads L mask) first
     pub not-orientable : (r .orientable ≡ 0) ↔ (¬ Colouring (Leads L mask) first)
     pub place : (0 < r .place) ↔ (¬ Colouring (Leads L mask) first)
@@ -114,35 +96,3 @@ module _ (L : Listing) (first : List ℕ) (mask : ℕ) (table′ bytes′ : List
         → byte k ≡ 1 - byte j
     pub colours : (c : Colouring (Leads L mask) first) (k : ℕ) → k < r .count
         → byte k ≡ tone (c .colour first) (c .colour (row k))
-
-module _ (m : Limits) (L : Listing) (first : List ℕ) (mask : ℕ) (table bytes : List ℕ) where
-  abbrev pub room : ℕ
-  room = roomOf m L (length table) (length bytes)
-
-  abbrev pub said : Searched
-  said = searchedBy m L first mask table bytes
-
-  abbrev pub number : ℕ
-  number = said .answer .no
-
-  abbrev pub After : ℕ → Type 0
-  After n =
-      Holds L first mask (tableAfter m L first mask table bytes) (bytesAfter m L first mask table bytes) table bytes n
-
-  pub record Promised : Type 0 where
-    pub unclosed : ¬ Closed m L → said ≡ refusedAs (closed m L)
-    pub no-flag : Closed m L → ¬ IsFlag L first → said ≡ refusedAs (plain notAFlag)
-    pub outside : Closed m L → IsFlag L first → ¬ Inside L mask → said ≡ refusedAs (plain outsideRanks)
-    pub answered : (number ≡ 0) ↔ (Taken m L first mask × (¬ More (suc room) (Leads L mask) first))
-    pub full : (number ≡ moreFlags) ↔ (Taken m L first mask × More (suc room) (Leads L mask) first)
-    pub fine-answer : number ≡ 0 → said .answer ≡ fine
-    pub full-answer : number ≡ moreFlags → said ≡ refusedAs (plain moreFlags)
-    pub holds : number ≡ 0 → After (said .count)
-    pub finds : number ≡ 0
-        → Finds L first mask (tableAfter m L first mask table bytes) (bytesAfter m L first mask table bytes) said
-    pub holds-first : number ≡ moreFlags → After room
-    pub first-found : number ≡ moreFlags → (more : ℕ) → room ≤ more
-        → rows (rank L + 1) (tableAfter m L first mask table bytes) room
-        ≡ take room (foundBy L first mask more .found)
-    pub untouched : number ≢ 0 → number ≢ moreFlags
-        → (tableAfter m L first mask table bytes ≡ table) × (bytesAfter m L first mask table bytes ≡ bytes)

@@ -1,3 +1,4 @@
-pub mod Outcome
+pub mod SearchedBy
 pub mod Exact
 pub mod Rules
+pub mod Promised

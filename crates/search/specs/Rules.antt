@@ -4,16 +4,17 @@
 use mathlib.Core.List.{List, [], _∷_, _++_}
 use Prim.Native.Nat.{ℕ, suc}
 use Rattle.listing.specs.Refusals.{outsideRanks, moreFlags}
-use Rattle.listing.specs.Listing.{Listing, Limits}
+use Rattle.listing.specs.Listing.{Listing, Limits, rank}
 use Rattle.listing.specs.Rules.{Rule, rule}
 use Rattle.valid.specs.Rules.{closedRules}
 use Rattle.flag_change.specs.Rules.{flagRule}
-use Rattle.search_theory.specs.Search.{More}
-use Rattle.search.specs.Exact.{Inside, Leads}
+use Rattle.search_theory.specs.Search.{AtLeast}
+use Rattle.search_masks.specs.Masks.{InnerRanks}
+use Rattle.search.specs.Exact.{Leads}
 
 abbrev pub searchRules : Limits → Listing → List ℕ → ℕ → ℕ → List Rule
 searchRules m L f mask room =
     closedRules m L ++
     flagRule L f ∷
-    rule outsideRanks (Inside L mask) ∷
-    rule moreFlags (¬ More (suc room) (Leads L mask) f) ∷ []
+    rule outsideRanks (InnerRanks (rank L) mask) ∷
+    rule moreFlags (¬ AtLeast (suc room) (Leads L mask) f) ∷ []

@@ -5,7 +5,7 @@ use listing::inner;
 use search_store::found::Progress;
 ghost use mathlib.Core.Path.{_≡_};
 ghost use Rattle.listing.specs.Answers.{fine};
-ghost use Rattle.search.specs.Outcome.{refusedAs, foundAs};
+ghost use Rattle.search.specs.SearchedBy.{refusedAs, foundAs};
 
 // The answer of a refusal: all numbers are 0.
 pub fn refused(answer: Answer) -> Searched

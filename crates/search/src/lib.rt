@@ -11,7 +11,7 @@ use search_store::row;
 use search_walk::walk;
 ghost use mathlib.Core.Path.{_≡_};
 ghost use Rattle.listing.specs.Listing.{held, limits};
-ghost use Rattle.search.specs.Outcome.{searchedBy, tableAfter, bytesAfter};
+ghost use Rattle.search.specs.SearchedBy.{searchedBy, tableAfter, bytesAfter};
 
 // What a search answers: a refusal or 0; how many flags there are, how many came before the cell showed itself not
 // orientable (0 if it never did), and whether it is orientable.
@@ -53,7 +53,7 @@ pub fn search(
     }
     let room = row::room_of(table.len(), bytes.len(), w);
     let p = walk::search_from(counts, ends, inc, first, mask, table, bytes, room);
-    if p.over {
+    if p.overflow {
         return answer::refused(inner::plain(refusal::MORE_FLAGS));
     }
     answer::found(p)

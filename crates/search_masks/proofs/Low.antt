@@ -8,6 +8,7 @@ use native.Mathlib.Omega.{arith}
 use borrow.Author.Tests.{ne-eqb, lt-ltb}
 use lib.Count.{trailingZeros, under, ones, ones-step}
 use lib.Dec.{eqb, ltb}
+use Rattle.listing.specs.Listing.{width, limits}
 
 -- ---- where it stands
 
@@ -42,9 +43,9 @@ ones-some (suc k) n p h = go (n % 2) refl (ones-some k (n / 2))
     go zero e ih = omega (arith, ones-step n, ih (omega arith) (omega (arith, pow-suc 2 k)))
     go (suc d) e ih = omega (arith, ones-step n)
 
-pub any-ones : (n : ℕ) → n < 2 ^ 16 → not (eqb (ones n) 0) ≡ ltb 0 n
+pub any-ones : (n : ℕ) → n < width → not (eqb (ones n) 0) ≡ ltb 0 n
 unfolding ones
 any-ones zero h = refl
 any-ones (suc n) h =
-    ap not (ne-eqb (ones (suc n)) 0 (λ e. omega (arith, ones-some 16 (suc n) (omega arith) h)))
+    ap not (ne-eqb (ones (suc n)) 0 (λ e. omega (arith, ones-some (limits .ranks) (suc n) (omega arith) h)))
     ∙ sym (lt-ltb 0 (suc n) (omega arith))

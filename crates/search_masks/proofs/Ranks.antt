@@ -14,19 +14,20 @@ use Rattle.order.specs.Lists.{In, Ascending}
 use Rattle.order.proofs.Tests.{and-true}
 use Rattle.order.specs.Tests.{every}
 use Rattle.order.proofs.Tests.{every-stop}
-use Rattle.search_masks.specs.Masks.{bit, bitsIn, ranksOf, maskFits}
+use Rattle.listing.specs.Listing.{width, limits}
+use Rattle.search_masks.specs.Masks.{bitAt, InMask, InnerRanks, maskFits, bitsIn, ranksOf}
 use Rattle.search_masks.proofs.Low.{low-fits}
 
 -- ---- bits
 
-bit-zero : (n : ℕ) → bit n 0 ≡ n % 2
+bit-zero : (n : ℕ) → bitAt n 0 ≡ n % 2
 bit-zero n = ap (λ x. x % 2) (div-one n)
 
 -- bit i + 1 of n is bit i of n / 2
-bit-suc : (n i : ℕ) → bit n (suc i) ≡ bit (n / 2) i
+bit-suc : (n i : ℕ) → bitAt n (suc i) ≡ bitAt (n / 2) i
 bit-suc n i = ap (λ x. n / x % 2) (pow-succ' 2 i) ∙ ap (λ x. x % 2) (sym (div-div-eq-div-mul n 2 (2 ^ i)))
 
-bit-unset : (n i : ℕ) → (bit n i ≡ 1 → ⊥) → bit n i ≡ 0
+bit-unset : (n i : ℕ) → (bitAt n i ≡ 1 → ⊥) → bitAt n i ≡ 0
 bit-unset n i h = omega (arith, mod-lt (n / 2 ^ i) {m = 2} (omega arith))
 
 module _ (k b n : ℕ) where
@@ -44,7 +45,7 @@ module _ (k b n : ℕ) where
 record Set (k b n r : ℕ) : Type 0 where
   least : b ≤ r
   most : r < b + k
-  set : bit n (r - b) ≡ 1
+  set : bitAt n (r - b) ≡ 1
 
 Set·first : (k b n r : ℕ) → n % 2 ≡ 1 → r ≡ b → Set (suc k) b n r
 Set·first k b n r e q =
@@ -72,7 +73,7 @@ in-set (suc k) b n r m = go (eqb (n % 2) 1) refl m (in-set k (b + 1) (n / 2) r)
     go true e (inr h) ih = Set·later k b n r (ih h)
     go false e h ih = Set·later k b n r (ih h)
 
-set-in : (k b n i : ℕ) → i < k → bit n i ≡ 1 → In (b + i) (bitsIn k b n)
+set-in : (k b n i : ℕ) → i < k → bitAt n i ≡ 1 → In (b + i) (bitsIn k b n)
 unfolding In
 set-in zero b n i h e = absurd (omega arith)
 set-in (suc k) b n zero h e =
@@ -87,8 +88,8 @@ set-in (suc k) b n (suc i) h e = go (n % 2) refl (set-in k (b + 1) (n / 2) i (om
     go zero p m = rw (bits-even k b n p) (rw z at m)
     go (suc d) p m = rw (bits-odd k b n (omega arith)) (inr (rw z at m))
 
-pub ranks-exact : (mask r : ℕ) → In r (ranksOf mask) ↔ ((r < 16) × (bit mask r ≡ 1))
-ranks-exact mask r = (there, λ p. rw z at (set-in 16 0 mask r (p .0) (p .1)))
+pub ranks-exact : (mask r : ℕ) → In r (ranksOf mask) ↔ InMask mask r
+ranks-exact mask r = (there, λ p. rw z at (set-in (limits .ranks) 0 mask r (p .0) (p .1)))
   where
     z : 0 + r ≡ r
     z = omega arith
@@ -96,8 +97,8 @@ ranks-exact mask r = (there, λ p. rw z at (set-in 16 0 mask r (p .0) (p .1)))
     y : r - 0 ≡ r
     y = omega arith
 
-    there : In r (ranksOf mask) → (r < 16) × (bit mask r ≡ 1)
-    there m = let s = in-set 16 0 mask r m in (omega (arith, s .most), rw y at (s .set))
+    there : In r (ranksOf mask) → InMask mask r
+    there m = let s = in-set (limits .ranks) 0 mask r m in (omega (arith, s .most), rw y at (s .set))
 
 bits-ascend : (k b n : ℕ) → Ascending (bitsIn k b n)
 unfolding Ascending bitsIn
@@ -110,63 +111,70 @@ bits-ascend (suc k) b n = go (eqb (n % 2) 1) (bits-ascend k (b + 1) (n / 2))
     go false ih = ih
 
 pub ranks-ascend : (mask : ℕ) → Ascending (ranksOf mask)
-ranks-ascend mask = bits-ascend 16 0 mask
+ranks-ascend mask = bits-ascend (limits .ranks) 0 mask
 
--- ---- the mask fits exactly if every set bit is from 1 to rank - 1
+-- ---- the mask fits exactly if it asks for inner ranks only
 
 module _ (rank mask : ℕ) where
   abbrev pub test : ℕ → Bool
-  test r = eqb (bit mask r) 0 || (ltb 0 r && ltb r rank)
+  test r = eqb (bitAt mask r) 0 || (ltb 0 r && ltb r rank)
 
-  test-set : (r : ℕ) → test r ≡ true → bit mask r ≡ 1 → (0 < r) × (r < rank)
+  test-set : (r : ℕ) → test r ≡ true → bitAt mask r ≡ 1 → (0 < r) × (r < rank)
   test-set r e s =
-      let p = and-true (ltb 0 r) (ltb r rank) (rw (ne-eqb (bit mask r) 0 (λ z. omega arith)) at e) in
+      let p = and-true (ltb 0 r) (ltb r rank) (rw (ne-eqb (bitAt mask r) 0 (λ z. omega arith)) at e) in
       (ltb-true _ _ (p .0), ltb-true _ _ (p .1))
 
   -- the test at a rank that is not asked for, and at one that is
-  pub unset-test : (r : ℕ) → eqb (bit mask r) 1 ≡ false → test r ≡ true
-  unset-test r e = rw (eq-eqb (bit mask r) 0 (bit-unset mask r (λ s. true≢false (sym (eq-eqb (bit mask r) 1 s) ∙ e))))
+  pub unset-test : (r : ℕ) → eqb (bitAt mask r) 1 ≡ false → test r ≡ true
+  unset-test r e = rw (eq-eqb (bitAt mask r) 0 (bit-unset mask r (λ s. true≢false (sym (eq-eqb (bitAt mask r) 1 s) ∙ e))))
 
-  pub asked-test : (r : ℕ) → eqb (bit mask r) 1 ≡ true → test r ≡ (ltb 0 r && ltb r rank)
-  asked-test r e =
-      let s = eqb-true (bit mask r) 1 e in
-      rw (ne-eqb (bit mask r) 0 (λ z. omega arith))
+  pub set-is : (r : ℕ) → eqb (bitAt mask r) 1 ≡ true → test r ≡ (ltb 0 r && ltb r rank)
+  set-is r e =
+      let s = eqb-true (bitAt mask r) 1 e in
+      rw (ne-eqb (bitAt mask r) 0 (λ z. omega arith))
 
-  set-test : (r : ℕ) → (bit mask r ≡ 1 → (0 < r) × (r < rank)) → test r ≡ true
-  set-test r h = go (eqb (bit mask r) 1) refl
+  set-test : (r : ℕ) → (bitAt mask r ≡ 1 → (0 < r) × (r < rank)) → test r ≡ true
+  set-test r h = go (eqb (bitAt mask r) 1) refl
     where
-      go : (q : Bool) → eqb (bit mask r) 1 ≡ q → test r ≡ true
+      go : (q : Bool) → eqb (bitAt mask r) 1 ≡ q → test r ≡ true
       go true e =
-          let p = h (eqb-true (bit mask r) 1 e) in
-          asked-test r e ∙ rw (lt-ltb 0 r (p .0), lt-ltb r rank (p .1))
+          let p = h (eqb-true (bitAt mask r) 1 e) in
+          set-is r e ∙ rw (lt-ltb 0 r (p .0), lt-ltb r rank (p .1))
       go false e = unset-test r e
 
-  each : maskFits rank mask ≡ true → (r : ℕ) → r < 16 → test r ≡ true
+  each : maskFits rank mask ≡ true → (r : ℕ) → r < limits .ranks → test r ≡ true
   unfolding maskFits
   each e r h = go (test r) refl
     where
       go : (q : Bool) → test r ≡ q → test r ≡ true
       go true t = t
-      go false t = absurd (true≢false (sym e ∙ every-stop test 16 r h t))
+      go false t = absurd (true≢false (sym e ∙ every-stop test (limits .ranks) r h t))
 
   all : (n : ℕ) → ((r : ℕ) → r < n → test r ≡ true) → every test n ≡ true
   unfolding every
   all zero h = refl
   all (suc n) h = rw (all n (λ r m. h r (omega arith)), h n (omega arith))
 
-  pub fits-exact : maskFits rank mask ≡ true ↔ ((r : ℕ) → r < 16 → bit mask r ≡ 1 → (0 < r) × (r < rank))
+  pub fits-exact : maskFits rank mask ≡ true ↔ InnerRanks rank mask
   unfolding maskFits
-  fits-exact = (λ e r h s. test-set r (each e r h) s, λ f. all 16 (λ r h. set-test r (f r h)))
-
-  -- the ranks of a mask that fits
-  pub fits-ranks : maskFits rank mask ≡ true → (r : ℕ) → In r (ranksOf mask) → (0 < r) × (r < rank)
-  fits-ranks e r m = let p = ranks-exact mask r .0 m in fits-exact .0 e r (p .0) (p .1)
+  fits-exact = (
+    λ e r h. test-set r (each e r (h .0)) (h .1),
+    λ f. all (limits .ranks) (λ r h. set-test r (λ s. f r (h, s))),
+  )
 
 -- ---- the walk: the lowest set bit first, and then the ranks of what is left
 
 -- an even number taken off, halved
 half-less : (n m : ℕ) → n % 2 ≡ 0 → m ≤ n / 2 → ((n - m * 2) / 2 ≡ n / 2 - m) × ((n - m * 2) % 2 ≡ 0)
 half-less n m e h = (omega arith, omega arith)
+
+first-odd : (k b n : ℕ) → 0 < n % 2 → bitsIn (suc k) b n ≡ (b + 0) ∷ bitsIn (suc k) b (n - 1)
+first-odd k b n h =
+    let z : (n - 1) % 2 ≡ 0 = omega arith in
+    let q : (n - 1) / 2 ≡ n / 2 = omega arith in
+    let s : b ≡ b + 0 = omega arith in
+    bits-odd k b n (omega arith)
+    ∙ ap₂ (λ y l. y ∷ l) s (sym (bits-even k b (n - 1) z ∙ ap (bitsIn k (b + 1)) q))
 
 bits-first : (k b n : ℕ) → 0 < n → n < 2 ^ k
     → bitsIn k b n ≡ (b + trailingZeros k n) ∷ bitsIn k b (n - 2 ^ trailingZeros k n)
@@ -188,18 +196,13 @@ bits-first (suc k) b n p h = go (n % 2) refl (bits-first k (b + 1) (n / 2)) (low
         let r : bitsIn (suc k) b (n - 2 ^ suc t) ≡ bitsIn k (b + 1) (n / 2 - 2 ^ t) =
         rw (pow-suc 2 t) (bits-even k b (n - 2 ^ t * 2) (w .1) ∙ ap (bitsIn k (b + 1)) (w .0)) in
         bits-even k b n e ∙ ih (omega arith) m ∙ ap₂ (λ y l. y ∷ l) s (sym r)
-    go (suc d) e ih f =
-        let z : (n - 1) % 2 ≡ 0 = omega arith in
-        let q : (n - 1) / 2 ≡ n / 2 = omega arith in
-        let s : b ≡ b + 0 = omega arith in
-        bits-odd k b n (omega arith)
-        ∙ ap₂ (λ y l. y ∷ l) s (sym (bits-even k b (n - 1) z ∙ ap (bitsIn k (b + 1)) q))
+    go (suc d) e ih f = first-odd k b n (omega arith)
 
-pub ranks-next : (left r : ℕ) → 0 < left → left < 2 ^ 16 → r ≡ trailingZeros 16 left
+pub ranks-next : (left r : ℕ) → 0 < left → left < width → r ≡ trailingZeros (limits .ranks) left
     → ranksOf left ≡ r ∷ ranksOf (left - 2 ^ r)
 ranks-next left r p h e =
-    let z : 0 + trailingZeros 16 left ≡ r = omega arith in
-    bits-first 16 0 left p h ∙ rw (z, e)
+    let z : 0 + trailingZeros (limits .ranks) left ≡ r = omega arith in
+    bits-first (limits .ranks) 0 left p h ∙ rw (z, e)
 
 bits-none : (k b : ℕ) → bitsIn k b 0 ≡ []
 unfolding bitsIn
@@ -207,4 +210,4 @@ bits-none zero b = refl
 bits-none (suc k) b = bits-none k (b + 1)
 
 pub ranks-none : ranksOf 0 ≡ []
-ranks-none = bits-none 16 0
+ranks-none = bits-none (limits .ranks) 0

@@ -1,26 +1,31 @@
 // The change mask: bit r asks for the change at rank r.
 use listing::inner;
+use listing::limit;
 ghost use mathlib.Core.Path.{_≡_};
 ghost use mathlib.Core.Bool.{_||_, _&&_};
 ghost use Prim.Native.Nat.{_-_, _^_, _≤_, _<_};
 ghost use lib.Dec.{eqb, ltb};
 ghost use lib.Count.{trailingZeros};
-ghost use Rattle.search_masks.specs.Masks.{bit, maskFits};
+ghost use Rattle.listing.specs.Listing.{limits};
+ghost use Rattle.search_masks.specs.Masks.{bitAt, maskFits};
+
+// How many bits a mask has: one for each rank.
+const BITS: u16 = limit::RANKS as u16;
 
 // Whether rank r is to be changed.
-fn asked(mask: u16, r: u16) -> bool
-    requires { ⌜ r < 16 ⌝ }
-    ensures { λ t. ⌜ t ≡ eqb (bit mask r) 1 ⌝ }
+fn in_mask(mask: u16, r: u16) -> bool
+    requires { ⌜ r < limits .ranks ⌝ }
+    ensures { λ t. ⌜ t ≡ eqb (bitAt mask r) 1 ⌝ }
 {
     (mask >> r) & 1 == 1
 }
 
 // Whether rank r is not to be changed, or can be: from 1 to rank - 1.
 fn allowed(mask: u16, rank: usize, r: u16) -> bool
-    requires { ⌜ r < 16 ⌝ }
-    ensures { λ t. ⌜ t ≡ (eqb (bit mask r) 0 || (ltb 0 r && ltb r rank)) ⌝ }
+    requires { ⌜ r < limits .ranks ⌝ }
+    ensures { λ t. ⌜ t ≡ (eqb (bitAt mask r) 0 || (ltb 0 r && ltb r rank)) ⌝ }
 {
-    if !asked(mask, r) {
+    if !in_mask(mask, r) {
         return true;
     }
     if r == 0 {
@@ -34,7 +39,7 @@ pub fn fits(mask: u16, rank: usize) -> bool
     ensures { λ t. ⌜ t ≡ maskFits rank mask ⌝ }
 {
     let mut r: u16 = 0;
-    while r < 16 {
+    while r < BITS {
         if !allowed(mask, rank, r) {
             return false;
         }
@@ -53,14 +58,14 @@ pub fn any_left(left: u16) -> bool
 // The rank of the next change.
 pub fn lowest(left: u16) -> u16
     requires { ⌜ 0 < left ⌝ }
-    ensures { λ r. ⌜ (r ≡ trailingZeros 16 left) × (r < 16) ⌝ }
+    ensures { λ r. ⌜ (r ≡ trailingZeros (limits .ranks) left) × (r < limits .ranks) ⌝ }
 {
     u16::trailing_zeros(left) as u16
 }
 
 // The changes that are left after that at rank r.
 pub fn without(left: u16, r: u16) -> u16
-    requires { ⌜ (r < 16) × (2 ^ r ≤ left) ⌝ }
+    requires { ⌜ (r < limits .ranks) × (2 ^ r ≤ left) ⌝ }
     ensures { λ m. ⌜ m ≡ left - 2 ^ r ⌝ }
 {
     left - (1u16 << r)

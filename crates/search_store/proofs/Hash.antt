@@ -11,7 +11,7 @@ use borrow.Author.Tests.{eqb-true, eqb-false}
 use lib.Dec.{eqb}
 use lib.ListN.{length, getD, take, drop, set, drop-of-length-le}
 use lib.Seq.{length-take-le, drop-cons, getD-take, getD-set-same, getD-set-other}
-use Rattle.listing.specs.Listing.{width}
+use Rattle.listing.specs.Listing.{width, limits}
 use Rattle.search_store.specs.Hash.{hashes, weight, sumFrom, hashOf, Weights}
 
 -- ---- weights
@@ -54,7 +54,7 @@ times-small x v h i =
     let q : v ≤ hashes = omega arith in
     mul-le-mul p q
 
-pub weights-small : (l : List ℕ) → Weights l → (r : ℕ) → r < 16 → getD l r 0 < hashes
+pub weights-small : (l : List ℕ) → Weights l → (r : ℕ) → r < limits .ranks → getD l r 0 < hashes
 weights-small l e r h = omega (arith, e .each r h, weight-small r)
 
 -- ---- the sum

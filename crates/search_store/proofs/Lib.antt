@@ -1,4 +1,5 @@
 pub mod Rows
 pub mod Hash
-pub mod Chains
+pub mod Chain
+pub mod Indexing
 pub mod Meets

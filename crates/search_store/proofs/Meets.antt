@@ -16,7 +16,7 @@ use Rattle.search_store.specs.Hash.{hashOf}
 use Rattle.search_store.specs.Held.{stateOf, Held, Rest, Moved}
 use Rattle.search_store.proofs.Hash.{hash-small}
 use Rattle.search_store.proofs.Rows.{row-end, rows-length, put-length, put-rest, put-rows}
-use Rattle.search_store.proofs.Chains.{index-more}
+use Rattle.search_store.proofs.Indexing.{index-more}
 
 -- ---- what the state holds
 
@@ -25,10 +25,10 @@ unfolding stateOf
 count-is w table bytes s = rows-length w table (s .count)
 
 again-is : {A : Type 0} (S : State A) (b i p : ℕ) → placeAfter b S i ≡ p
-    → again b S i ≡ record { found = S .found; bytes = S .bytes; place = p; over = S .over }
-again-is S b i p e = ap (λ q. record { found = S .found; bytes = S .bytes; place = q; over = S .over }) e
+    → again b S i ≡ record { found = S .found; bytes = S .bytes; place = p; overflow = S .overflow }
+again-is S b i p e = ap (λ q. record { found = S .found; bytes = S .bytes; place = q; overflow = S .overflow }) e
 
-module _ (w room : ℕ) (table bytes : List ℕ) (s : Progress) (o : s .over ≡ false) (b : ℕ) (y : List ℕ) (k : ℕ)
+module _ (w room : ℕ) (table bytes : List ℕ) (s : Progress) (o : s .overflow ≡ false) (b : ℕ) (y : List ℕ) (k : ℕ)
     (e : k ≡ indexIn sameList (rows w table (s .count)) y) where
   -- ---- it was found before
 
@@ -55,7 +55,7 @@ module _ (w room : ℕ) (table bytes : List ℕ) (s : Progress) (o : s .over ≡
         ∙ again-is (stateOf w table bytes s) b k (s .place) (place-same b (stateOf w table bytes s) k (stored ∙ q)))
 
     pub known-first : s .place ≡ 0 → (getD bytes k 0 ≡ b → ⊥)
-        → stateOf w table bytes (record { count = s .count; place = s .count; over = false })
+        → stateOf w table bytes (record { count = s .count; place = s .count; overflow = false })
         ≡ meet sameList room b (stateOf w table bytes s) y
     unfolding stateOf
     known-first z n =
@@ -69,7 +69,7 @@ module _ (w room : ℕ) (table bytes : List ℕ) (s : Progress) (o : s .over ≡
     unfolding stateOf
     unknown = omega (arith, rows-length w table (s .count))
 
-    pub new-full : room ≤ s .count → stateOf w table bytes (record { count = s .count; place = s .place; over = true })
+    pub new-full : room ≤ s .count → stateOf w table bytes (record { count = s .count; place = s .place; overflow = true })
         ≡ meet sameList room b (stateOf w table bytes s) y
     unfolding stateOf
     new-full r =
@@ -78,7 +78,7 @@ module _ (w room : ℕ) (table bytes : List ℕ) (s : Progress) (o : s .over ≡
 
     new-added : (table′ bytes′ : List ℕ) → rows w table′ (s .count + 1) ≡ rows w table (s .count) ++ (y ∷ [])
         → take (s .count + 1) bytes′ ≡ take (s .count) bytes ++ (b ∷ []) → s .count < room
-        → stateOf w table′ bytes′ (record { count = s .count + 1; place = s .place; over = false })
+        → stateOf w table′ bytes′ (record { count = s .count + 1; place = s .place; overflow = false })
         ≡ meet sameList room b (stateOf w table bytes s) y
     unfolding stateOf
     new-added table′ bytes′ p q r =
@@ -106,45 +106,48 @@ module _ (w room : ℕ) (table bytes heads next : List ℕ) (s : Progress)
       rest = record { long = refl; past = refl; bytes-long = refl; bytes-past = refl };
     }
 
-    -- the flag was added
-    module _ (flag : List ℕ) (h b : ℕ) (e : h ≡ hashOf (take w flag)) (wide : w ≤ length flag) (o : s .over ≡ false)
-        (i : s .count ≤ indexIn sameList (rows w table (s .count)) (take w flag)) (r : s .count < room) where
-      abbrev n : ℕ
-      n = s .count
+-- the flag was added
+module _ (w room : ℕ) (table bytes heads next : List ℕ) (s : Progress)
+    (H : Held w room table bytes heads next (s .count)) (flag : List ℕ) (h b : ℕ) (e : h ≡ hashOf (take w flag))
+    (wide : w ≤ length flag) (o : s .overflow ≡ false)
+    (i : s .count ≤ indexIn sameList (rows w table (s .count)) (take w flag)) (r : s .count < room)
+  where
+    abbrev n : ℕ
+    n = s .count
 
-      in-table : n * w + w ≤ length table
-      in-table = row-fits w room table bytes heads next n H r
+    abbrev table′ : List ℕ
+    table′ = paste table (n * w) flag w
 
-      added-held : Held w room (paste table (n * w) flag w) (set bytes n b) (set heads h (n + 1))
-          (set next n (getD heads h 0)) (n + 1)
-      added-held = record {
-        room-rows = omega (arith, put-length w table n flag in-table wide, H .room-rows);
-        room-bytes = omega (arith, length-set bytes n b, H .room-bytes);
-        room-few = H .room-few;
-        fits = omega arith;
-        indexed =
-            index-more w n table heads next flag (H .indexed) h
-            (omega (arith, hash-small (take w flag))) e in-table wide
-            (omega (arith, H .room-few)) i;
-      }
+    in-table : n * w + w ≤ length table
+    in-table = row-fits w room table bytes heads next n H r
 
-      added-rest : Rest w (n + 1) table bytes (paste table (n * w) flag w) (set bytes n b)
-      added-rest = record {
-        long = put-length w table n flag in-table wide;
-        past = put-rest w table n flag in-table wide;
-        bytes-long = length-set bytes n b;
-        bytes-past = drop-set-lt (n + 1) bytes n b (omega arith);
-      }
+    added-held : Held w room table′ (set bytes n b) (set heads h (n + 1)) (set next n (getD heads h 0)) (n + 1)
+    added-held = record {
+      room-rows = omega (arith, put-length w table n flag in-table wide, H .room-rows);
+      room-bytes = omega (arith, length-set bytes n b, H .room-bytes);
+      room-few = H .room-few;
+      fits = omega arith;
+      indexed =
+          index-more w n table heads next flag (H .indexed) h (omega (arith, hash-small (take w flag))) e in-table wide
+          (omega (arith, H .room-few)) i;
+    }
 
-      pub moved-added : Moved w room table bytes s (paste table (n * w) flag w) (set bytes n b) (set heads h (n + 1))
-          (set next n (getD heads h 0)) (record { count = n + 1; place = s .place; over = false })
-          (meet sameList room b (stateOf w table bytes s) (take w flag))
-      moved-added = record {
-        state =
-            new-added w room table bytes s o b (take w flag) _ refl i (paste table (n * w) flag w) (set bytes n b)
-            (put-rows w table n flag in-table wide)
-            (rw add-one (take-suc-set bytes n b (omega (arith, H .room-bytes)))) r;
-        held = added-held;
-        more = omega arith;
-        rest = added-rest;
-      }
+    added-rest : Rest w (n + 1) table bytes table′ (set bytes n b)
+    added-rest = record {
+      long = put-length w table n flag in-table wide;
+      past = put-rest w table n flag in-table wide;
+      bytes-long = length-set bytes n b;
+      bytes-past = drop-set-lt (n + 1) bytes n b (omega arith);
+    }
+
+    added-state : stateOf w table′ (set bytes n b) (record { count = n + 1; place = s .place; overflow = false })
+        ≡ meet sameList room b (stateOf w table bytes s) (take w flag)
+    added-state =
+        new-added w room table bytes s o b (take w flag) _ refl i table′ (set bytes n b)
+        (put-rows w table n flag in-table wide)
+        (rw add-one (take-suc-set bytes n b (omega (arith, H .room-bytes)))) r
+
+    pub moved-added : Moved w room table bytes s (paste table (n * w) flag w) (set bytes n b) (set heads h (n + 1))
+        (set next n (getD heads h 0)) (record { count = n + 1; place = s .place; overflow = false })
+        (meet sameList room b (stateOf w table bytes s) (take w flag))
+    moved-added = record { state = added-state; held = added-held; more = omega arith; rest = added-rest }

@@ -10,10 +10,12 @@ use native.Mathlib.Omega.{arith}
 use borrow.Author.Tests.{eq-eqb, ne-eqb, eqb-true, eqb-false}
 use lib.Dec.{eqb}
 use lib.ListN.{length, getD, take, drop, set, length-drop, drop-of-length-le, List·getD-append}
-use lib.Seq.{length-take-le, take-all, take-suc, drop-cons, take-at, getD-at, getD-take, getD-drop, take-add}
-use lib.Seq.{take-suc-set, take-append-le, drop-append-le, drop-at, ext-getD, paste, length-paste-head, length-paste}
+use lib.Seq.{length-take-le, take-all, drop-cons, take-at, getD-at, getD-take, getD-drop, take-add}
+use lib.Seq.{take-append-le, drop-append-le, drop-at, ext-getD, paste, length-paste-head, length-paste}
 use lib.Seq.{drop-paste, paste-suc}
+use Rattle.order.specs.Lists.{over}
 use Rattle.order.proofs.Tests.{and-true}
+use Rattle.order.proofs.Over.{over-next}
 use Rattle.search_theory.specs.Search.{Decides}
 use Rattle.search_theory.proofs.Once.{length-snoc}
 use Rattle.search_store.specs.Rows.{rowOf, rows, sameList, flatten}
@@ -43,7 +45,7 @@ pub row-end : (k n w : ℕ) → k < n → k * w + w ≤ n * w
 row-end k n w h = omega (arith, mul-le-mul-right w h, suc-mul k w)
 
 module _ (w : ℕ) (table : List ℕ) (k : ℕ) where
-  row-length : k * w + w ≤ length table → length (rowOf w table k) ≡ w
+  pub row-length : k * w + w ≤ length table → length (rowOf w table k) ≡ w
   unfolding rowOf
   row-length h = length-take-le w (drop (k * w) table) (omega (arith, length-drop (k * w) table))
 
@@ -98,19 +100,17 @@ row-kept w t u k n h p q e =
         row-at w u k j l ∙ sym (getD-take (n * w) u (k * w + j) 0 b) ∙ ap (λ l. getD l (k * w + j) 0) e
         ∙ getD-take (n * w) t (k * w + j) 0 b ∙ sym (row-at w t k j l)
 
--- a row is copied, number by number
-module _ (w : ℕ) (table : List ℕ) (k : ℕ) (h : k * w + w ≤ length table) (flag : List ℕ) (j : ℕ)
-    (e : take j flag ≡ take j (rowOf w table k)) where
-  pub copy-next : j < length flag → j < w
-      → take (j + 1) (set flag j (getD table (k * w + j) 0)) ≡ take (j + 1) (rowOf w table k)
+-- a row is copied to the beginning of an array, number by number
+module _ (w : ℕ) (table : List ℕ) (k : ℕ) (h : k * w + w ≤ length table) (old flag : List ℕ) (j : ℕ)
+    (e : flag ≡ over (take j (rowOf w table k)) old) where
+  pub copy-next : j < length old → j < w
+      → set flag j (getD table (k * w + j) 0) ≡ over (take (j + 1) (rowOf w table k)) old
   copy-next i l =
-      rw (add-one, take-suc-set flag j (getD table (k * w + j) 0) i)
-      (rw (take-suc (rowOf w table k) j 0 (omega (arith, row-length w table k h)), row-at w table k j l, e))
+      rw (e, ← row-at w table k j l)
+      (over-next (rowOf w table k) old j (omega (arith, row-length w table k h)) i)
 
-  pub copy-end : w ≤ j → j ≤ w → take w flag ≡ rowOf w table k
-  copy-end i l =
-      let z : j ≡ w = omega arith in
-      ap (λ n. take n flag) (sym z) ∙ e ∙ take-all j (rowOf w table k) (omega (arith, row-length w table k h))
+  pub copy-end : w ≤ j → flag ≡ over (rowOf w table k) old
+  copy-end i = e ∙ ap (λ l. over l old) (take-all j (rowOf w table k) (omega (arith, row-length w table k h)))
 
 -- ---- the first rows
 

@@ -4,11 +4,12 @@
 -- weight    what the number at a rank counts for: the powers of 5741, each reduced
 -- sumFrom   the numbers of a list, each times its weight, added up; the first stands at rank r
 -- hashOf    the hash of a flag: that sum, reduced
--- Weights   sixteen numbers are the weights of the ranks 0 to 15
+-- Weights   a list has the weight of each rank that there can be
 use mathlib.Core.Path.{_≡_}
 use mathlib.Core.List.{List, [], _∷_}
 use Prim.Native.Nat.{ℕ, zero, suc, _+_, _*_, _%_, _<_}
 use lib.ListN.{length, getD}
+use Rattle.listing.specs.Listing.{limits}
 
 abbrev pub hashes : ℕ
 hashes = 16381
@@ -25,5 +26,5 @@ unfoldable pub hashOf : List ℕ → ℕ
 hashOf f = sumFrom 0 f % hashes
 
 pub record Weights (l : List ℕ) : Type 0 where
-  pub sixteen : length l ≡ 16
-  pub each : (r : ℕ) → r < 16 → getD l r 0 ≡ weight r
+  pub long : length l ≡ limits .ranks
+  pub each : (r : ℕ) → r < limits .ranks → getD l r 0 ≡ weight r

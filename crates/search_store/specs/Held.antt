@@ -20,7 +20,7 @@ stateOf w table bytes s = record {
   found = rows w table (s .count);
   bytes = take (s .count) bytes;
   place = s .place;
-  over = s .over;
+  overflow = s .overflow;
 }
 
 pub record Held (w room : ℕ) (table bytes heads next : List ℕ) (n : ℕ) : Type 0 where

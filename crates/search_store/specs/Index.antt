@@ -9,7 +9,7 @@ use Prim.Native.Nat.{ℕ, _*_, _≤_, _<_}
 use lib.ListN.{length, getD}
 use Rattle.listing.specs.Listing.{limits}
 use Rattle.search_theory.specs.Search.{Once}
-use Rattle.search_theory.specs.Chain.{latest}
+use Rattle.search_store.specs.Chain.{latest}
 use Rattle.search_store.specs.Rows.{rowOf, rows}
 use Rattle.search_store.specs.Hash.{hashes, hashOf}
 

@@ -20,7 +20,7 @@ ghost use Rattle.search_store.specs.Held.{stateOf, Held, Moved};
 pub struct Progress {
     pub count: u16,
     pub place: u16,
-    pub over: bool,
+    pub overflow: bool,
 }
 
 // The flag at hand, whose hash is h, goes into row n, with a byte.
@@ -35,7 +35,7 @@ fn add(
     byte: u8,
     n: u16,
 )
-    requires { ⌜ (w ≤ 16) × (length (now flag) ≡ 16) × (h ≡ hashOf (take w (now flag))) ⌝ }
+    requires { ⌜ (w ≤ limits .ranks) × (length (now flag) ≡ limits .ranks) × (h ≡ hashOf (take w (now flag))) ⌝ }
     requires { ⌜ (n * w + w ≤ length (now table)) × (n < length (now bytes)) × (n < limits .flags) ⌝ }
     ensures { λ _. ⌜ (now (table .exit) ≡ paste (now (table .entry)) (n * w) (now (flag .entry)) w)
         × (now (bytes .exit) ≡ set (now (bytes .entry)) n byte)
@@ -61,9 +61,9 @@ pub fn meet(
     room: usize,
     s: Progress,
 ) -> Progress
-    requires { ⌜ (w ≤ 16) × (length (now flag) ≡ 16) × (h ≡ hashOf (take w (now flag))) ⌝ }
+    requires { ⌜ (w ≤ limits .ranks) × (length (now flag) ≡ limits .ranks) × (h ≡ hashOf (take w (now flag))) ⌝ }
     requires { ⌜ Held w room (now table) (now bytes) (now heads) (now next) (s .count) ⌝ }
-    requires { ⌜ s .over ≡ false ⌝ }
+    requires { ⌜ s .overflow ≡ false ⌝ }
     ensures { λ r. ⌜ Moved w room (now (table .entry)) (now (bytes .entry)) s (now (table .exit)) (now (bytes .exit))
         (now (heads .exit)) (now (next .exit)) r
         (meetIn sameList room byte (stateOf w (now (table .entry)) (now (bytes .entry)) s)
@@ -81,7 +81,7 @@ pub fn meet(
         return Progress {
             count: n,
             place: n,
-            over: false,
+            overflow: false,
         };
     }
     if inner::wide(n) < room {
@@ -89,12 +89,12 @@ pub fn meet(
         return Progress {
             count: n + 1,
             place: s.place,
-            over: false,
+            overflow: false,
         };
     }
     Progress {
         count: n,
         place: s.place,
-        over: true,
+        overflow: true,
     }
 }

@@ -32,7 +32,7 @@ pub fn weights() -> [usize; limit::RANKS]
 
 // The sum of the numbers of the flag at hand, each times its weight.
 pub fn sum_of(flag: &[Index; limit::RANKS], w: usize, weights: &[usize; limit::RANKS]) -> usize
-    requires { ⌜ (w ≤ 16) × (length (now flag) ≡ 16) × Weights (now weights) ⌝ }
+    requires { ⌜ (w ≤ limits .ranks) × (length (now flag) ≡ limits .ranks) × Weights (now weights) ⌝ }
     ensures { λ s. ⌜ (s ≡ sumFrom 0 (take w (now (flag .entry)))) × (s ≤ w * (width * hashes)) ⌝ }
 {
     let mut s: usize = 0;
@@ -46,7 +46,7 @@ pub fn sum_of(flag: &[Index; limit::RANKS], w: usize, weights: &[usize; limit::R
 
 // The hash of a flag after a number in it changes: the sum was that of the whole flag, and the weight is the number's.
 pub fn hash_changed(sum: usize, weight: usize, old: u16, new: u16) -> usize
-    requires { ⌜ (sum ≤ 16 * (width * hashes)) × (weight < hashes) × (old * weight ≤ sum + new * weight) ⌝ }
+    requires { ⌜ (sum ≤ limits .ranks * (width * hashes)) × (weight < hashes) × (old * weight ≤ sum + new * weight) ⌝ }
     ensures { λ h. ⌜ h ≡ (sum + new * weight - old * weight) % hashes ⌝ }
 {
     (sum + inner::wide(new) * weight - inner::wide(old) * weight) % HASHES
@@ -62,7 +62,7 @@ pub fn find(
     h: usize,
     n: u16,
 ) -> u16
-    requires { ⌜ (w ≤ 16) × (length (now flag) ≡ 16) × (h ≡ hashOf (take w (now flag))) ⌝ }
+    requires { ⌜ (w ≤ limits .ranks) × (length (now flag) ≡ limits .ranks) × (h ≡ hashOf (take w (now flag))) ⌝ }
     requires { ⌜ Indexed w n (now table) (now heads) (now next) ⌝ }
     ensures { λ k. ⌜ k ≡ indexIn sameList (rows w (now (table .entry)) n) (take w (now (flag .entry))) ⌝ }
 {

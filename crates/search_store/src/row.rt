@@ -5,6 +5,7 @@ ghost use mathlib.Core.Path.{_≡_};
 ghost use Prim.Native.Nat.{_+_, _*_, _/_, _≤_, _<_, min};
 ghost use lib.ListN.{length, take};
 ghost use lib.Seq.{paste};
+ghost use Rattle.order.specs.Lists.{over};
 ghost use Rattle.listing.specs.Listing.{limits};
 ghost use Rattle.search_store.specs.Rows.{sameList, rowOf};
 
@@ -28,7 +29,7 @@ pub fn room_of(table: usize, bytes: usize, w: usize) -> usize
 
 // Whether the flag at hand stands in row k.
 pub fn same_row(table: &[Index], k: usize, w: usize, flag: &[Index; limit::RANKS]) -> bool
-    requires { ⌜ (w ≤ 16) × (k * w + w ≤ length (now table)) × (length (now flag) ≡ 16) ⌝ }
+    requires { ⌜ (w ≤ limits .ranks) × (k * w + w ≤ length (now table)) × (length (now flag) ≡ limits .ranks) ⌝ }
     ensures { λ t. ⌜ t ≡ sameList (rowOf w (now (table .entry)) k) (take w (now (flag .entry))) ⌝ }
 {
     let at = k * w;
@@ -42,10 +43,10 @@ pub fn same_row(table: &[Index], k: usize, w: usize, flag: &[Index; limit::RANKS
     true
 }
 
-// Row k becomes the flag at hand.
+// Row k becomes the flag at hand; past it the array stays.
 pub fn get_row(table: &[Index], k: usize, w: usize, flag: &mut [Index; limit::RANKS])
-    requires { ⌜ (w ≤ 16) × (k * w + w ≤ length (now table)) × (length (now flag) ≡ 16) ⌝ }
-    ensures { λ _. ⌜ (length (now (flag .exit)) ≡ 16) × (take w (now (flag .exit)) ≡ rowOf w (now (table .entry)) k) ⌝ }
+    requires { ⌜ (w ≤ limits .ranks) × (k * w + w ≤ length (now table)) × (length (now flag) ≡ limits .ranks) ⌝ }
+    ensures { λ _. ⌜ now (flag .exit) ≡ over (rowOf w (now (table .entry)) k) (now (flag .entry)) ⌝ }
 {
     let at = k * w;
     let mut j: usize = 0;
@@ -57,7 +58,7 @@ pub fn get_row(table: &[Index], k: usize, w: usize, flag: &mut [Index; limit::RA
 
 // The flag at hand is written into row k.
 pub fn put_row(table: &mut [Index], k: usize, w: usize, flag: &[Index; limit::RANKS])
-    requires { ⌜ (w ≤ 16) × (k * w + w ≤ length (now table)) × (length (now flag) ≡ 16) ⌝ }
+    requires { ⌜ (w ≤ limits .ranks) × (k * w + w ≤ length (now table)) × (length (now flag) ≡ limits .ranks) ⌝ }
     ensures { λ _. ⌜ now (table .exit) ≡ paste (now (table .entry)) (k * w) (now (flag .entry)) w ⌝ }
 {
     let at = k * w;

@@ -8,13 +8,13 @@ use native.Mathlib.Decide.{decLt}
 use native.Mathlib.Omega.{arith}
 use lib.ListN.{length, getD, List·getD-append}
 use lib.Seq.{getD-at}
-use Rattle.search_theory.specs.Search.{State, nothing, add, again, indexIn, meet, meetAll, work, search}
-use Rattle.search_theory.specs.Search.{Neighbour, Decides, Kept, Colouring, tone}
+use Rattle.search_theory.specs.Search.{State, unbegun, add, again, indexIn, meet, meetAll, work, search}
+use Rattle.search_theory.specs.Search.{Neighbour, Decides, Proper, Colouring, tone}
 use Rattle.search_theory.proofs.Once.{length-snoc, in-at}
 use Rattle.search_theory.proofs.Lookup.{index-at}
 use Rattle.search_theory.proofs.Step.{place-same, meet-cases}
 use Rattle.search_theory.proofs.Run.{run-ends}
-use Rattle.search_theory.proofs.Kept.{work-kept, start-kept}
+use Rattle.search_theory.proofs.Proper.{work-proper, start-proper}
 
 tone-start : (c : Bool) → 0 ≡ tone c c
 unfolding tone
@@ -78,7 +78,7 @@ module _ {A : Type 0} (same : A → A → Bool) (decides : Decides same) (room :
   abbrev byte : A → ℕ
   byte y = tone (c .colour a) (c .colour y)
 
-  work-toned : (k : ℕ) (s : State A) → k < length (s .found) → Kept room (Neighbour nbrs) a s → Toned byte a s
+  work-toned : (k : ℕ) (s : State A) → k < length (s .found) → Proper room (Neighbour nbrs) a s → Toned byte a s
       → Toned byte a (work same room nbrs a k s)
   unfolding work
   work-toned k s i f h = meets-toned same decides room byte a _ s _ go h
@@ -91,19 +91,19 @@ module _ {A : Type 0} (same : A → A → Bool) (decides : Decides same) (room :
           rw (h .toned k i)
           (tone-flip (c .colour a) (c .colour x) (c .colour y) (c .flips x y (f .reached x (in-at (s .found) a k i)) n))
 
-  nothing-toned : Toned byte a nothing
-  nothing-toned = record { paired = refl; still = refl; toned = λ k h. absurd (omega arith) }
+  unbegun-toned : Toned byte a unbegun
+  unbegun-toned = record { paired = refl; still = refl; toned = λ k h. absurd (omega arith) }
 
   search-toned : Toned byte a (search same room nbrs a)
   unfolding search
   search-toned =
-      run-ends same room nbrs a (λ k s. Kept room (Neighbour nbrs) a s × Toned byte a s)
-      (λ k s o i h. (work-kept same decides room nbrs a k s i (h .0), work-toned k s i (h .0) (h .1))) 0
-      (meet same room 0 nothing a) (f .fits)
-      (f, meet-toned same decides room byte a 0 nothing a (tone-start (c .colour a)) nothing-toned) .1 .1
+      run-ends same room nbrs a (λ k s. Proper room (Neighbour nbrs) a s × Toned byte a s)
+      (λ k s o i h. (work-proper same decides room nbrs a k s i (h .0), work-toned k s i (h .0) (h .1))) 0
+      (meet same room 0 unbegun a) (f .fits)
+      (f, meet-toned same decides room byte a 0 unbegun a (tone-start (c .colour a)) unbegun-toned) .1 .1
     where
-      f : Kept room (Neighbour nbrs) a (meet same room 0 nothing a)
-      f = start-kept same decides room nbrs a
+      f : Proper room (Neighbour nbrs) a (meet same room 0 unbegun a)
+      f = start-proper same decides room nbrs a
 
   -- There is a colouring: no place is given, whether or not there is room.
   pub coloured-still : search same room nbrs a .place ≡ 0

@@ -7,7 +7,7 @@ use Prim.Native.Nat.{ℕ, _≤_, _<_}
 use native.Mathlib.Decide.{ℕ-discrete}
 use native.Mathlib.Omega.{arith}
 use lib.ListN.{length, getD, length-append, List·getD-append}
-use Rattle.search_theory.specs.Search.{State, nothing, add, overfull, placeAfter, again, indexIn, meet, meetAll}
+use Rattle.search_theory.specs.Search.{State, unbegun, add, overfull, placeAfter, again, indexIn, meet, meetAll}
 use Rattle.search_theory.specs.Search.{work, run, search}
 use Rattle.search_theory.proofs.Step.{place-kept, meet-cases}
 use Rattle.search_theory.proofs.Run.{search-start, run-ends}
@@ -19,19 +19,19 @@ pub record Grown {A : Type 0} (s t : State A) : Type 0 where
   pub tail : List ℕ
   pub bytes : t .bytes ≡ s .bytes ++ tail
   pub place : t .place ≡ 0 → s .place ≡ 0
-  pub over : t .over ≡ false → s .over ≡ false
+  pub overflow : t .overflow ≡ false → s .overflow ≡ false
 
 module _ {A : Type 0} where
   -- nothing is added
   grown-none : (s t : State A) → t .found ≡ s .found → t .bytes ≡ s .bytes → (t .place ≡ 0 → s .place ≡ 0)
-      → (t .over ≡ false → s .over ≡ false) → Grown s t
+      → (t .overflow ≡ false → s .overflow ≡ false) → Grown s t
   grown-none s t f b p o = record {
     more = [];
     found = f ∙ sym (append-nil (s .found));
     tail = [];
     bytes = b ∙ sym (append-nil (s .bytes));
     place = p;
-    over = o;
+    overflow = o;
   }
 
   Grown·refl : (s : State A) → Grown s s
@@ -44,7 +44,7 @@ module _ {A : Type 0} where
     tail = g .tail ++ h .tail;
     bytes = h .bytes ∙ ap (λ l. l ++ h .tail) (g .bytes) ∙ append-assoc (s .bytes) (g .tail) (h .tail);
     place = λ e. g .place (h .place e);
-    over = λ e. g .over (h .over e);
+    overflow = λ e. g .overflow (h .overflow e);
   }
 
   pub Grown·length : {s t : State A} → Grown s t → length (s .found) ≤ length (t .found)
@@ -67,7 +67,7 @@ module _ {A : Type 0} where
 
   pub add-grown : (b : ℕ) (s : State A) (y : A) → Grown s (add b s y)
   add-grown b s y =
-      record { more = y ∷ []; found = refl; tail = b ∷ []; bytes = refl; place = λ e. e; over = λ e. e }
+      record { more = y ∷ []; found = refl; tail = b ∷ []; bytes = refl; place = λ e. e; overflow = λ e. e }
 
   overfull-grown : (s : State A) → Grown s (overfull s)
   overfull-grown s = grown-none s (overfull s) refl refl (λ e. e) (λ e. absurd (true≢false e))
@@ -93,8 +93,8 @@ module _ {A : Type 0} (same : A → A → Bool) (room : ℕ) where
         run-ends same room nbrs a (λ j. Grown s) (λ j t o i g. Grown·trans g (work-grown j t)) k s h (Grown·refl s) .1
 
     -- with room for it the start is found first, and even
-    start-grown : 0 < room → Grown (add 0 nothing a) (search same room nbrs a)
-    start-grown h = rw (search-start same room nbrs a h) (run-grown 0 (add 0 nothing a) h)
+    start-grown : 0 < room → Grown (add 0 unbegun a) (search same room nbrs a)
+    start-grown h = rw (search-start same room nbrs a h) (run-grown 0 (add 0 unbegun a) h)
 
     pub start-even : 0 < room → (l : List ℕ) × (search same room nbrs a .bytes ≡ 0 ∷ l)
     start-even h = (start-grown h .tail, start-grown h .bytes)

@@ -1,10 +1,9 @@
 pub mod Once
 pub mod Lookup
-pub mod Chain
 pub mod Step
 pub mod Run
 pub mod Grown
-pub mod Kept
+pub mod Proper
 pub mod Stored
 pub mod Found
 pub mod Coloured

@@ -1,5 +1,5 @@
--- The bytes of a search that is not over: with no place they are a colouring of what is reachable, and there is a place
--- exactly if there is no colouring.
+-- The bytes of a search without an overflow: with no place they are a colouring of what is reachable, and there is a
+-- place exactly if there is no colouring.
 -- Assumes nothing.
 use mathlib.Core.Path.{_≡_, refl, ap, _∙_}
 use mathlib.Core.Logic.{_↔_}
@@ -10,10 +10,10 @@ use native.Mathlib.Omega.{arith}
 use lib.Dec.{eqb}
 use lib.ListN.{length, getD}
 use Rattle.order.specs.Steps.{Reach}
-use Rattle.search_theory.specs.Search.{State, indexIn, search, Neighbour, Decides, Kept, Colouring}
+use Rattle.search_theory.specs.Search.{State, indexIn, search, Neighbour, Decides, Proper, Colouring}
 use Rattle.search_theory.proofs.Once.{at-in}
 use Rattle.search_theory.proofs.Lookup.{index-only}
-use Rattle.search_theory.proofs.Kept.{search-kept}
+use Rattle.search_theory.proofs.Proper.{search-proper}
 use Rattle.search_theory.proofs.Stored.{search-stored}
 use Rattle.search_theory.proofs.Found.{found-exact}
 use Rattle.search_theory.proofs.Coloured.{coloured-still}
@@ -27,8 +27,8 @@ module _ {A : Type 0} (same : A → A → Bool) (decides : Decides same) (room :
   abbrev S : State A
   S = search same room nbrs a
 
-  facts : Kept room (Neighbour nbrs) a S
-  facts = search-kept same decides room nbrs a
+  facts : Proper room (Neighbour nbrs) a S
+  facts = search-proper same decides room nbrs a
 
   -- the byte of a thing that was found
   abbrev byteOf : A → ℕ
@@ -40,7 +40,7 @@ module _ {A : Type 0} (same : A → A → Bool) (decides : Decides same) (room :
       ap (λ i. getD (S .bytes) i 0)
       (index-only same decides (S .found) a y k (facts .once) h (decides (getD (S .found) k a) y .1 e))
 
-  module _ (o : S .over ≡ false) (z : S .place ≡ 0) where
+  module _ (o : S .overflow ≡ false) (z : S .place ≡ 0) where
     -- each neighbour of the kth has the byte that the kth does not have
     pub bytes-flip : (k : ℕ) → k < length (S .found) → (y : A) → Neighbour nbrs (getD (S .found) k a) y
         → getD (S .bytes) (indexIn same (S .found) y) 0 ≡ 1 - getD (S .bytes) k 0
@@ -57,5 +57,5 @@ module _ {A : Type 0} (same : A → A → Bool) (decides : Decides same) (room :
     bytes-colour : Colouring (Neighbour nbrs) a
     bytes-colour = record { colour = λ y. eqb (byteOf y) 1; flips = step-flip }
 
-  pub place-exact : S .over ≡ false → (S .place ≡ 0) ↔ Colouring (Neighbour nbrs) a
+  pub place-exact : S .overflow ≡ false → (S .place ≡ 0) ↔ Colouring (Neighbour nbrs) a
   place-exact o = (bytes-colour o, coloured-still same decides room nbrs a)

@@ -9,12 +9,13 @@ use native.Mathlib.Numerals.{add-one}
 use native.Mathlib.Omega.{arith}
 use lib.ListN.{length, take}
 use lib.Seq.{take-all, take-at}
-use Rattle.search_theory.specs.Search.{State, nothing, overfull, meet, meetAll, work, run, search}
-use Rattle.search_theory.specs.Search.{Neighbour, Decides, Kept}
-use Rattle.search_theory.proofs.Step.{meet-stop, meet-again, meet-new, meet-cases, meets-over, meet-fits, meets-fits}
+use Rattle.search_theory.specs.Search.{State, unbegun, overfull, meet, meetAll, work, run, search}
+use Rattle.search_theory.specs.Search.{Neighbour, Decides, Proper}
+use Rattle.search_theory.proofs.Step.{meet-stop, meet-again, meet-new, meet-cases, meets-overflow, meet-fits}
+use Rattle.search_theory.proofs.Step.{meets-fits}
 use Rattle.search_theory.proofs.Run.{run-next, run-stop, run-end, run-ends}
 use Rattle.search_theory.proofs.Grown.{Grown, Grown·trans, meet-grown, meets-grown, work-grown}
-use Rattle.search_theory.proofs.Kept.{search-kept}
+use Rattle.search_theory.proofs.Proper.{search-proper}
 
 -- s is full with n, and t came of the state before
 record Cut {A : Type 0} (n : ℕ) (s t : State A) : Type 0 where
@@ -23,8 +24,8 @@ record Cut {A : Type 0} (n : ℕ) (s t : State A) : Type 0 where
   grown : Grown before t
   many : length (before .found) ≡ n
 
-Cut·over : {A : Type 0} {n : ℕ} {s t : State A} → Cut n s t → s .over ≡ true
-Cut·over c = ap (λ s. s .over) (c .is)
+Cut·overflow : {A : Type 0} {n : ℕ} {s t : State A} → Cut n s t → s .overflow ≡ true
+Cut·overflow c = ap (λ s. s .overflow) (c .is)
 
 Cut·grown : {A : Type 0} {n : ℕ} {s t u : State A} → Cut n s t → Grown t u → Cut n s u
 Cut·grown c g = record { before = c .before; is = c .is; grown = Grown·trans (c .grown) g; many = c .many }
@@ -53,7 +54,7 @@ module _ {A : Type 0} (same : A → A → Bool) (n m : ℕ) (le : n ≤ m) where
           → Ahead n (meetAll same n b s (y ∷ l)) (meetAll same m b s (y ∷ l))
       go (inl e) r = rw (← e) r
       go (inr c) r =
-          rw (meets-over same n b (meet same n b s y) l (Cut·over c))
+          rw (meets-overflow same n b (meet same n b s y) l (Cut·overflow c))
           (inr (Cut·grown c (meets-grown same m b (meet same m b s y) l)))
 
   module _ (nbrs : A → List A) (a : A) where
@@ -67,9 +68,9 @@ module _ {A : Type 0} (same : A → A → Bool) (n m : ℕ) (le : n ≤ m) where
     -- it goes on from s, where t is ahead
     along : (k : ℕ) (s t : State A) → length (s .found) ≤ n → W ≡ run same n nbrs a k s → Ahead n s t → Along k t
     along k s t h e (inl q) = rw (← q) (inl (h, e))
-    along k s t h e (inr c) = inr (rw (run-stop same n nbrs a W k s e (Cut·over c)) c)
+    along k s t h e (inr c) = inr (rw (run-stop same n nbrs a W k s e (Cut·overflow c)) c)
 
-    work-along : (k : ℕ) (t : State A) → t .over ≡ false → k < length (t .found) → Along k t
+    work-along : (k : ℕ) (t : State A) → t .overflow ≡ false → k < length (t .found) → Along k t
         → Along (suc k) (work same m nbrs a k t)
     unfolding work
     work-along k t o i (inl p) =
@@ -77,20 +78,20 @@ module _ {A : Type 0} (same : A → A → Bool) (n m : ℕ) (le : n ≤ m) where
         (rw add-one at (run-next same n nbrs a W k t (p .1) o i (p .0))) (meets-ahead _ t _ (p .0))
     work-along k t o i (inr c) = inr (Cut·grown c (work-grown same m nbrs a k t))
 
-    start-along : Along 0 (meet same m 0 nothing a)
+    start-along : Along 0 (meet same m 0 unbegun a)
     unfolding search
     start-along =
-        along 0 (meet same n 0 nothing a) (meet same m 0 nothing a) (meet-fits same n 0 nothing a (omega arith)) refl
-        (meet-ahead 0 nothing a (omega arith))
+        along 0 (meet same n 0 unbegun a) (meet same m 0 unbegun a) (meet-fits same n 0 unbegun a (omega arith)) refl
+        (meet-ahead 0 unbegun a (omega arith))
 
     search-ahead : Ahead n W (search same m nbrs a)
     unfolding search
     search-ahead =
-        let f = meet-fits same m 0 nothing a (omega arith) in
-        let r = run-ends same m nbrs a Along work-along 0 (meet same m 0 nothing a) f start-along in
-        go (r .0) (search same m nbrs a) (r .1) (r .2) (search same m nbrs a .over) refl
+        let f = meet-fits same m 0 unbegun a (omega arith) in
+        let r = run-ends same m nbrs a Along work-along 0 (meet same m 0 unbegun a) f start-along in
+        go (r .0) (search same m nbrs a) (r .1) (r .2) (search same m nbrs a .overflow) refl
       where
-        go : (k : ℕ) (t : State A) → Along k t → (t .over ≡ false → length (t .found) ≤ k) → (b : Bool) → t .over ≡ b
+        go : (k : ℕ) (t : State A) → Along k t → (t .overflow ≡ false → length (t .found) ≤ k) → (b : Bool) → t .overflow ≡ b
             → Ahead n W t
         go k t (inr c) d b o = inr c
         go k t (inl p) d true o = inl (run-stop same n nbrs a W k t (p .1) o)
@@ -126,5 +127,5 @@ prefix same decides n m le nbrs a =
     ⊎-elim (same-first n (search same n nbrs a) (search same m nbrs a) (k .fits) (k .paired))
     (cut-first n (search same n nbrs a) (search same m nbrs a) (k .paired)) (search-ahead same n m le nbrs a)
   where
-    k : Kept n (Neighbour nbrs) a (search same n nbrs a)
-    k = search-kept same decides n nbrs a
+    k : Proper n (Neighbour nbrs) a (search same n nbrs a)
+    k = search-proper same decides n nbrs a

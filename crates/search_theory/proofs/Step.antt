@@ -38,11 +38,11 @@ module _ {A : Type 0} (same : A → A → Bool) (room : ℕ) where
   module _ (b : ℕ) (s : State A) (y : A) where
     -- ---- a thing is met: its four cases
 
-    pub meet-stop : s .over ≡ true → meet same room b s y ≡ s
+    pub meet-stop : s .overflow ≡ true → meet same room b s y ≡ s
     unfolding meet
     meet-stop o = cond-true _ _ _ o
 
-    module _ (o : s .over ≡ false) where
+    module _ (o : s .overflow ≡ false) where
       pub meet-again : indexIn same (s .found) y < length (s .found)
           → meet same room b s y ≡ again b s (indexIn same (s .found) y)
       unfolding meet
@@ -59,15 +59,15 @@ module _ {A : Type 0} (same : A → A → Bool) (room : ℕ) where
       meet-new i r = cond-false _ _ _ o ∙ cond-false _ _ _ (le-ltb _ _ i) ∙ cond-true _ _ _ (lt-ltb _ _ r)
 
     -- what holds in each case holds of the state after
-    pub meet-cases : (P : State A → Type 0) → (s .over ≡ true → P s)
-        → (s .over ≡ false → indexIn same (s .found) y < length (s .found) → P (again b s (indexIn same (s .found) y)))
-        → (s .over ≡ false → length (s .found) ≤ indexIn same (s .found) y → length (s .found) < room → P (add b s y))
-        → (s .over ≡ false → length (s .found) ≤ indexIn same (s .found) y → room ≤ length (s .found) → P (overfull s))
+    pub meet-cases : (P : State A → Type 0) → (s .overflow ≡ true → P s)
+        → (s .overflow ≡ false → indexIn same (s .found) y < length (s .found) → P (again b s (indexIn same (s .found) y)))
+        → (s .overflow ≡ false → length (s .found) ≤ indexIn same (s .found) y → length (s .found) < room → P (add b s y))
+        → (s .overflow ≡ false → length (s .found) ≤ indexIn same (s .found) y → room ≤ length (s .found) → P (overfull s))
         → P (meet same room b s y)
     meet-cases P stop known new none =
-        go (s .over) refl (ltb (indexIn same (s .found) y) (length (s .found))) refl (ltb (length (s .found)) room) refl
+        go (s .overflow) refl (ltb (indexIn same (s .found) y) (length (s .found))) refl (ltb (length (s .found)) room) refl
       where
-        go : (t : Bool) → s .over ≡ t → (u : Bool) → ltb (indexIn same (s .found) y) (length (s .found)) ≡ u
+        go : (t : Bool) → s .overflow ≡ t → (u : Bool) → ltb (indexIn same (s .found) y) (length (s .found)) ≡ u
             → (v : Bool) → ltb (length (s .found)) room ≡ v → P (meet same room b s y)
         go true o u i v r = rw (meet-stop o) (stop o)
         go false o true i v r =
@@ -84,10 +84,10 @@ module _ {A : Type 0} (same : A → A → Bool) (room : ℕ) where
 
   -- ---- things are met, in order
 
-  pub meets-over : (b : ℕ) (s : State A) (l : List A) → s .over ≡ true → meetAll same room b s l ≡ s
+  pub meets-overflow : (b : ℕ) (s : State A) (l : List A) → s .overflow ≡ true → meetAll same room b s l ≡ s
   unfolding meetAll
-  meets-over b s [] o = refl
-  meets-over b s (y ∷ l) o = rw (meet-stop b s y o) (meets-over b s l o)
+  meets-overflow b s [] o = refl
+  meets-overflow b s (y ∷ l) o = rw (meet-stop b s y o) (meets-overflow b s l o)
 
   -- ---- there is a byte for each, and no more is found than there is room for
 

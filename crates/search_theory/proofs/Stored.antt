@@ -8,15 +8,15 @@ use native.Mathlib.Decide.{ℕ-discrete, decLt}
 use native.Mathlib.Omega.{arith}
 use lib.ListN.{length, getD}
 use lib.Seq.{getD-at}
-use Rattle.search_theory.specs.Search.{State, nothing, add, placeAfter, again, indexIn, meet, meetAll, work}
-use Rattle.search_theory.specs.Search.{search, Neighbour, Decides, Kept}
+use Rattle.search_theory.specs.Search.{State, unbegun, add, placeAfter, again, indexIn, meet, meetAll, work}
+use Rattle.search_theory.specs.Search.{search, Neighbour, Decides, Proper}
 use Rattle.search_theory.proofs.Once.{length-snoc}
 use Rattle.search_theory.proofs.Lookup.{index-at}
 use Rattle.search_theory.proofs.Step.{place-first, meet-cases, meet-paired}
 use Rattle.search_theory.proofs.Run.{run-ends}
 use Rattle.search_theory.proofs.Grown.{Grown, Grown·length, Grown·found, Grown·byte, again-grown}
 use Rattle.search_theory.proofs.Grown.{meets-grown, work-grown}
-use Rattle.search_theory.proofs.Kept.{work-kept, start-kept}
+use Rattle.search_theory.proofs.Proper.{work-proper, start-proper}
 
 -- y stands at an index, and its byte is b as long as there was no place
 pub record Stored {A : Type 0} (d : A) (b : ℕ) (y : A) (s : State A) : Type 0 where
@@ -54,35 +54,35 @@ module _ {A : Type 0} (d : A) (b : ℕ) (y : A) where
 
 module _ {A : Type 0} (same : A → A → Bool) (decides : Decides same) (room : ℕ) where
   meet-stored : (d : A) (b : ℕ) (s : State A) (y : A) → length (s .bytes) ≡ length (s .found)
-      → meet same room b s y .over ≡ false → Stored d b y (meet same room b s y)
+      → meet same room b s y .overflow ≡ false → Stored d b y (meet same room b s y)
   meet-stored d b s y p =
-      meet-cases same room b s y (λ t. t .over ≡ false → Stored d b y t)
+      meet-cases same room b s y (λ t. t .overflow ≡ false → Stored d b y t)
       (λ o e. absurd (true≢false (sym o ∙ e)))
       (λ o i e. again-stored d b y s (indexIn same (s .found) y) i (index-at same decides (s .found) d y i))
       (λ o i r e. add-stored d b y s p)
       (λ o i r e. absurd (true≢false e))
 
-  -- not over: each of those that were met is stored
+  -- no overflow: each of those that were met is stored
   meets-stored : (d : A) (b : ℕ) (s : State A) (l : List A) (y : A) → List·Memᴰ y l
-      → length (s .bytes) ≡ length (s .found) → meetAll same room b s l .over ≡ false
+      → length (s .bytes) ≡ length (s .found) → meetAll same room b s l .overflow ≡ false
       → Stored d b y (meetAll same room b s l)
   unfolding meetAll
   meets-stored d b s l y (List·Memᴰ·head {x = x} {xs = m} e) p o =
       let g = meets-grown same room b (meet same room b s x) m in
-      rw e (Stored·grown d b x g (meet-paired same room b s x p) (meet-stored d b s x p (g .over o)))
+      rw e (Stored·grown d b x g (meet-paired same room b s x p) (meet-stored d b s x p (g .overflow o)))
   meets-stored d b s l y (List·Memᴰ·tail {x = x} {xs = m} n) p o =
       meets-stored d b (meet same room b s x) m y n (meet-paired same room b s x p) o
 
   module _ (nbrs : A → List A) (a : A) where
     -- the first k were worked: all their neighbours are stored
     record Worked (k : ℕ) (s : State A) : Type 0 where
-      kept : Kept room (Neighbour nbrs) a s
+      proper : Proper room (Neighbour nbrs) a s
       some : k ≤ length (s .found)
-      done : s .over ≡ false → (j : ℕ) → j < k → (y : A) → Neighbour nbrs (getD (s .found) j a) y
+      done : s .overflow ≡ false → (j : ℕ) → j < k → (y : A) → Neighbour nbrs (getD (s .found) j a) y
           → Stored a (1 - getD (s .bytes) j 0) y s
 
     work-stored : (k : ℕ) (s : State A) → length (s .bytes) ≡ length (s .found)
-        → work same room nbrs a k s .over ≡ false → (y : A) → Neighbour nbrs (getD (s .found) k a) y
+        → work same room nbrs a k s .overflow ≡ false → (y : A) → Neighbour nbrs (getD (s .found) k a) y
         → Stored a (1 - getD (s .bytes) k 0) y (work same room nbrs a k s)
     unfolding work
     work-stored k s p o y n = meets-stored a _ s _ y n p o
@@ -90,37 +90,37 @@ module _ {A : Type 0} (same : A → A → Bool) (decides : Decides same) (room :
     work-worked : (k : ℕ) (s : State A) → k < length (s .found) → Worked k s
         → Worked (suc k) (work same room nbrs a k s)
     work-worked k s i w = record {
-      kept = work-kept same decides room nbrs a k s i (w .kept);
+      proper = work-proper same decides room nbrs a k s i (w .proper);
       some = omega (arith, Grown·length g);
       done = λ o j m y n.
-          rw (Grown·byte g j (omega (arith, w .kept .paired)))
+          rw (Grown·byte g j (omega (arith, w .proper .paired)))
           (go o j m y (rw (Grown·found g a j (omega arith)) at n) (decLt j k));
     }
       where
         g : Grown s (work same room nbrs a k s)
         g = work-grown same room nbrs a k s
 
-        go : work same room nbrs a k s .over ≡ false → (j : ℕ) → j < suc k → (y : A)
+        go : work same room nbrs a k s .overflow ≡ false → (j : ℕ) → j < suc k → (y : A)
             → Neighbour nbrs (getD (s .found) j a) y → Dec (j < k)
             → Stored a (1 - getD (s .bytes) j 0) y (work same room nbrs a k s)
         go o j m y n (yes l) =
-            Stored·grown a (1 - getD (s .bytes) j 0) y g (w .kept .paired) (w .done (g .over o) j l y n)
+            Stored·grown a (1 - getD (s .bytes) j 0) y g (w .proper .paired) (w .done (g .overflow o) j l y n)
         go o j m y n (no l) =
             let e : j ≡ k = omega arith in
-            rw e (work-stored k s (w .kept .paired) o y (rw e at n))
+            rw e (work-stored k s (w .proper .paired) o y (rw e at n))
 
     search-worked : (k : ℕ) × Worked k (search same room nbrs a)
-        × (search same room nbrs a .over ≡ false → length (search same room nbrs a .found) ≤ k)
+        × (search same room nbrs a .overflow ≡ false → length (search same room nbrs a .found) ≤ k)
     unfolding search
     search-worked =
-        run-ends same room nbrs a Worked (λ k s o i w. work-worked k s i w) 0 (meet same room 0 nothing a) (k .fits)
-        (record { kept = k; some = omega arith; done = λ o j m. absurd (omega arith) })
+        run-ends same room nbrs a Worked (λ k s o i w. work-worked k s i w) 0 (meet same room 0 unbegun a) (k .fits)
+        (record { proper = k; some = omega arith; done = λ o j m. absurd (omega arith) })
       where
-        k : Kept room (Neighbour nbrs) a (meet same room 0 nothing a)
-        k = start-kept same decides room nbrs a
+        k : Proper room (Neighbour nbrs) a (meet same room 0 unbegun a)
+        k = start-proper same decides room nbrs a
 
-    -- not over: each neighbour of the kth is stored with the byte that the kth does not have
-    pub search-stored : search same room nbrs a .over ≡ false → (k : ℕ) → k < length (search same room nbrs a .found)
+    -- no overflow: each neighbour of the kth is stored with the byte that the kth does not have
+    pub search-stored : search same room nbrs a .overflow ≡ false → (k : ℕ) → k < length (search same room nbrs a .found)
         → (y : A) → Neighbour nbrs (getD (search same room nbrs a .found) k a) y
         → Stored a (1 - getD (search same room nbrs a .bytes) k 0) y (search same room nbrs a)
     search-stored o k i =

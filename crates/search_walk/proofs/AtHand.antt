@@ -1,11 +1,13 @@
--- The flag at hand, in an array of sixteen numbers: one number of it is changed.
+-- The flag at hand, at the beginning of an array: it is a row of the table, and one number of it is changed.
 -- Assumes nothing.
 use mathlib.Core.Path.{_≡_, sym, ap, ap₂, _∙_}
 use mathlib.Core.List.{List}
 use Prim.Native.Nat.{ℕ, _+_, _-_, _*_, _%_, _≤_, _<_}
 use native.Mathlib.Omega.{arith}
-use lib.ListN.{length, getD, take, set}
+use lib.ListN.{length, getD, take, set, replicate, length-replicate}
 use lib.Seq.{length-take-le, getD-take, take-set-lt, set-set, set-getD}
+use Rattle.order.specs.Lists.{over}
+use Rattle.order.proofs.Over.{over-length, over-first}
 use Rattle.listing.specs.Listing.{Listing, limits, rank, subs, sups}
 use Rattle.valid.specs.Closed.{Closed}
 use Rattle.flag_change.specs.Change.{common, other, between, changeAt, Flanked}
@@ -13,7 +15,17 @@ use Rattle.search_store.specs.Hash.{hashes, weight, hashOf}
 use Rattle.search_store.proofs.Hash.{old-inside, hash-changed}
 use Rattle.search_walk.specs.Ready.{AtHand}
 
-module _ (L : Listing) (C : Closed limits L) (flag : List ℕ) (sum : ℕ) (H : AtHand L flag sum) (r : ℕ) (p : 0 < r)
+-- a row at the beginning of the array
+module _ (w : ℕ) (row : List ℕ) (e : length row ≡ w) (h : w ≤ limits .ranks) where
+  pub array-long : length (over row (replicate (limits .ranks) 0)) ≡ limits .ranks
+  array-long =
+      let n = length-replicate {A = ℕ} (limits .ranks) 0 in
+      over-length row (replicate (limits .ranks) 0) (omega arith) ∙ n
+
+  pub array-first : take w (over row (replicate (limits .ranks) 0)) ≡ row
+  array-first = over-first row (replicate (limits .ranks) 0) w e
+
+module _ {L : Listing} (C : Closed limits L) {flag : List ℕ} {sum : ℕ} (H : AtHand L flag sum) (r : ℕ) (p : 0 < r)
     (q : r < rank L) where
   -- how many numbers the flag has, and the flag itself
   abbrev w : ℕ
@@ -23,7 +35,7 @@ module _ (L : Listing) (C : Closed limits L) (flag : List ℕ) (sum : ℕ) (H : 
   f = take w flag
 
   short : w ≤ length flag
-  short = omega (arith, C .shaped .few-ranks, H .sixteen)
+  short = omega (arith, C .shaped .few-ranks, H .long)
 
   f-long : length f ≡ w
   f-long = length-take-le w flag short

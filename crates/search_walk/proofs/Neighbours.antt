@@ -1,4 +1,4 @@
--- The neighbours of a flag are flags, and so is all that a search finds.
+-- The changes of a flag that a mask asks for are flags, and so is all that a search finds.
 -- Assumes nothing.
 use mathlib.Core.Path.{refl, sym, _∙_}
 use mathlib.Core.Bool.{Bool}
@@ -9,7 +9,7 @@ use Prim.Native.Nat.{ℕ, _<_}
 use native.Mathlib.Omega.{arith}
 use lib.ListN.{length}
 use Rattle.order.specs.Lists.{In}
-use Rattle.listing.specs.Listing.{Listing, Limits}
+use Rattle.listing.specs.Listing.{Listing, Limits, rank}
 use Rattle.valid.specs.Closed.{Closed}
 use Rattle.flag_change.specs.Flags.{IsFlag}
 use Rattle.flag_change.specs.Change.{changeAt}
@@ -19,9 +19,10 @@ use Rattle.search_theory.proofs.Once.{in-at, at-in}
 use Rattle.search_theory.proofs.Step.{meet-cases}
 use Rattle.search_store.specs.Rows.{rows}
 use Rattle.search_store.proofs.Rows.{rows-length, rows-at}
-use Rattle.search_masks.specs.Masks.{ranksOf}
-use Rattle.search_walk.specs.Searched.{neighbours}
-use Rattle.search_walk.specs.Ready.{Within, AllFlags}
+use Rattle.search_masks.specs.Masks.{InnerRanks, ranksOf}
+use Rattle.search_masks.proofs.Ranks.{ranks-exact}
+use Rattle.search_walk.specs.Searched.{maskChanges}
+use Rattle.search_walk.specs.Ready.{AllFlags}
 
 -- a member, as the lists of numbers have it
 pub mem-in : (x : ℕ) (l : List ℕ) → List·Memᴰ x l → In x l
@@ -29,13 +30,13 @@ unfolding In
 mem-in x l (List·Memᴰ·head e) = inl e
 mem-in x l (List·Memᴰ·tail {xs = m} h) = inr (mem-in x m h)
 
-module _ {m : Limits} (L : Listing) (C : Closed m L) (mask : ℕ) (W : Within L mask) (f : List ℕ) (F : IsFlag L f)
+module _ {m : Limits} (L : Listing) (C : Closed m L) (mask : ℕ) (W : InnerRanks (rank L) mask) (f : List ℕ) (F : IsFlag L f)
   where
-    pub neighbour-flag : (y : List ℕ) → List·Memᴰ y (neighbours L mask f) → IsFlag L y
-    unfolding neighbours
+    pub neighbour-flag : (y : List ℕ) → List·Memᴰ y (maskChanges L mask f) → IsFlag L y
+    unfolding maskChanges
     neighbour-flag y m =
         let t = Memᴰ·of-map (λ r. changeAt L r f) (ranksOf mask) m in
-        let b = W (t .0) (mem-in (t .0) (ranksOf mask) (t .1)) in
+        let b = W (t .0) (ranks-exact mask (t .0) .0 (mem-in (t .0) (ranksOf mask) (t .1))) in
         rw (t .2) at (changes L C (t .0) (b .0) (b .1) f F .is-flag)
 
 pub in-mem : (x : ℕ) (l : List ℕ) → In x l → List·Memᴰ x l

@@ -10,20 +10,20 @@ use lib.Seq.{take-at}
 use Rattle.listing.specs.Listing.{Listing, limits}
 use Rattle.flag_change.specs.Flags.{IsFlag}
 use Rattle.flag_change.specs.Change.{padded}
-use Rattle.search_theory.specs.Search.{nothing, Once, meet, run, search}
-use Rattle.search_theory.specs.Chain.{latest}
+use Rattle.search_theory.specs.Search.{unbegun, Once, meet, run, search}
+use Rattle.search_store.specs.Chain.{latest}
 use Rattle.search_store.specs.declared.found.Progress.{Progress}
 use Rattle.search_store.specs.Rows.{rows, sameList}
 use Rattle.search_store.specs.Hash.{hashes}
 use Rattle.search_store.specs.Index.{Indexed}
 use Rattle.search_store.specs.Held.{stateOf, Held, Moved}
-use Rattle.search_walk.specs.Searched.{neighbours, foundBy}
+use Rattle.search_walk.specs.Searched.{maskChanges, foundBy}
 use Rattle.search_walk.specs.Ready.{Ended, AllFlags}
 use Rattle.search_walk.proofs.Neighbours.{meet-all, rows-flags}
 use Rattle.search_walk.proofs.Works.{rest-trans}
 
 abbrev pub none : Progress
-none = record { count = 0; place = 0; over = false }
+none = record { count = 0; place = 0; overflow = false }
 
 -- ---- nothing is found
 
@@ -45,7 +45,7 @@ pub held-none : (w room : ℕ) (table bytes : List ℕ) → room * w ≤ length 
 held-none w room table bytes p q r =
     record { room-rows = p; room-bytes = q; room-few = r; fits = omega arith; indexed = indexed-none w table }
 
-none-is : (w : ℕ) (table bytes : List ℕ) → stateOf w table bytes none ≡ nothing
+none-is : (w : ℕ) (table bytes : List ℕ) → stateOf w table bytes none ≡ unbegun
 unfolding stateOf rows
 none-is w table bytes = refl
 
@@ -59,7 +59,7 @@ take-padded f w e = take-at f _ w e
 module _ (L : Listing) (room mask : ℕ) (t b f : List ℕ) {t′ b′ h x : List ℕ} {s : Progress}
     (M : Moved (length (L .counts)) room t b none t′ b′ h x s
     (meet sameList room 0 (stateOf (length (L .counts)) t b none) f)) where
-  first-met : stateOf (length (L .counts)) t′ b′ s ≡ meet sameList room 0 nothing f
+  first-met : stateOf (length (L .counts)) t′ b′ s ≡ meet sameList room 0 unbegun f
   first-met = M .state ∙ ap (λ S. meet sameList room 0 S f) (none-is (length (L .counts)) t b)
 
   pub first-flags : IsFlag L f → AllFlags L t′ (s .count)
@@ -67,16 +67,16 @@ module _ (L : Listing) (room mask : ℕ) (t b f : List ℕ) {t′ b′ h x : Lis
   first-flags F =
       rows-flags L t′ (s .count)
       (rw (ap (λ S. S .found) first-met)
-      (meet-all sameList room 0 (IsFlag L) nothing f (λ y m. absurd (List·Memᴰ·not-nil m)) F))
+      (meet-all sameList room 0 (IsFlag L) unbegun f (λ y m. absurd (List·Memᴰ·not-nil m)) F))
 
   -- and then all are worked
   pub all-found : {t″ b″ h′ x′ : List ℕ} {r : Progress}
       → ((a : List ℕ) → Moved (length (L .counts)) room t′ b′ s t″ b″ h′ x′ r
-      (run sameList room (neighbours L mask) a 0 (stateOf (length (L .counts)) t′ b′ s)))
+      (run sameList room (maskChanges L mask) a 0 (stateOf (length (L .counts)) t′ b′ s)))
       → Ended (length (L .counts)) room t b t″ b″ r (foundBy L f mask room)
   unfolding foundBy search
   all-found N = record {
-    state = N f .state ∙ ap (run sameList room (neighbours L mask) f 0) first-met;
+    state = N f .state ∙ ap (run sameList room (maskChanges L mask) f 0) first-met;
     fits = N f .held .fits;
     rest = rest-trans (N f .more) (M .rest) (N f .rest);
   }

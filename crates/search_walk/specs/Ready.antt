@@ -2,16 +2,15 @@
 --
 -- Ended      the search has come to its end: the table and the bytes stand for the state S, and the rest is as it was
 -- AllFlags   the first n rows of a table are flags
--- Within     a mask asks for changes at ranks from 1 to rank - 1 only
 -- Places     the places where the ranks begin
 -- Ready      the listing is closed, and the places and weights of the ranks are there
--- AtHand     the flag at hand stands in an array of sixteen numbers, and its sum is known
+-- AtHand     the flag at hand stands at the beginning of an array with a number for each rank that there can be, and
+--            its sum is known
 use mathlib.Core.Path.{_≡_}
 use mathlib.Core.List.{List}
 use Prim.Native.Nat.{ℕ, _*_, _≤_, _<_}
 use lib.ListN.{length, getD, take}
-use Rattle.order.specs.Lists.{In}
-use Rattle.listing.specs.Listing.{width, Listing, limits, rank, before}
+use Rattle.listing.specs.Listing.{width, Listing, limits, before}
 use Rattle.valid.specs.Closed.{Closed}
 use Rattle.flag_change.specs.Flags.{IsFlag}
 use Rattle.search_theory.specs.Search.{State}
@@ -19,7 +18,6 @@ use Rattle.search_store.specs.declared.found.Progress.{Progress}
 use Rattle.search_store.specs.Rows.{rowOf}
 use Rattle.search_store.specs.Hash.{hashes, sumFrom, Weights}
 use Rattle.search_store.specs.Held.{stateOf, Rest}
-use Rattle.search_masks.specs.Masks.{ranksOf}
 
 pub record Ended (w room : ℕ) (table bytes table′ bytes′ : List ℕ) (r : Progress) (S : State (List ℕ)) : Type 0 where
   pub state : stateOf w table′ bytes′ r ≡ S
@@ -32,16 +30,13 @@ AllFlags L table n = (k : ℕ) → k < n → IsFlag L (rowOf (length (L .counts)
 abbrev pub Places : List ℕ → List ℕ → Type 0
 Places counts l = (r : ℕ) → r < length counts → getD l r 0 ≡ before counts r
 
-abbrev pub Within : Listing → ℕ → Type 0
-Within L mask = (r : ℕ) → In r (ranksOf mask) → (0 < r) × (r < rank L)
-
 pub record Ready (L : Listing) (places weights : List ℕ) : Type 0 where
   pub closed : Closed limits L
   pub begins : Places (L .counts) places
   pub weighs : Weights weights
 
 pub record AtHand (L : Listing) (flag : List ℕ) (sum : ℕ) : Type 0 where
-  pub sixteen : length flag ≡ 16
+  pub long : length flag ≡ limits .ranks
   pub is-flag : IsFlag L (take (length (L .counts)) flag)
   pub sum-is : sum ≡ sumFrom 0 (take (length (L .counts)) flag)
   pub small : sum ≤ length (L .counts) * (width * hashes)

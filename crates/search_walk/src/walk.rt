@@ -22,8 +22,9 @@ ghost use Rattle.flag_change.specs.Change.{changeAt};
 ghost use Rattle.search_theory.specs.Search.{meet as meetIn, meetAll, run as runIn};
 ghost use Rattle.search_store.specs.Rows.{rowOf, sameList};
 ghost use Rattle.search_store.specs.Held.{stateOf, Held, Moved};
-ghost use Rattle.search_walk.specs.Searched.{neighbours, foundBy};
-ghost use Rattle.search_walk.specs.Ready.{Ended, AllFlags, Places, Within, Ready, AtHand};
+ghost use Rattle.search_masks.specs.Masks.{InnerRanks};
+ghost use Rattle.search_walk.specs.Searched.{maskChanges, foundBy};
+ghost use Rattle.search_walk.specs.Ready.{Ended, AllFlags, Places, Ready, AtHand};
 
 // The byte of the other orientation.
 fn flipped(byte: u8) -> u8
@@ -34,7 +35,7 @@ fn flipped(byte: u8) -> u8
 
 // The places where the ranks begin.
 fn places_of(counts: &[Index]) -> [usize; limit::RANKS]
-    requires { ⌜ length (now counts) ≤ 16 ⌝ }
+    requires { ⌜ length (now counts) ≤ limits .ranks ⌝ }
     ensures { λ a. ⌜ Places (now (counts .entry)) a ⌝ }
 {
     let mut a = [0usize; limit::RANKS];
@@ -70,7 +71,7 @@ fn try_next(
     requires { ⌜ AtHand (held counts ends inc) (now flag) sum ⌝ }
     requires { ⌜ (0 < r) × (r < rank (held counts ends inc)) ⌝ }
     requires { ⌜ Held (length (now counts)) room (now table) (now bytes) (now heads) (now next) (s .count) ⌝ }
-    requires { ⌜ s .over ≡ false ⌝ }
+    requires { ⌜ s .overflow ≡ false ⌝ }
     ensures { λ p. ⌜ now (flag .exit) ≡ now (flag .entry) ⌝ }
     ensures { λ p. ⌜ Moved (length (now (counts .entry))) room (now (table .entry)) (now (bytes .entry)) s
         (now (table .exit)) (now (bytes .exit)) (now (heads .exit)) (now (next .exit)) p
@@ -114,15 +115,15 @@ fn work(
     start: Progress,
 ) -> Progress
     requires { ⌜ Ready (held counts ends inc) (now places) (now weights) ⌝ }
-    requires { ⌜ Within (held counts ends inc) mask ⌝ }
+    requires { ⌜ InnerRanks (rank (held counts ends inc)) mask ⌝ }
     requires { ⌜ Held (length (now counts)) room (now table) (now bytes) (now heads) (now next) (start .count) ⌝ }
     requires { ⌜ AllFlags (held counts ends inc) (now table) (start .count) ⌝ }
-    requires { ⌜ (k < start .count) × (start .over ≡ false) ⌝ }
+    requires { ⌜ (k < start .count) × (start .overflow ≡ false) ⌝ }
     ensures { λ p. ⌜ Moved (length (now (counts .entry))) room (now (table .entry)) (now (bytes .entry)) start
         (now (table .exit)) (now (bytes .exit)) (now (heads .exit)) (now (next .exit)) p
         (meetAll sameList room (1 - getD (now (bytes .entry)) k 0)
         (stateOf (length (now (counts .entry))) (now (table .entry)) (now (bytes .entry)) start)
-        (neighbours (held (counts .entry) (ends .entry) (inc .entry)) mask
+        (maskChanges (held (counts .entry) (ends .entry) (inc .entry)) mask
         (rowOf (length (now (counts .entry))) (now (table .entry)) k))) ⌝ }
 {
     let w = counts.len();
@@ -134,7 +135,7 @@ fn work(
     let mut left = mask;
     let mut s = start;
     while mask::any_left(left) {
-        if s.over {
+        if s.overflow {
             return s;
         }
         let r = mask::lowest(left);
@@ -176,18 +177,18 @@ fn run(
     start: Progress,
 ) -> Progress
     requires { ⌜ Ready (held counts ends inc) (now places) (now weights) ⌝ }
-    requires { ⌜ Within (held counts ends inc) mask ⌝ }
+    requires { ⌜ InnerRanks (rank (held counts ends inc)) mask ⌝ }
     requires { ⌜ Held (length (now counts)) room (now table) (now bytes) (now heads) (now next) (start .count) ⌝ }
     requires { ⌜ AllFlags (held counts ends inc) (now table) (start .count) ⌝ }
     ensures { λ p. ⌜ ((a : List ℕ) → Moved (length (now (counts .entry))) room (now (table .entry)) (now (bytes .entry))
         start (now (table .exit)) (now (bytes .exit)) (now (heads .exit)) (now (next .exit)) p
-        (runIn sameList room (neighbours (held (counts .entry) (ends .entry) (inc .entry)) mask) a
+        (runIn sameList room (maskChanges (held (counts .entry) (ends .entry) (inc .entry)) mask) a
         0 (stateOf (length (now (counts .entry))) (now (table .entry)) (now (bytes .entry)) start))) ⌝ }
 {
     let mut s = start;
     let mut k: u16 = 0;
     while k < s.count {
-        if s.over {
+        if s.overflow {
             return s;
         }
         s = work(
@@ -223,7 +224,7 @@ pub fn search_from(
 ) -> Progress
     requires { ⌜ Closed limits (held counts ends inc) ⌝ }
     requires { ⌜ IsFlag (held counts ends inc) (now first) ⌝ }
-    requires { ⌜ Within (held counts ends inc) mask ⌝ }
+    requires { ⌜ InnerRanks (rank (held counts ends inc)) mask ⌝ }
     requires { ⌜ (room * length (now counts) ≤ length (now table)) × (room ≤ length (now bytes))
         × (room ≤ limits .flags) ⌝ }
     ensures { λ p. ⌜ Ended (length (now (counts .entry))) room (now (table .entry)) (now (bytes .entry))
@@ -241,7 +242,7 @@ pub fn search_from(
     let none = Progress {
         count: 0,
         place: 0,
-        over: false,
+        overflow: false,
     };
     let s = found::meet(
         table,

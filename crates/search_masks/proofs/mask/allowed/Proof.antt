@@ -4,22 +4,22 @@ use mathlib.Core.Path.{sym, _∙_}
 use native.Mathlib.Omega.{arith}
 use borrow.Author.Tests.{not-true, not-false, lt-ltb}
 use borrow.Author.Needs.{needs}
-use Rattle.search_masks.proofs.Ranks.{unset-test, asked-test}
+use Rattle.search_masks.proofs.Ranks.{unset-test, set-is}
 use Rattle.search_masks.proofs.mask.allowed.Statement.{statement}
 use Rattle.search_masks.proofs.mask.allowed.Tie as tie
 
-asked-requires : tie.Need-asked-requires
-asked-requires c κs = search needs
+in-mask-requires : tie.Need-in-mask-requires
+in-mask-requires c κs = search needs
 
 returns : tie.Need-returns
 returns c = let a =
     c .before .before .args in
-    sym (unset-test (a .rank) (a .mask) (a .r) (sym (c .before .asked .ensures) ∙ not-true _ (c .if1 .taken)))
+    sym (unset-test (a .rank) (a .mask) (a .r) (sym (c .before .in-mask .ensures) ∙ not-true _ (c .if1 .taken)))
 
 returns-2 : tie.Need-returns-2
 returns-2 c = let a = c .before .before .before .args in
-    sym (asked-test (a .rank) (a .mask) (a .r)
-    (sym (c .before .before .asked .ensures) ∙ not-false _ (c .before .if1 .left)) ∙ rw (c .if2 .taken))
+    sym (set-is (a .rank) (a .mask) (a .r)
+    (sym (c .before .before .in-mask .ensures) ∙ not-false _ (c .before .if1 .left)) ∙ rw (c .if2 .taken))
 
 wide-requires : tie.Need-wide-requires
 wide-requires c κs = search needs
@@ -27,9 +27,9 @@ wide-requires c κs = search needs
 returns-3 : tie.Need-returns-3
 returns-3 c = let a = c .before .before .before .before .args in
     rw (c .wide .ensures .0)
-    (sym (asked-test (a .rank) (a .mask) (a .r)
-    (sym (c .before .before .before .asked .ensures) ∙ not-false _ (c .before .before .if1 .left))
+    (sym (set-is (a .rank) (a .mask) (a .r)
+    (sym (c .before .before .before .in-mask .ensures) ∙ not-false _ (c .before .before .if1 .left))
     ∙ rw (lt-ltb 0 (a .r) (omega arith))))
 
 pub allowed-spec : {M : Type 1} → statement M
-allowed-spec = tie.close (tie.spec asked-requires returns returns-2 wide-requires returns-3)
+allowed-spec = tie.close (tie.spec in-mask-requires returns returns-2 wide-requires returns-3)

@@ -1,5 +1,5 @@
--- The loop's invariant: r is at most 16, and the test holds at each rank below r. The measure is what is left of the 16
--- ranks.
+-- The loop's invariant: r is at most the number of bits, and the test holds at each rank below r. The measure is what
+-- is left of the bits.
 -- Assumes nothing.
 use mathlib.Core.Bool.{true}
 use mathlib.Core.Path.{_≡_, refl, sym, _∙_}
@@ -9,16 +9,17 @@ use borrow.Author.Tests.{not-true, not-false}
 use borrow.Author.Needs.{needs}
 use Rattle.order.proofs.Tests.{every-stop, every-next}
 use Rattle.order.specs.Tests.{every}
+use Rattle.listing.specs.Listing.{limits}
 use Rattle.search_masks.specs.Masks.{maskFits}
 use Rattle.search_masks.proofs.Ranks.{test}
 use Rattle.search_masks.proofs.mask.fits.Statement.{statement}
 use Rattle.search_masks.proofs.mask.fits.Tie as tie
 
 abbrev Inv-loop : tie.InvT-loop
-Inv-loop mask rank r₀ r = (r ≤ 16) × (every (test rank mask) r ≡ true)
+Inv-loop mask rank r₀ r = (r ≤ limits .ranks) × (every (test rank mask) r ≡ true)
 
 abbrev μ-loop : tie.MeasureT-loop
-μ-loop mask rank r₀ r = 16 - r
+μ-loop mask rank r₀ r = limits .ranks - r
 
 loop-holds : tie.Need-loop-holds Inv-loop μ-loop
 unfolding every
@@ -30,7 +31,7 @@ allowed-requires c κs = search needs
 returns : tie.Need-returns Inv-loop μ-loop
 unfolding maskFits
 returns c = let a = c .before .before .before .before .args in
-    sym (every-stop (test (a .rank) (a .mask)) 16 _ (c .before .before .loop-test .taken)
+    sym (every-stop (test (a .rank) (a .mask)) (limits .ranks) _ (c .before .before .loop-test .taken)
     (sym (c .before .allowed .ensures) ∙ not-true _ (c .if1 .taken)))
 
 add-r : tie.Need-add-r Inv-loop μ-loop
@@ -48,7 +49,7 @@ loop-again c = let a = c .before .before .before .before .args in (
 
 returns-2 : tie.Need-returns-2 Inv-loop μ-loop
 unfolding maskFits
-returns-2 c = let z : c .before .loop .r ≡ 16 = omega arith in sym (rw z at (c .before .loop .inv .1))
+returns-2 c = let z : c .before .loop .r ≡ limits .ranks = omega arith in sym (rw z at (c .before .loop .inv .1))
 
 pub fits-spec : {M : Type 1} → statement M
 fits-spec =

@@ -10,17 +10,19 @@ use Rattle.search_store.proofs.found.add.Tie as tie
 wide-requires : tie.Need-wide-requires
 wide-requires c κs = search needs
 
+-- where the function began, seen from where the row is written
+abbrev begun : tie.After-put-row-arg → tie.Start
+begun c = c .before .before .before .before
+
 put-row-requires : tie.Need-put-row-requires
-put-row-requires c κs =
-    let s = c .before .before .before .before in
-    (omega arith, rw (c .before .wide .ensures .0) (s .pre .1 .0), omega arith)
+put-row-requires c κs = (omega arith, rw (c .before .wide .ensures .0) (begun c .pre .1 .0), omega arith)
 
 slice-write-bytes : tie.Need-slice-write-bytes
 slice-write-bytes c = search needs
 
 enter-requires : tie.Need-enter-requires
 enter-requires c κs =
-    let a = c .before .before .before .before .before .before .before .before .before .args in
+    let a = begun (c .before .before .before .before .before) .args in
     (omega (arith, hash-small (take (a .w) (a .flag .now))), omega arith)
 
 same-length : tie.Need-same-length

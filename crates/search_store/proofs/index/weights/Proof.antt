@@ -1,24 +1,25 @@
--- The loop's invariant: r is from 1 to 16, there are sixteen numbers, and those below r are the weights. The measure is
--- what is left of the 16 ranks.
+-- The loop's invariant: r is from 1 to the most ranks, there are as many numbers, and those below r are the weights.
+-- The measure is what is left of the ranks.
 -- Assumes nothing.
 use mathlib.Core.Path.{_≡_, refl}
 use Prim.Native.Nat.{ℕ, _-_, _≤_, _<_}
 use native.Mathlib.Omega.{arith}
 use borrow.Author.Needs.{needs}
 use lib.ListN.{replicate, length-set, length, getD}
+use Rattle.listing.specs.Listing.{limits}
 use Rattle.search_store.specs.Hash.{weight}
 use Rattle.search_store.proofs.Hash.{weight-small, weights-first, weights-next}
 use Rattle.search_store.proofs.index.weights.Statement.{statement}
 use Rattle.search_store.proofs.index.weights.Tie as tie
 
 abbrev Inv-loop : tie.InvT-loop
-Inv-loop a₀ r₀ a r = (1 ≤ r) × (r ≤ 16) × (length a ≡ 16) × ((k : ℕ) → k < r → getD a k 0 ≡ weight k)
+Inv-loop a₀ r₀ a r = (1 ≤ r) × (r ≤ limits .ranks) × (length a ≡ limits .ranks) × ((k : ℕ) → k < r → getD a k 0 ≡ weight k)
 
 abbrev μ-loop : tie.MeasureT-loop
-μ-loop a₀ r₀ a r = 16 - r
+μ-loop a₀ r₀ a r = limits .ranks - r
 
 loop-holds : tie.Need-loop-holds Inv-loop μ-loop
-loop-holds c = (omega arith, omega arith, refl, weights-first (replicate 15 1))
+loop-holds c = (omega arith, omega arith, refl, weights-first (replicate (limits .ranks - 1) 1))
 
 sub-a : tie.Need-sub-a Inv-loop μ-loop
 sub-a c = search needs
@@ -53,7 +54,7 @@ loop-again c = let l = c .before .loop in (
 )
 
 returns : tie.Need-returns Inv-loop μ-loop
-returns c = let l = c .before .loop in record { sixteen = l .inv .2; each = λ r h. l .inv .3 r (omega arith) }
+returns c = let l = c .before .loop in record { long = l .inv .2; each = λ r h. l .inv .3 r (omega arith) }
 
 pub weights-spec : {M : Type 1} → statement M
 weights-spec =

@@ -7,14 +7,14 @@ use native.Mathlib.Omega.{arith}
 use borrow.Author.Needs.{needs}
 use lib.ListN.{length-set, length, getD}
 use Rattle.listing.proofs.Listing.{before-zero, before-next}
-use Rattle.listing.specs.Listing.{width, before}
+use Rattle.listing.specs.Listing.{width, limits, before}
 use Rattle.search_walk.proofs.Begins.{places-next}
 use Rattle.search_walk.proofs.walk.places_of.Statement.{statement}
 use Rattle.search_walk.proofs.walk.places_of.Tie as tie
 
 abbrev Inv-loop : tie.InvT-loop
 Inv-loop counts a₀ here₀ r₀ a here r =
-    (r ≤ length counts) × (here ≡ before counts r) × (here ≤ r * width) × (length a ≡ 16)
+    (r ≤ length counts) × (here ≡ before counts r) × (here ≤ r * width) × (length a ≡ limits .ranks)
     × ((k : ℕ) → k < r → getD a k 0 ≡ before counts k)
 
 abbrev μ-loop : tie.MeasureT-loop

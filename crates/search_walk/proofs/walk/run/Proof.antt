@@ -18,69 +18,59 @@ abbrev μ-loop : tie.MeasureT-loop
 abbrev L : tie.Start Inv-loop μ-loop → Listing
 L s = listing (s .args .counts .now) (s .args .ends .now) (s .args .inc .now)
 
+-- points of the code: where it began, the loop's test, the turn
+
+abbrev begun : tie.At-loop Inv-loop μ-loop → tie.Start Inv-loop μ-loop
+begun c = c .before .before .before .before .before .before
+
+abbrev looped : tie.Then1 Inv-loop μ-loop → tie.At-loop Inv-loop μ-loop
+looped c = c .before .before
+
+abbrev turned : tie.After-work-arg4 Inv-loop μ-loop → tie.Else2 Inv-loop μ-loop
+turned c = c .before .before .before .before
+
 loop-holds : tie.Need-loop-holds Inv-loop μ-loop
 loop-holds c =
     let s = c .before .before .before .before .before in
     running-start (L s) (s .pre .0 .closed) _ _ (s .pre .1 .0) (s .pre .1 .1 .0) (s .pre .1 .1 .1)
 
 same-length : tie.Need-same-length Inv-loop μ-loop
-same-length c = c .before .before .before .loop .inv .moved .rest .long
+same-length c = looped (c .before) .loop .inv .moved .rest .long
 
 same-length-2 : tie.Need-same-length-2 Inv-loop μ-loop
-same-length-2 c = c .before .before .before .loop .inv .moved .rest .bytes-long
+same-length-2 c = looped (c .before) .loop .inv .moved .rest .bytes-long
 
 returns : tie.Need-returns Inv-loop μ-loop
 returns c =
-    let s = c .before .before .before .before .before .before .before .before .before in
-    running-stop (L s) (s .pre .0 .closed) _ _ (s .pre .1 .0) (c .before .before .before .loop .inv) (c .if2 .taken)
+    let l = looped (c .before) in
+    let s = begun l in
+    running-stop (L s) (s .pre .0 .closed) _ _ (s .pre .1 .0) (l .loop .inv) (c .if2 .taken)
 
 work-requires : tie.Need-work-requires Inv-loop μ-loop
 work-requires c κs =
-    let s = c .before .before .before .before .before .before .before .before .before .before .before .before .before in
-    let K = c .before .before .before .before .before .before .before .loop .inv in (
-      s .pre .0,
-      (
-        s .pre .1 .0,
-        (
-          K .moved .held,
-          (
-            K .flags,
-            (
-              c .before .before .before .before .before .if1 .taken,
-              c .before .before .before .before .if2 .left,
-            ),
-          ),
-        ),
-      ),
-    )
+    let t = turned c in
+    let l = looped (t .before) in
+    let s = begun l in
+    let K = l .loop .inv in
+    (s .pre .0, (s .pre .1 .0, (K .moved .held, (K .flags, (t .before .if1 .taken, t .if2 .left)))))
 
 add-k : tie.Need-add-k Inv-loop μ-loop
 add-k c =
-    let K = c .before .before .before .before .before .before .before .before .before .before .before .before .loop .inv
-    in omega (
-      arith,
-      c .before .before .before .before .before .before .before .before .before .before .if1 .taken,
-      K .moved .held .fits,
-      K .moved .held .room-few,
-    )
+    let t = turned (c .before .before .before .before .before) .before in
+    let H = looped t .loop .inv .moved .held in
+    omega (arith, t .if1 .taken, H .fits, H .room-few)
 
 loop-less : tie.Need-loop-less Inv-loop μ-loop
 loop-less c =
-    let K = c .before .before .before .before .before .before .before .before .before .before .before .before .loop .inv
-    in omega (
-      arith,
-      c .before .before .before .before .before .before .before .before .before .before .if1 .taken,
-      K .moved .held .fits,
-    )
+    let t = turned (c .before .before .before .before .before) .before in
+    omega (arith, t .if1 .taken, looped t .loop .inv .moved .held .fits)
 
 loop-again : tie.Need-loop-again Inv-loop μ-loop
 loop-again c =
-    let s = c .before .before .before .before .before .before .before .before .before .before .before .before .before
-    .before .before .before .before .before in
-    running-next (L s) (s .pre .0 .closed) _ _ (s .pre .1 .0)
-    (c .before .before .before .before .before .before .before .before .before .before .before .before .loop
-    .inv) (c .before .before .before .before .before .before .before .before .before .if2 .left)
-    (c .before .before .before .before .before .before .before .before .before .before .if1 .taken)
+    let t = turned (c .before .before .before .before .before) in
+    let l = looped (t .before) in
+    let s = begun l in
+    running-next (L s) (s .pre .0 .closed) _ _ (s .pre .1 .0) (l .loop .inv) (t .if2 .left) (t .before .if1 .taken)
     (c .before .before .before .before .work .ensures)
 
 same-length-3 : tie.Need-same-length-3 Inv-loop μ-loop
@@ -91,7 +81,7 @@ same-length-4 c = c .before .before .loop .inv .moved .rest .bytes-long
 
 returns-2 : tie.Need-returns-2 Inv-loop μ-loop
 returns-2 c =
-    let s = c .before .before .before .before .before .before .before .before in
+    let s = begun (c .before .before) in
     running-end (L s) (s .pre .0 .closed) _ _ (s .pre .1 .0) (c .before .before .loop .inv) (c .if1 .left)
 
 pub run-spec : {M : Type 1} → statement M

@@ -2,8 +2,8 @@
 --
 -- latest   the number after the last k < n whose row has the hash h, 0 if none has
 -- Latest   what that says of a number p
--- Walk     a walk back along a chain from n rows to the number p: none of the rows from p on is y, and the row before p
---          has the hash of y
+-- WayBack  the way back along a chain from n rows has come to the number p: none of the rows from p on is y, and the
+--          row before p has the hash of y
 use mathlib.Core.Path.{_≡_}
 use mathlib.Core.Logic.{_≢_}
 use mathlib.Core.Bool.{Bool, false, cond}
@@ -20,6 +20,6 @@ module _ {A : Type 0} where
     pub has : 0 < p → hash (row (p - 1)) ≡ h
     pub none : (k : ℕ) → p ≤ k → k < n → hash (row k) ≢ h
 
-  pub record Walk (same : A → A → Bool) (hash : A → ℕ) (row : ℕ → A) (n : ℕ) (y : A) (p : ℕ) : Type 0 where
+  pub record WayBack (same : A → A → Bool) (hash : A → ℕ) (row : ℕ → A) (n : ℕ) (y : A) (p : ℕ) : Type 0 where
     pub has : 0 < p → hash (row (p - 1)) ≡ hash y
     pub none : (k : ℕ) → p ≤ k → k < n → same (row k) y ≡ false

@@ -6,15 +6,16 @@
 -- searchTest    the refusals in their order: those of the closed test, 20, 21, and 22 exactly if there are more than
 --               room
 -- searchedOf    the answer: how many flags, how many came before the cell showed itself not orientable, whether it is
--- after         what a lent slice holds afterwards: on success and at 22 what was found and then what stood past it
+-- after         what a lent slice holds afterwards: on success and at 22 what was found, written over its beginning
 -- searchedBy    what a search answers, with a table and bytes lent to it
 -- tableAfter    what the table holds afterwards
 -- bytesAfter    what the bytes are afterwards
 use mathlib.Core.Bool.{not, cond, _||_}
-use mathlib.Core.List.{List, _++_}
+use mathlib.Core.List.{List}
 use Prim.Native.Nat.{ℕ, _+_, _/_, min}
 use lib.Dec.{eqb}
-use lib.ListN.{length, drop}
+use lib.ListN.{length}
+use Rattle.order.specs.Lists.{over}
 use Rattle.listing.specs.declared.Answer.{Answer}
 use Rattle.listing.specs.Refusals.{outsideRanks, moreFlags}
 use Rattle.listing.specs.Answers.{plain, ifZero, on, _orElse_}
@@ -39,13 +40,13 @@ unfoldable pub searchTest : Limits → Listing → List ℕ → ℕ → ℕ → 
 searchTest m L first mask room =
     startTest m L first orElse
     on (not (maskFits (rank L) mask)) (plain outsideRanks) orElse
-    on (foundBy L first mask room .over) (plain moreFlags)
+    on (foundBy L first mask room .overflow) (plain moreFlags)
 
 unfoldable pub searchedOf : Answer → State (List ℕ) → Searched
 searchedOf a s = ifZero (a .no) (foundAs a (length (s .found)) (s .place)) (refusedAs a)
 
 unfoldable pub after : Answer → List ℕ → List ℕ → List ℕ
-after a new old = cond (eqb (a .no) 0 || eqb (a .no) moreFlags) (new ++ drop (length new) old) old
+after a new old = cond (eqb (a .no) 0 || eqb (a .no) moreFlags) (over new old) old
 
 unfoldable pub searchedBy : Limits → Listing → List ℕ → ℕ → List ℕ → List ℕ → Searched
 unfolding roomOf searchTest searchedOf

@@ -5,8 +5,8 @@ use Prim.Native.Nat.{_/_, _^_}
 use borrow.Author.Needs.{needs}
 use lib.Dec.{eqb}
 use lib.Bits.{and-mask}
-use Rattle.search_masks.proofs.mask.asked.Statement.{statement}
-use Rattle.search_masks.proofs.mask.asked.Tie as tie
+use Rattle.search_masks.proofs.mask.in_mask.Statement.{statement}
+use Rattle.search_masks.proofs.mask.in_mask.Tie as tie
 
 shr-result : tie.Need-shr-result
 shr-result c = search needs
@@ -14,5 +14,5 @@ shr-result c = search needs
 returns : tie.Need-returns
 returns c = ap (λ x. eqb x 1) (and-mask (c .args .mask / 2 ^ c .args .r) 1)
 
-pub asked-spec : {M : Type 1} → statement M
-asked-spec = tie.close (tie.spec shr-result returns)
+pub in-mask-spec : {M : Type 1} → statement M
+in-mask-spec = tie.close (tie.spec shr-result returns)

@@ -1,4 +1,5 @@
--- The chained index: a walk down a chain finds the row of a flag, and one more row goes to the front of its chain.
+-- The chained index: the way back along a chain finds the row of a flag, and one more row goes to the front of its
+-- chain.
 -- Assumes nothing.
 use mathlib.Core.Path.{_≡_, sym, ap, _∙_}
 use mathlib.Core.Bool.{true, false}
@@ -10,28 +11,29 @@ use lib.ListN.{length, getD, take, set, length-set}
 use lib.Seq.{getD-set-same, getD-set-other, paste}
 use Rattle.listing.specs.Listing.{limits}
 use Rattle.search_theory.specs.Search.{indexIn}
-use Rattle.search_theory.specs.Chain.{latest, Walk}
+use Rattle.search_store.specs.Chain.{latest, WayBack}
 use Rattle.search_theory.proofs.Once.{once-snoc}
 use Rattle.search_theory.proofs.Lookup.{index-none, index-only, index-in}
-use Rattle.search_theory.proofs.Chain.{latest-this, latest-other, latest-exact, latest-alike, walk-start, walk-next}
+use Rattle.search_store.proofs.Chain.{latest-this, latest-other, latest-exact, latest-alike, back-start}
+use Rattle.search_store.proofs.Chain.{back-next}
 use Rattle.search_store.specs.Rows.{rowOf, rows, sameList}
 use Rattle.search_store.specs.Hash.{hashes, hashOf}
 use Rattle.search_store.specs.Index.{Indexed}
 use Rattle.search_store.proofs.Rows.{same-decides, rows-length, rows-at, put-kept, put-row, put-rows, put-length}
 
--- ---- the walk
+-- ---- the way back
 
--- the walk has come down to the number p
+-- it has come down to the number p
 pub record Down (w n : ℕ) (table y : List ℕ) (p : ℕ) : Type 0 where
   pub most : p ≤ n
-  pub walk : Walk sameList hashOf (rowOf w table) n y p
+  pub back : WayBack sameList hashOf (rowOf w table) n y p
 
 module _ (w n : ℕ) (table heads next : List ℕ) (x : Indexed w n table heads next) (y : List ℕ) where
   pub down-start : (h : ℕ) → h < hashes → h ≡ hashOf y → Down w n table y (getD heads h 0)
   down-start h i e =
       rw (x .head h i, e) (record {
         most = latest-exact hashOf (rowOf w table) (hashOf y) n .most;
-        walk = walk-start sameList same-decides hashOf (rowOf w table) n y;
+        back = back-start sameList same-decides hashOf (rowOf w table) n y;
       })
 
   module _ (p : ℕ) (d : Down w n table y p) (z : 0 < p) where
@@ -43,9 +45,9 @@ module _ (w n : ℕ) (table heads next : List ℕ) (x : Indexed w n table heads 
     pub down-next : sameList (rowOf w table (p - 1)) y ≡ false → Down w n table y (getD next (p - 1) 0)
     down-next e = record {
       most = omega (arith, chain-below, d .most);
-      walk =
+      back =
           rw (x .chain (p - 1) (omega (arith, d .most)))
-          (walk-next sameList same-decides hashOf (rowOf w table) n y p (d .walk) z e);
+          (back-next sameList same-decides hashOf (rowOf w table) n y p (d .back) z e);
     }
 
     pub down-found : sameList (rowOf w table (p - 1)) y ≡ true → p - 1 ≡ indexIn sameList (rows w table n) y
@@ -62,7 +64,7 @@ module _ (w n : ℕ) (table heads next : List ℕ) (x : Indexed w n table heads 
       none : (k : ℕ) → k < length (rows w table n) → sameList (getD (rows w table n) k []) y ≡ false
       none k h =
           let i : k < n = omega (arith, rows-length w table n) in
-          rw (rows-at w table n k [] i) (d .walk .none k (omega arith) i)
+          rw (rows-at w table n k [] i) (d .back .none k (omega arith) i)
 
 -- ---- one more row
 
@@ -73,14 +75,14 @@ module _ (w n : ℕ) (table heads next flag : List ℕ) (x : Indexed w n table h
     abbrev T : List ℕ
     T = paste table (n * w) flag w
 
-    kept : (k : ℕ) → k < n → rowOf w T k ≡ rowOf w table k
-    kept k m = put-kept w table n flag fits wide k m
+    row-stays : (k : ℕ) → k < n → rowOf w T k ≡ rowOf w table k
+    row-stays k m = put-kept w table n flag fits wide k m
 
     last : hashOf (rowOf w T n) ≡ h
     last = ap hashOf (put-row w table n flag fits wide) ∙ sym e
 
     alike : (g m : ℕ) → m ≤ n → latest hashOf (rowOf w table) g m ≡ latest hashOf (rowOf w T) g m
-    alike g m l = latest-alike hashOf (rowOf w table) (rowOf w T) g m (λ k b. sym (kept k (omega arith)))
+    alike g m l = latest-alike hashOf (rowOf w table) (rowOf w T) g m (λ k b. sym (row-stays k (omega arith)))
 
     head-more : (g : ℕ) → g < hashes → getD (set heads h (n + 1)) g 0 ≡ latest hashOf (rowOf w T) g (n + 1)
     head-more g b = go (ℕ-discrete g h)
@@ -104,7 +106,7 @@ module _ (w n : ℕ) (table heads next flag : List ℕ) (x : Indexed w n table h
         go (no q) =
             let l : k < n = omega arith in
             getD-set-other next n k (getD heads h 0) 0 q ∙ x .chain k l
-            ∙ rw (kept k l) (alike (hashOf (rowOf w table k)) k (omega arith))
+            ∙ rw (row-stays k l) (alike (hashOf (rowOf w table k)) k (omega arith))
 
     missing : n ≤ indexIn sameList (rows w table n) (take w flag) → ¬ List·Memᴰ (take w flag) (rows w table n)
     missing l m = omega (arith, index-in sameList same-decides (rows w table n) (take w flag) m, rows-length w table n)

@@ -1,5 +1,5 @@
 -- What holds of each state of a search: nothing was found twice, all that was found fits and is reachable, there is a
--- byte for each, and once over one more is reachable.
+-- byte for each, and after an overflow one more is reachable.
 -- Assumes nothing.
 use mathlib.Core.Path.{_≡_, refl, sym, _∙_}
 use mathlib.Core.Logic.{⊎-elim}
@@ -11,8 +11,9 @@ use native.Mathlib.Decide.{ℕ-discrete}
 use native.Mathlib.Omega.{arith}
 use lib.ListN.{length, getD}
 use Rattle.order.specs.Steps.{Reach, start, next}
-use Rattle.search_theory.specs.Search.{State, nothing, add, overfull, placeAfter, again, indexIn, meet, meetAll, work}
-use Rattle.search_theory.specs.Search.{search, Neighbour, Decides, Once, Kept}
+use Rattle.search_theory.specs.Search.{State, unbegun, add, overfull, placeAfter, again, indexIn, meet, meetAll}
+use Rattle.search_theory.specs.Search.{work}
+use Rattle.search_theory.specs.Search.{search, Neighbour, Decides, Once, Proper}
 use Rattle.search_theory.proofs.Once.{length-snoc, once-snoc, in-at}
 use Rattle.search_theory.proofs.Lookup.{index-in}
 use Rattle.search_theory.proofs.Step.{place-kept, place-same, place-first, meet-cases}
@@ -35,9 +36,9 @@ place-le b s i h = go (ℕ-discrete (s .place) 0) (ℕ-discrete (getD (s .bytes)
     go (yes z) (no e) = omega (arith, place-first b s i z e)
 
 module _ {A : Type 0} (room : ℕ) (R : A → A → Type 0) (a : A) where
-  nothing-kept : Kept room R a nothing
+  unbegun-proper : Proper room R a unbegun
   unfolding Once
-  nothing-kept = record {
+  unbegun-proper = record {
     once = tt;
     fits = omega arith;
     reached = λ x m. absurd (List·Memᴰ·not-nil m);
@@ -47,8 +48,8 @@ module _ {A : Type 0} (room : ℕ) (R : A → A → Type 0) (a : A) where
     beyond = λ o. absurd (true≢false (sym o));
   }
 
-  again-kept : (b : ℕ) (s : State A) (i : ℕ) → Kept room R a s → Kept room R a (again b s i)
-  again-kept b s i h = record {
+  again-proper : (b : ℕ) (s : State A) (i : ℕ) → Proper room R a s → Proper room R a (again b s i)
+  again-proper b s i h = record {
     once = h .once;
     fits = h .fits;
     reached = h .reached;
@@ -58,9 +59,9 @@ module _ {A : Type 0} (room : ℕ) (R : A → A → Type 0) (a : A) where
     beyond = h .beyond;
   }
 
-  add-kept : (b : ℕ) (s : State A) (y : A) → Kept room R a s → b ≤ 1 → Reach R a y → s .over ≡ false
-      → ¬ List·Memᴰ y (s .found) → length (s .found) < room → Kept room R a (add b s y)
-  add-kept b s y h p q o n r =
+  add-proper : (b : ℕ) (s : State A) (y : A) → Proper room R a s → b ≤ 1 → Reach R a y → s .overflow ≡ false
+      → ¬ List·Memᴰ y (s .found) → length (s .found) < room → Proper room R a (add b s y)
+  add-proper b s y h p q o n r =
       let f = length-snoc (s .found) y in
       record {
         once = once-snoc (s .found) y (h .once) n;
@@ -75,9 +76,9 @@ module _ {A : Type 0} (room : ℕ) (R : A → A → Type 0) (a : A) where
       last : (x : A) → List·Memᴰ x (y ∷ []) → Reach R a x
       last x m = rw (List·Memᴰ·eq-of-singleton m) q
 
-  overfull-kept : (s : State A) (y : A) → Kept room R a s → Reach R a y → ¬ List·Memᴰ y (s .found)
-      → room ≤ length (s .found) → Kept room R a (overfull s)
-  overfull-kept s y h q n r = record {
+  overfull-proper : (s : State A) (y : A) → Proper room R a s → Reach R a y → ¬ List·Memᴰ y (s .found)
+      → room ≤ length (s .found) → Proper room R a (overfull s)
+  overfull-proper s y h q n r = record {
     once = h .once;
     fits = h .fits;
     reached = h .reached;
@@ -89,7 +90,7 @@ module _ {A : Type 0} (room : ℕ) (R : A → A → Type 0) (a : A) where
 
 -- the neighbours of the kth are reachable
 neighbours-reached : {A : Type 0} (room : ℕ) (nbrs : A → List A) (a : A) (k : ℕ) (s : State A)
-    → k < length (s .found) → Kept room (Neighbour nbrs) a s → (y : A) → Neighbour nbrs (getD (s .found) k a) y
+    → k < length (s .found) → Proper room (Neighbour nbrs) a s → (y : A) → Neighbour nbrs (getD (s .found) k a) y
     → Reach (Neighbour nbrs) a y
 neighbours-reached room nbrs a k s i h y n = next (h .reached (getD (s .found) k a) (in-at (s .found) a k i)) n
 
@@ -99,33 +100,33 @@ module _ {A : Type 0} (same : A → A → Bool) (decides : Decides same) (room :
   not-in l y h m = omega (arith, index-in same decides l y m)
 
   module _ (R : A → A → Type 0) (a : A) (b : ℕ) (p : b ≤ 1) where
-    meet-kept : (s : State A) (y : A) → Reach R a y → Kept room R a s → Kept room R a (meet same room b s y)
-    meet-kept s y q h =
-        meet-cases same room b s y (Kept room R a) (λ o. h)
-        (λ o i. again-kept room R a b s (indexIn same (s .found) y) h)
-        (λ o i r. add-kept room R a b s y h p q o (not-in (s .found) y i) r)
-        (λ o i r. overfull-kept room R a s y h q (not-in (s .found) y i) r)
+    meet-proper : (s : State A) (y : A) → Reach R a y → Proper room R a s → Proper room R a (meet same room b s y)
+    meet-proper s y q h =
+        meet-cases same room b s y (Proper room R a) (λ o. h)
+        (λ o i. again-proper room R a b s (indexIn same (s .found) y) h)
+        (λ o i r. add-proper room R a b s y h p q o (not-in (s .found) y i) r)
+        (λ o i r. overfull-proper room R a s y h q (not-in (s .found) y i) r)
 
-    meets-kept : (s : State A) (l : List A) → ((y : A) → List·Memᴰ y l → Reach R a y) → Kept room R a s
-        → Kept room R a (meetAll same room b s l)
+    meets-proper : (s : State A) (l : List A) → ((y : A) → List·Memᴰ y l → Reach R a y) → Proper room R a s
+        → Proper room R a (meetAll same room b s l)
     unfolding meetAll
-    meets-kept s [] q h = h
-    meets-kept s (y ∷ l) q h =
-        meets-kept (meet same room b s y) l (λ z m. q z (List·Memᴰ·tail m))
-        (meet-kept s y (q y (List·Memᴰ·head refl)) h)
+    meets-proper s [] q h = h
+    meets-proper s (y ∷ l) q h =
+        meets-proper (meet same room b s y) l (λ z m. q z (List·Memᴰ·tail m))
+        (meet-proper s y (q y (List·Memᴰ·head refl)) h)
 
   module _ (nbrs : A → List A) (a : A) where
-    pub work-kept : (k : ℕ) (s : State A) → k < length (s .found) → Kept room (Neighbour nbrs) a s
-        → Kept room (Neighbour nbrs) a (work same room nbrs a k s)
+    pub work-proper : (k : ℕ) (s : State A) → k < length (s .found) → Proper room (Neighbour nbrs) a s
+        → Proper room (Neighbour nbrs) a (work same room nbrs a k s)
     unfolding work
-    work-kept k s i h =
-        meets-kept (Neighbour nbrs) a _ (omega arith) s _ (neighbours-reached room nbrs a k s i h) h
+    work-proper k s i h =
+        meets-proper (Neighbour nbrs) a _ (omega arith) s _ (neighbours-reached room nbrs a k s i h) h
 
-    pub start-kept : Kept room (Neighbour nbrs) a (meet same room 0 nothing a)
-    start-kept = meet-kept (Neighbour nbrs) a 0 (omega arith) nothing a start (nothing-kept room (Neighbour nbrs) a)
+    pub start-proper : Proper room (Neighbour nbrs) a (meet same room 0 unbegun a)
+    start-proper = meet-proper (Neighbour nbrs) a 0 (omega arith) unbegun a start (unbegun-proper room (Neighbour nbrs) a)
 
-    pub search-kept : Kept room (Neighbour nbrs) a (search same room nbrs a)
+    pub search-proper : Proper room (Neighbour nbrs) a (search same room nbrs a)
     unfolding search
-    search-kept =
-        run-ends same room nbrs a (λ k. Kept room (Neighbour nbrs) a) (λ k s o i h. work-kept k s i h) 0
-        (meet same room 0 nothing a) (start-kept .fits) start-kept .1
+    search-proper =
+        run-ends same room nbrs a (λ k. Proper room (Neighbour nbrs) a) (λ k s o i h. work-proper k s i h) 0
+        (meet same room 0 unbegun a) (start-proper .fits) start-proper .1

@@ -1,4 +1,4 @@
--- Chains of rows with one hash: the last such row before a number, and a walk from row to row that misses none.
+-- Chains of rows with one hash: the last such row before a number, and a way from row to row that misses none.
 -- Assumes nothing.
 use mathlib.Core.Path.{_≡_, refl, ap}
 use mathlib.Core.Bool.{Bool, false}
@@ -9,9 +9,9 @@ use native.Mathlib.Decide.{ℕ-discrete, decLe, decLt}
 use native.Mathlib.Numerals.{add-one}
 use native.Mathlib.Omega.{arith}
 use borrow.Author.Tests.{eq-eqb, ne-eqb}
 use Rattle.search_theory.specs.Search.{Decides}
-use Rattle.search_theory.specs.Chain.{latest, Latest, Walk}
+use Rattle.search_store.specs.Chain.{latest, Latest, WayBack}
 use Rattle.search_theory.proofs.Lookup.{differs}
 
 module _ {A : Type 0} (hash : A → ℕ) (row : ℕ → A) (h : ℕ) where
   -- one row more, with the hash and with another
@@ -56,21 +56,21 @@ latest-alike hash row other h zero e = refl
 latest-alike hash row other h (suc n) e =
     rw (e n (omega arith), latest-alike hash row other h n (λ k m. e k (omega arith)))
 
--- ---- a walk back along the rows with the hash of y
+-- ---- the way back along the rows with the hash of y
 
 module _ {A : Type 0} (same : A → A → Bool) (decides : Decides same) (hash : A → ℕ) (row : ℕ → A) (n : ℕ) (y : A) where
   -- a row with another hash is another row
   unlike : (k : ℕ) → hash (row k) ≢ hash y → same (row k) y ≡ false
   unlike k d = differs same decides (row k) y (λ e. d (ap hash e))
 
-  pub walk-start : Walk same hash row n y (latest hash row (hash y) n)
-  walk-start =
+  pub back-start : WayBack same hash row n y (latest hash row (hash y) n)
+  back-start =
       let l = latest-exact hash row (hash y) n in
       record { has = l .has; none = λ k g m. unlike k (l .none k g m) }
 
-  pub walk-next : (p : ℕ) → Walk same hash row n y p → 0 < p → same (row (p - 1)) y ≡ false
-      → Walk same hash row n y (latest hash row (hash (row (p - 1))) (p - 1))
-  walk-next p w z e = rw (w .has z) (record { has = l .has; none = λ k g m. go k g m (decLe p k) (decLt k (p - 1)) })
+  pub back-next : (p : ℕ) → WayBack same hash row n y p → 0 < p → same (row (p - 1)) y ≡ false
+      → WayBack same hash row n y (latest hash row (hash (row (p - 1))) (p - 1))
+  back-next p w z e = rw (w .has z) (record { has = l .has; none = λ k g m. go k g m (decLe p k) (decLt k (p - 1)) })
     where
       l : Latest hash row (hash y) (p - 1) (latest hash row (hash y) (p - 1))
       l = latest-exact hash row (hash y) (p - 1)
