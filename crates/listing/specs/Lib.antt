@@ -6,3 +6,4 @@ pub mod Counts
 pub mod Layers
 pub mod Written
 pub mod Cells
+pub mod Output

@@ -4,12 +4,14 @@
 -- has         whether it does, by looking
 -- Ascending   a list strictly ascends
 -- occurs      how often a number stands in a list
+-- over        numbers written over the beginning of others: the rest stays
 use mathlib.Core.Path.{_≡_}
 use mathlib.Core.Logic.{_⊎_}
 use mathlib.Core.Bool.{Bool, true, false, cond}
-use mathlib.Core.List.{List, [], _∷_}
+use mathlib.Core.List.{List, [], _∷_, _++_}
 use Prim.Native.Nat.{ℕ, suc, _<_}
 use lib.Dec.{eqb}
+use lib.ListN.{length, drop}
 
 unfoldable pub In : ℕ → List ℕ → Type 0
 In a [] = ⊥
@@ -26,3 +28,6 @@ Ascending (x ∷ l) = ((y : ℕ) → In y l → x < y) × Ascending l
 unfoldable pub occurs : ℕ → List ℕ → ℕ
 occurs a [] = 0
 occurs a (x ∷ l) = cond (eqb x a) (suc (occurs a l)) (occurs a l)
+
+abbrev pub over : List ℕ → List ℕ → List ℕ
+over new old = new ++ drop (length new) old

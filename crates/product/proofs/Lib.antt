@@ -2,3 +2,4 @@ pub mod Tests
 pub mod Made
 pub mod Chain
 pub mod Answered
+pub mod Exchange

@@ -6,9 +6,11 @@ use mathlib.Core.List.{List, _++_}
 use Prim.Native.Nat.{ℕ, zero, suc, _+_, _-_, _*_, _/_, _%_, _≤_, _<_}
 use native.Mathlib.Decide.{decLt}
 use native.Mathlib.Omega.{arith}
-use lib.ListN.{length, getD, take, drop, length-append, length-take, length-drop, List·getD-append}
+use lib.ListN.{length, getD, take, drop, length-take, length-drop, List·getD-append}
 use lib.Seq.{ext-getD, getD-take, getD-drop, getD-append-add}
+use Rattle.order.specs.Lists.{over}
 use Rattle.order.specs.Sums.{sum}
+use Rattle.order.proofs.Over.{over-is}
 use Rattle.order.proofs.Sums.{sum-lt, part-same, place-ok}
 use Rattle.listing.specs.Listing.{limits, before, start, entries, Ends}
 use Rattle.listing.specs.Written.{joined, table, lengths}
@@ -16,28 +18,12 @@ use Rattle.listing.proofs.Written.{joined-length, joined-split, table-length, t
 use Rattle.product_places.specs.Laid.{Holds}
 use Rattle.product_writing.specs.Filling.{starts, Row}
 use Rattle.listing_sups.specs.Sups.{gathered, Fillable, Filled}
-use Rattle.product_building.specs.Built.{over, Derives}
+use Rattle.product_building.specs.Built.{Derives}
 use Rattle.product_places.proofs.Numbers.{before-lt}
 use Rattle.product_writing.proofs.Rows.{starts-next, starts-le, starts-room}
 use Rattle.listing_sups.proofs.SupsFilled.{gather-same}
 
 -- ---- one list over another
-
-over-is : (new old d : List ℕ) → length d ≡ length old → length new ≤ length old
-    → ((p : ℕ) → p < length new → getD d p 0 ≡ getD new p 0)
-    → ((p : ℕ) → length new ≤ p → getD d p 0 ≡ getD old p 0) → d ≡ over new old
-over-is new old d e h first rest =
-    ext-getD 0 d (over new old)
-    (omega (arith, length-append new (drop (length new) old), length-drop (length new) old))
-    (λ p l. go p (decLt p (length new)))
-  where
-    go : (p : ℕ) → Dec (p < length new) → getD d p 0 ≡ getD (over new old) p 0
-    go p (yes a) = first p a ∙ sym (List·getD-append new (drop (length new) old) 0 p a)
-    go p (no a) =
-        let q : length new + (p - length new) ≡ p = omega arith in
-        rest p (omega arith)
-        ∙ sym (rw q at (getD-append-add new (drop (length new) old) (p - length new) 0
-        ∙ getD-drop (length new) old (p - length new) 0))
 
 pub holds-over : (new old d : List ℕ) → length new ≤ length old → Holds 0 new old d → d ≡ over new old
 holds-over new old d h l =

@@ -12,10 +12,13 @@ use lib.ListN.{length}
 use Rattle.order.specs.Lists.{In, occurs}
 use Rattle.order.proofs.Lists.{occurs-append}
 use Rattle.listing.specs.declared.Answer.{Answer}
+use Rattle.listing.specs.declared.Built.{Built}
 use Rattle.listing.specs.Answers.{plain, on, _orElse_}
 use Rattle.listing.specs.Listing.{Listing, Limits, limits, rank, count}
 use Rattle.listing.specs.Shape.{elements, shapeTest}
+use Rattle.listing.specs.Output.{roomTest}
 use Rattle.listing.proofs.Answers.{or-fine, or-stop, no-of}
+use Rattle.listing.proofs.Output.{made-answer}
 use Rattle.valid_incidence.specs.Incidence.{Incident, incidencesTest}
 use Rattle.valid_diamond.specs.Dyadic.{walk, Between, Distinct}
 use Rattle.valid_diamond.proofs.Counting.{occurs-cons, occurs-own}
@@ -27,9 +30,7 @@ use Rattle.valid.specs.Tests as tests
 use Rattle.valid.proofs.AscentExact.{ascent-exact, ascends-distinct}
 use Rattle.product_closure.specs.Result.{combCase, resultOf}
 use Rattle.product_sizes.specs.Sizing.{sizeTest}
-use Rattle.product.specs.declared.Built.{Built}
-use Rattle.product.specs.Outcome.{productTest, Outcome}
-use Rattle.product.proofs.Answered.{answers}
+use Rattle.product.specs.Outcome.{factorsTest, restTest, productTest, Outcome}
 use Rattle.flag_change.specs.Flags.{flagTest, startTest}
 use Rattle.flag.specs.Changed.{changeTest, changedOf}
 use Rattle.search_masks.specs.Masks.{maskFits}
@@ -227,7 +228,7 @@ plain-or x y p q = go (zero-or (x .no))
     go (inr s) = rw (or-stop x y s) p
 
 size-plain : (m : Limits) (R : Listing) (c e i : ℕ) → Plain (sizeTest m R c e i)
-unfolding sizeTest
+unfolding sizeTest roomTest
 size-plain m R c e i =
     plain-or _ _ (plain-on (ltb (m .ranks) (length (R .counts))) 33)
     (plain-or _ _ (plain-on (ltb (m .elements) (elements R)) 34)
@@ -235,17 +236,18 @@ size-plain m R c e i =
     (plain-on (ltb c (length (R .counts)) || (ltb e (length (R .ends)) || ltb i (length (R .inc)))) 36)))
 
 product-plain : (m : Limits) (min max : Bool) (A B : Listing) (c e i : ℕ) → Plain (productTest m min max A B c e i)
-unfolding productTest
+unfolding productTest factorsTest restTest
 product-plain m min max A B c e i =
-    plain-or _ _ (plain-on (not (eqb (tests.isValid m A .no) 0)) 30)
-    (plain-or _ _ (plain-on (not (eqb (tests.isValid m B .no) 0)) 31)
-    (plain-or _ _ (plain-on (combCase min max A B) 32) (size-plain m (resultOf min max A B) c e i)))
+    plain-or _ _
+    (plain-or _ _ (plain-on (not (eqb (tests.isValid m A .no) 0)) 30)
+    (plain-on (not (eqb (tests.isValid m B .no) 0)) 31))
+    (plain-or _ _ (plain-on (combCase min max A B) 32) (size-plain m (resultOf min max A B) c e i))
 
-outcome-plain : (min max : Bool) {A B : Listing} {c e i c′ e′ i′ : List ℕ} {r : Built}
-    → Outcome limits min max A B c e i c′ e′ i′ r → Plain (r .answer)
-outcome-plain min max {A} {B} {c} {e} {i} {c′} {e′} {i′} {r} o =
-    rw (answers min max A B c e i c′ e′ i′ r o)
-    (product-plain limits min max A B (length c) (length e) (length i))
+outcome-plain : (min max : Bool) {A B old new : Listing} {r : Built} → Outcome limits min max A B old new r
+    → Plain (r .answer)
+outcome-plain min max {A} {B} {old} o =
+    rw (made-answer (o .made))
+    (product-plain limits min max A B (length (old .counts)) (length (old .ends)) (length (old .inc)))
 
 -- Whatever the contracts admit, a refusal is true of what it names.
 pub refusals-named : RefusalsNamed

@@ -3,14 +3,14 @@
 -- from the contract in the source, so it cannot drift from it. The event cursor, whose contract has no such reading,
 -- is at the end, over the definition that its contract cites.
 -- Assumes nothing.
-use mathlib.Core.Path.{_≡_, sym, ap, _∙_}
+use mathlib.Core.Path.{_≡_, sym, _∙_}
 use mathlib.Core.Bool.{Bool, true, false}
 use mathlib.Core.List.{List}
 use Prim.Native.Nat.{ℕ}
-use Rattle.listing.specs.Listing.{Listing, listing, limits}
-use Rattle.product.specs.declared.Built.{Built}
-use Rattle.product_closure.specs.Result.{resultOf}
-use Rattle.product.specs.Outcome.{after, Outcome}
+use Rattle.listing.specs.declared.Built.{Built}
+use Rattle.listing.specs.Listing.{Listing, limits}
+use Rattle.listing.proofs.Output.{made-once}
+use Rattle.product.specs.Outcome.{Outcome}
 use Rattle.flag.specs.declared.Event.{Event}
 use Rattle.flag.specs.declared.Said.{Said}
 use Rattle.flag.specs.Events.{Stepped, SaidStep}
@@ -70,18 +70,9 @@ same-search : {B : Type 0} {b c d : B} {s t u v m n : List ℕ} → b ≡ d → 
 same-search p s t q u v = (alike p q, λ i. (alike s u i, alike t v i))
 
 -- an answer and three output slices
-module _ (min max : Bool) {A B : Listing} {counts ends inc c e i d f j : List ℕ} {r s : Built} where
-  same-outcome : Outcome limits min max A B counts ends inc c e i r → Outcome limits min max A B counts ends inc d f j s
-      → (r ≡ s) × (listing c e i ≡ listing d f j)
-  same-outcome p q =
-      let R = resultOf min max A B in
-      let same = alike (p .answer) (q .answer) in
-      let left : (new old : List ℕ) → after (r .answer) new old ≡ after (s .answer) new old =
-      λ new old. ap (λ (t : Built). after (t .answer) new old) same in
-      let cs = p .counts-after ∙ left (R .counts) counts ∙ sym (q .counts-after) in
-      let es = p .ends-after ∙ left (R .ends) ends ∙ sym (q .ends-after) in
-      let is = p .inc-after ∙ left (R .inc) inc ∙ sym (q .inc-after) in
-      (same, λ t. listing (cs t) (es t) (is t))
+same-outcome : (min max : Bool) {A B old new new′ : Listing} {r s : Built} → Outcome limits min max A B old new r
+    → Outcome limits min max A B old new′ s → (r ≡ s) × (new ≡ new′)
+same-outcome min max p q = made-once (p .made) (q .made)
 
 -- Listings: classes, counts, shape.
 

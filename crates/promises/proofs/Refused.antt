@@ -29,7 +29,8 @@ use Rattle.valid.proofs.BoundsExact.{bounded-exact}
 use Rattle.valid.proofs.AscentExact.{ascent-exact, ascends-distinct}
 use Rattle.product_closure.specs.Result.{combCase, resultOf}
 use Rattle.product_sizes.specs.Sizing.{sizeTest}
-use Rattle.product.specs.Outcome.{productTest}
+use Rattle.listing.specs.Output.{roomTest}
+use Rattle.product.specs.Outcome.{factorsTest, restTest, productTest}
 use Rattle.flag_change.specs.Flags.{flagTest, startTest, IsFlag}
 use Rattle.flag_change.proofs.FlagExact.{flag-exact}
 use Rattle.flag.specs.Changed.{changeTest}
@@ -194,10 +195,10 @@ module _ (m : Limits) (min max : Bool) (A B : Listing) (c e i : ℕ) where
       (λ h. rw (le-ltb _ _ (h .0), le-ltb _ _ (h .1), le-ltb _ _ (h .2)))
 
   pub product-broken : FirstBroken (productRules m min max A B c e i) (productTest m min max A B c e i .no)
-  unfolding productTest sizeTest
+  unfolding productTest factorsTest restTest sizeTest roomTest
   product-broken =
       let R = resultOf min max A B in
-      broken-step _ (tests-not (eqb (isValid m A .no) 0) 30 (omega arith) (eqb-true _ _) (eq-eqb _ _)) _ (λ vA.
+      broken-inner _ (tests-not (eqb (isValid m A .no) 0) 30 (omega arith) (eqb-true _ _) (eq-eqb _ _)) _ _ (λ vA.
       broken-step _ (tests-not (eqb (isValid m B .no) 0) 31 (omega arith) (eqb-true _ _) (eq-eqb _ _)) _ (λ vB.
       broken-step _ (tests-on (combCase min max A B) 32 (omega arith) (λ z. z) (λ z. z)) _ (λ k.
       broken-step _ (tests-over 33 (omega arith) (m .ranks) (length (R .counts))) _ (λ p.

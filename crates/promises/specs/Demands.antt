@@ -10,8 +10,8 @@
 -- Makes         a product, told by min and max, refuses and writes as Produces says
 -- Keeps         what it wrote, where it is answered, is as Kept says: closed where its factors are closed and high
 --               enough; made of the pairs, a pair directly under another exactly if one member is equal and the other
---               directly under; with the ends added
--- Swaps         two calls of it that are answered are as Exchange says
+--               directly under; with the ends added; its lists in their order
+-- Swaps         two calls of it whose factors are exchanged are as Exchange says
 -- DemandOne     any slices are answered: which refusal comes exactly when, and what is written
 -- DemandTwo     the tests accept exactly what the book asks; what counts, changes, searches and events answer
 -- DemandThree   what the four products keep, said of the slices that were written, up to the lengths answered
@@ -23,16 +23,17 @@ use Prim.Native.Nat.{ℕ, _+_, _-_, _≤_}
 use lib.ListN.{length, getD, replicate}
 use denote.Ref.{now}
 use Rattle.listing.specs.declared.Answer.{Answer}
+use Rattle.listing.specs.declared.Built.{Built}
 use Rattle.listing.specs.declared.Number.{Number}
 use Rattle.listing.specs.Refusals.{bandNo}
 use Rattle.listing.specs.Listing.{Listing, Limits, limits, rank}
 use Rattle.listing.specs.Shape.{Shaped}
+use Rattle.listing.specs.Output.{prefix}
 use Rattle.valid_incidence.specs.Incidence.{Incident}
 use Rattle.valid_diamond.specs.Dyadic.{Diamond, DiamondAt, Distinct}
 use Rattle.valid.specs.Bounds.{Bounded}
 use Rattle.valid.specs.Ascent.{Ascends}
 use Rattle.valid.specs.Closed.{Closed}
-use Rattle.product.specs.declared.Built.{Built}
 use Rattle.flag_change.specs.Change.{Changes, changeAt, padded}
 use Rattle.flag.specs.declared.Event.{Event}
 use Rattle.flag.specs.declared.Event.the-variants.{Nothing}
@@ -67,7 +68,7 @@ use Rattle.promises.specs.Taking.{TakesAny}
 use Rattle.promises.specs.Cases.{ClassOf, SignAt, ByteFor, Calls}
 use Rattle.promises.specs.Rules.{Rule, FirstBroken, countRules, shapeRules, boundedRules, incidentRules}
 use Rattle.promises.specs.Rules.{dyadicRules, validRules, closedRules, changeRules}
-use Rattle.promises.specs.Products.{prefix, Produces, Kept, Exchange}
+use Rattle.promises.specs.Products.{Produces, Kept, Exchange}
 use Rattle.promises.specs.Searches.{Searches, Found}
 use Rattle.promises.specs.Named.{RefusalsNamed}
 
@@ -90,8 +91,8 @@ module _ {K A X : Type 0} (min max : Bool)
   Keeps = Says P (λ a r x. r .answer .no ≡ 0 → Kept min max (lent a) (right a) (prefix (outputs x) r))
 
   abbrev pub Swaps : Type 0
-  Swaps = SaysOfTwo P P (λ a r x c s y. r .answer .no ≡ 0 → s .answer .no ≡ 0
-      → Exchange min max (lent a) (right a) (lent c) (right c) (prefix (outputs x) r) (prefix (outputs y) s))
+  Swaps = SaysOfTwo P P (λ a r x c s y. lent c ≡ right a → right c ≡ lent a
+      → Exchange min max (lent a) (right a) (outputs a) (outputs c) (prefix (outputs x) r) (prefix (outputs y) s) r s)
 
 pub record DemandOne : Type 0 where
   -- every public function takes any slices and numbers (of next_event and fd_next_event it stands in Cursor.antt)
@@ -206,7 +207,7 @@ pub record DemandThree : Type 0 where
   pub duotegum-keeps : Keeps false true duotegum.Post
   -- so is the duocomb, of ranks from 2 that together make at least 5, with both of them
   pub duocomb-keeps : Keeps true true duocomb.Post
-  -- exchanging the factors of a duopyramid only swaps the pairs
+  -- exchanging the factors of a duopyramid only swaps the pairs; with as much room it is answered too
   pub duopyramid-swaps : Swaps false false duopyramid.Post
   -- so with the duoprism
   pub duoprism-swaps : Swaps true false duoprism.Post
