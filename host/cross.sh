@@ -40,23 +40,27 @@ limited() { (ulimit -v 4000000 && "$@"); }
 
 command=${1:-help}
 [ $# -eq 0 ] || shift
-cd "$here"
+# What is named by the user is named from where the user is.
 case $command in
-test) cargo test --release --features linked "$@" ;;
+oracle) exec "$here/oracle/build.sh" "$@" ;;
+run) exec $FLUMEDRAC_RUN "$@" ;;
+test | examples | compare | bench) cd "$here" ;;
+*)
+    sed -n '2,/^set/s/^# \{0,1\}//p' "$here/cross.sh"
+    exit 2
+    ;;
+esac
+
+case $command in
+test) cargo test --release "$@" ;;
 examples)
-    cargo run --release --features linked --example prism
-    "$CC" -std=c99 -Wall -Wextra -pedantic -Werror -I../include examples/cell.c \
+    cargo run --release --example prism
+    "$CC" -std=c99 -Wall -Wextra -pedantic -Werror -I../include flumedrac/examples/cell.c \
         "${FLUMEDRAC_LIB:-../target/staticlib}/libflumedrac.a" -o target/$target/cell
     $FLUMEDRAC_RUN target/$target/cell
     ;;
-oracle) oracle/build.sh "$@" ;;
 compare | bench)
-    cargo build --release --features linked --bin "$command"
+    cargo build --release --bin "$command"
     limited $FLUMEDRAC_RUN target/$target/release/"$command" "$@"
-    ;;
-run) $FLUMEDRAC_RUN "$@" ;;
-*)
-    sed -n '2,/^set/s/^# \{0,1\}//p' "$0"
-    exit 2
     ;;
 esac

@@ -1,8 +1,9 @@
 /*
  * Flumedrac: tests of cells, the four products, flag changes and the oriented flag search.
  *
- * Every function below is proved, for every input, to end, to stay inside the slices it is lent, and to answer and
- * write exactly what is said here.
+ * What is proved, for every input, are the contracts of the functions in crates/flumedrac: that they end, stay inside
+ * the slices they are lent, and answer and write what the contracts say. This header says the same in words for C and
+ * C++. That its words, numbers and layouts agree with the functions is held by tests, not by proof.
  *
  * A LISTING is three lent slices of 16-bit numbers.
  *   counts  How many elements each rank has, from rank 0 upward. A listing of rank n has n + 1 counts: the nullitope
@@ -10,11 +11,30 @@
  *   ends    Two numbers for each element, rank by rank and in a rank by index: where in inc its subs stop, and where
  *           its sups stop. A list starts where the list before it stops, the first at 0.
  *   inc     The numbers listed: of each element the indices of its subs, one rank lower, then of its sups, one higher.
- * The triangle, for one: counts 1 3 3 1; its first edge has the vertices 0 and 1 as subs and the top, 0, as its sup.
  *
- * A SLICE is a pointer and the count of numbers it points to. It may be empty but its pointer may not be null. Slices
- * that are lent to be written (without const) overlap no other slice of the call; slices that are only read may be the
- * same. The caller sees to this: it cannot be tested here.
+ * THE TRIANGLE, worked out: one minimal element, three vertices, three edges, the whole.
+ *
+ *   counts: 1 3 3 1
+ *   ends:   0 3  4 6  7 9  10 12  14 15  17 18  20 21  24 24
+ *   inc:    0 1 2  0 0 1  0 0 2  0 1 2  0 1 0  0 2 0  1 2 0  0 1 2
+ *
+ *   rank | index | what it is              | subs, where in inc | sups, where in inc
+ *   0    | 0     | the minimal element     | none, 0 to 0       | 0 1 2, 0 to 3
+ *   1    | 0     | vertex 0                | 0, 3 to 4          | 0 1, 4 to 6
+ *   1    | 1     | vertex 1                | 0, 6 to 7          | 0 2, 7 to 9
+ *   1    | 2     | vertex 2                | 0, 9 to 10         | 1 2, 10 to 12
+ *   2    | 0     | edge from vertex 0 to 1 | 0 1, 12 to 14      | 0, 14 to 15
+ *   2    | 1     | edge from vertex 0 to 2 | 0 2, 15 to 17      | 0, 17 to 18
+ *   2    | 2     | edge from vertex 1 to 2 | 1 2, 18 to 20      | 0, 20 to 21
+ *   3    | 0     | the whole               | 0 1 2, 21 to 24    | none, 24 to 24
+ *
+ * "3 to 4" is the stretch from inc[3] up to, and without, inc[4]. The second number of each stretch stands in ends; the
+ * first is the one before it there.
+ *
+ * A SLICE is a pointer and the count of numbers it points to. Of an empty slice, one of length 0, the pointer is not
+ * looked at and may be null: the end of this header sees to that. Slices that are lent to be written (without const)
+ * overlap no other slice of the call; slices that are only read may be the same. The caller sees to this: it cannot be
+ * tested here.
  *
  * WRITING: on success the prefix of each slice that the returned lengths name is written and nothing else. A refusal
  * writes nothing at all, with one exception, FD_MORE_FLAGS: see fd_search.
@@ -35,6 +55,12 @@
 #ifdef __cplusplus
 extern "C" {
 #endif
+
+/* The release that this header belongs to. */
+#define FD_VERSION_MAJOR 0
+#define FD_VERSION_MINOR 1
+#define FD_VERSION_PATCH 0
+#define FD_VERSION "0.1.0"
 
 /* The limits. */
 #define FD_MAX_RANKS 16         /* numbers in counts: ranks 0 to 15 */
@@ -113,7 +139,7 @@ typedef struct {
 /* The new flag, one index for each rank, then 0s; all 0 on a refusal. */
 typedef struct {
     fd_answer answer;
-    uint16_t flag[16];
+    uint16_t flag[FD_MAX_RANKS];
 } fd_changed;
 
 /*
@@ -143,6 +169,17 @@ typedef struct {
 } fd_event;
 
 /*
+ * Parameters that come together, for the declarations below. FD_LISTING(p_) is a listing lent to be read: p_counts,
+ * p_counts_len, p_ends, p_ends_len, p_inc, p_inc_len. FD_OUTPUT is the three slices that a product is written to:
+ * counts, counts_len, ends, ends_len, inc, inc_len.
+ */
+#define FD_LISTING(p)                                                                                                  \
+    const uint16_t *p##counts, size_t p##counts_len, const uint16_t *p##ends, size_t p##ends_len,                      \
+        const uint16_t *p##inc, size_t p##inc_len
+#define FD_OUTPUT                                                                                                      \
+    uint16_t *counts, size_t counts_len, uint16_t *ends, size_t ends_len, uint16_t *inc, size_t inc_len
+
+/*
  * The four counts look at the counts slice alone, of any length, and refuse only an empty one (FD_NO_RANKS).
  * fd_rank: one less than the length. fd_el_count: the elements of a rank, 0 for a rank that is not there.
  * fd_vertex_count: those of rank 1. fd_facet_count: those of one rank less than the rank; 0 for the nullitope.
@@ -168,24 +205,18 @@ uint16_t fd_class(uint16_t no);
  * fd_closed            fd_bounded, fd_check_incidences, every list strictly ascends (19; by rank, index, subs before
  *                      sups), then the diamond up to the top: ranks 2 to rank. This is what is_valid does not ask.
  */
-fd_answer fd_bounded(const uint16_t *counts, size_t counts_len, const uint16_t *ends, size_t ends_len,
-                     const uint16_t *inc, size_t inc_len);
-fd_answer fd_check_incidences(const uint16_t *counts, size_t counts_len, const uint16_t *ends, size_t ends_len,
-                              const uint16_t *inc, size_t inc_len);
-fd_answer fd_is_dyadic(const uint16_t *counts, size_t counts_len, const uint16_t *ends, size_t ends_len,
-                       const uint16_t *inc, size_t inc_len);
-fd_answer fd_is_valid(const uint16_t *counts, size_t counts_len, const uint16_t *ends, size_t ends_len,
-                      const uint16_t *inc, size_t inc_len);
-fd_answer fd_closed(const uint16_t *counts, size_t counts_len, const uint16_t *ends, size_t ends_len,
-                    const uint16_t *inc, size_t inc_len);
+fd_answer fd_bounded(FD_LISTING());
+fd_answer fd_check_incidences(FD_LISTING());
+fd_answer fd_is_dyadic(FD_LISTING());
+fd_answer fd_is_valid(FD_LISTING());
+fd_answer fd_closed(FD_LISTING());
 
 /*
  * The flag with another element at rank r: of the two elements between flag[r - 1] and flag[r + 1] the other one.
  * A flag has one number for each rank: the index of an element that is there and is listed as a sub by the next.
  * Refusals: fd_closed's, then FD_NOT_A_FLAG, then FD_OUTSIDE_RANKS.
  */
-fd_changed fd_change(const uint16_t *counts, size_t counts_len, const uint16_t *ends, size_t ends_len,
-                     const uint16_t *inc, size_t inc_len, const uint16_t *flag, size_t flag_len, uint16_t r);
+fd_changed fd_change(FD_LISTING(), const uint16_t *flag, size_t flag_len, uint16_t r);
 
 /*
  * All flags that the changes in mask reach from the first flag: bit r of mask asks for the change at rank r.
@@ -199,9 +230,8 @@ fd_changed fd_change(const uint16_t *counts, size_t counts_len, const uint16_t *
  * those of fd_closed, then FD_NOT_A_FLAG, FD_OUTSIDE_RANKS, and FD_MORE_FLAGS exactly if more flags can be reached than
  * there is room for. It alone leaves something behind: the flags found until there was no more room.
  */
-fd_searched fd_search(const uint16_t *counts, size_t counts_len, const uint16_t *ends, size_t ends_len,
-                      const uint16_t *inc, size_t inc_len, const uint16_t *first, size_t first_len, uint16_t mask,
-                      uint16_t *table, size_t table_len, uint8_t *orientations, size_t orientations_len);
+fd_searched fd_search(FD_LISTING(), const uint16_t *first, size_t first_len, uint16_t mask, uint16_t *table,
+                      size_t table_len, uint8_t *orientations, size_t orientations_len);
 
 /* The sign of an orientation byte: 1.0 for FD_EVEN, -1.0 for any other byte. */
 double fd_sign(uint8_t orientation);
@@ -231,29 +261,161 @@ fd_event fd_next_event(fd_cursor *cursor, uint16_t count, uint16_t place);
  * element. The added maximal element lists all facets. Sups follow from these subs: each element lists those that
  * list it, in order, each as often as it does.
  */
-fd_built fd_duopyramid(const uint16_t *p_counts, size_t p_counts_len, const uint16_t *p_ends, size_t p_ends_len,
-                       const uint16_t *p_inc, size_t p_inc_len, const uint16_t *q_counts, size_t q_counts_len,
-                       const uint16_t *q_ends, size_t q_ends_len, const uint16_t *q_inc, size_t q_inc_len,
-                       uint16_t *counts, size_t counts_len, uint16_t *ends, size_t ends_len, uint16_t *inc,
-                       size_t inc_len);
-fd_built fd_duoprism(const uint16_t *p_counts, size_t p_counts_len, const uint16_t *p_ends, size_t p_ends_len,
-                     const uint16_t *p_inc, size_t p_inc_len, const uint16_t *q_counts, size_t q_counts_len,
-                     const uint16_t *q_ends, size_t q_ends_len, const uint16_t *q_inc, size_t q_inc_len,
-                     uint16_t *counts, size_t counts_len, uint16_t *ends, size_t ends_len, uint16_t *inc,
-                     size_t inc_len);
-fd_built fd_duotegum(const uint16_t *p_counts, size_t p_counts_len, const uint16_t *p_ends, size_t p_ends_len,
-                     const uint16_t *p_inc, size_t p_inc_len, const uint16_t *q_counts, size_t q_counts_len,
-                     const uint16_t *q_ends, size_t q_ends_len, const uint16_t *q_inc, size_t q_inc_len,
-                     uint16_t *counts, size_t counts_len, uint16_t *ends, size_t ends_len, uint16_t *inc,
-                     size_t inc_len);
-fd_built fd_duocomb(const uint16_t *p_counts, size_t p_counts_len, const uint16_t *p_ends, size_t p_ends_len,
-                    const uint16_t *p_inc, size_t p_inc_len, const uint16_t *q_counts, size_t q_counts_len,
-                    const uint16_t *q_ends, size_t q_ends_len, const uint16_t *q_inc, size_t q_inc_len,
-                    uint16_t *counts, size_t counts_len, uint16_t *ends, size_t ends_len, uint16_t *inc,
-                    size_t inc_len);
+fd_built fd_duopyramid(FD_LISTING(p_), FD_LISTING(q_), FD_OUTPUT);
+fd_built fd_duoprism(FD_LISTING(p_), FD_LISTING(q_), FD_OUTPUT);
+fd_built fd_duotegum(FD_LISTING(p_), FD_LISTING(q_), FD_OUTPUT);
+fd_built fd_duocomb(FD_LISTING(p_), FD_LISTING(q_), FD_OUTPUT);
 
 #ifdef __cplusplus
 }
 #endif
+
+/* Functions that live in this header. Compilers are not to complain where a program does not call one. */
+#if defined(__GNUC__)
+#define FD_INLINE static inline __attribute__((unused))
+#else
+#define FD_INLINE static inline
+#endif
+
+/* A number of an answer as a sentence; "unknown number" for one that is no refusal's. It is never null. */
+FD_INLINE const char *fd_refusal_text(uint16_t no)
+{
+    switch (no) {
+    case FD_ACCEPTED: return "nothing is refused";
+    case FD_NO_RANKS: return "there are no ranks";
+    case FD_OVER_RANKS: return "there are more than 16 ranks";
+    case FD_OVER_ELEMENTS: return "there are more than 4,096 elements";
+    case FD_WRONG_ENDS: return "there are not two ends for each element";
+    case FD_OVER_INCIDENCES: return "there are more than 32,768 incidences";
+    case FD_FALLING_ENDS: return "the ends fall, or the last one is not the number of incidences";
+    case FD_NOT_BOUNDED: return "there is not one minimal and one maximal element";
+    case FD_NO_SUBS: return "an element above rank 0 has no subs";
+    case FD_NO_SUPS: return "an element below the top rank has no sups";
+    case FD_SUB_NOT_BACK: return "an element lists a sub that does not list it back";
+    case FD_SUP_NOT_BACK: return "an element lists a sup that does not list it back";
+    case FD_SUB_MISSING: return "an element lists a sub that does not exist";
+    case FD_SUP_MISSING: return "an element lists a sup that does not exist";
+    case FD_THIRD_BETWEEN: return "more than two elements lie between two that are two ranks apart";
+    case FD_LONE_BETWEEN: return "only one element lies between two that are two ranks apart";
+    case FD_NOT_ASCENDING: return "the subs or the sups of an element do not strictly ascend";
+    case FD_NOT_A_FLAG: return "the numbers given are not a flag of the listing";
+    case FD_OUTSIDE_RANKS: return "a change lies outside the ranks 1 to one less than the rank";
+    case FD_MORE_FLAGS: return "more flags can be reached than there is room for";
+    case FD_LEFT_INVALID: return "the left factor is not valid";
+    case FD_RIGHT_INVALID: return "the right factor is not valid";
+    case FD_COMB_OF_POINT: return "there is no duocomb with a point";
+    case FD_PRODUCT_RANKS: return "the product has more than 16 ranks";
+    case FD_PRODUCT_ELEMENTS: return "the product has more than 4,096 elements";
+    case FD_PRODUCT_INCIDENCES: return "the product has more than 32,768 incidences";
+    case FD_OUTPUT_SHORT: return "a slice for the product is too short";
+    default: return "unknown number";
+    }
+}
+
+/*
+ * EMPTY SLICES. The archive's functions ask for pointers that are not null, also where the length is 0; but an empty
+ * vector of C++ has a null pointer. So a call by name goes through a function below, which passes all on as it is, only
+ * for a slice of length 0 the address of a number that is never looked at. A pointer to a function, a name in
+ * parentheses as in (fd_closed)(..), and other languages reach the archive's function itself.
+ */
+FD_INLINE const uint16_t *fd_lent_numbers(const uint16_t *numbers, size_t length)
+{
+    static const uint16_t none = 0;
+    return length == 0 ? &none : numbers;
+}
+
+FD_INLINE uint16_t *fd_lent_room(uint16_t *numbers, size_t length)
+{
+    static uint16_t none = 0;
+    return length == 0 ? &none : numbers;
+}
+
+FD_INLINE uint8_t *fd_lent_bytes(uint8_t *bytes, size_t length)
+{
+    static uint8_t none = 0;
+    return length == 0 ? &none : bytes;
+}
+
+/* The arguments for FD_LISTING(p) and FD_OUTPUT. */
+#define FD_LENT_LISTING(p)                                                                                             \
+    fd_lent_numbers(p##counts, p##counts_len), p##counts_len, fd_lent_numbers(p##ends, p##ends_len), p##ends_len,      \
+        fd_lent_numbers(p##inc, p##inc_len), p##inc_len
+#define FD_LENT_OUTPUT                                                                                                 \
+    fd_lent_room(counts, counts_len), counts_len, fd_lent_room(ends, ends_len), ends_len,                              \
+        fd_lent_room(inc, inc_len), inc_len
+
+/* The guarded functions that differ by name alone. */
+#define FD_GUARDED_COUNT(name)                                                                                         \
+    FD_INLINE fd_number name##_guarded(const uint16_t *counts, size_t counts_len)                                      \
+    {                                                                                                                  \
+        return name(fd_lent_numbers(counts, counts_len), counts_len);                                                  \
+    }
+#define FD_GUARDED_TEST(name)                                                                                          \
+    FD_INLINE fd_answer name##_guarded(FD_LISTING())                                                                   \
+    {                                                                                                                  \
+        return name(FD_LENT_LISTING());                                                                                \
+    }
+#define FD_GUARDED_PRODUCT(name)                                                                                       \
+    FD_INLINE fd_built name##_guarded(FD_LISTING(p_), FD_LISTING(q_), FD_OUTPUT)                                       \
+    {                                                                                                                  \
+        return name(FD_LENT_LISTING(p_), FD_LENT_LISTING(q_), FD_LENT_OUTPUT);                                         \
+    }
+
+FD_GUARDED_COUNT(fd_rank)
+FD_GUARDED_COUNT(fd_vertex_count)
+FD_GUARDED_COUNT(fd_facet_count)
+FD_GUARDED_TEST(fd_bounded)
+FD_GUARDED_TEST(fd_check_incidences)
+FD_GUARDED_TEST(fd_is_dyadic)
+FD_GUARDED_TEST(fd_is_valid)
+FD_GUARDED_TEST(fd_closed)
+FD_GUARDED_PRODUCT(fd_duopyramid)
+FD_GUARDED_PRODUCT(fd_duoprism)
+FD_GUARDED_PRODUCT(fd_duotegum)
+FD_GUARDED_PRODUCT(fd_duocomb)
+
+FD_INLINE fd_number fd_el_count_guarded(const uint16_t *counts, size_t counts_len, size_t rank)
+{
+    return fd_el_count(fd_lent_numbers(counts, counts_len), counts_len, rank);
+}
+
+FD_INLINE fd_changed fd_change_guarded(FD_LISTING(), const uint16_t *flag, size_t flag_len, uint16_t r)
+{
+    return fd_change(FD_LENT_LISTING(), fd_lent_numbers(flag, flag_len), flag_len, r);
+}
+
+FD_INLINE fd_searched fd_search_guarded(FD_LISTING(), const uint16_t *first, size_t first_len, uint16_t mask,
+                                        uint16_t *table, size_t table_len, uint8_t *orientations,
+                                        size_t orientations_len)
+{
+    return fd_search(FD_LENT_LISTING(), fd_lent_numbers(first, first_len), first_len, mask,
+                     fd_lent_room(table, table_len), table_len, fd_lent_bytes(orientations, orientations_len),
+                     orientations_len);
+}
+
+#define fd_rank(...) fd_rank_guarded(__VA_ARGS__)
+#define fd_el_count(...) fd_el_count_guarded(__VA_ARGS__)
+#define fd_vertex_count(...) fd_vertex_count_guarded(__VA_ARGS__)
+#define fd_facet_count(...) fd_facet_count_guarded(__VA_ARGS__)
+#define fd_bounded(...) fd_bounded_guarded(__VA_ARGS__)
+#define fd_check_incidences(...) fd_check_incidences_guarded(__VA_ARGS__)
+#define fd_is_dyadic(...) fd_is_dyadic_guarded(__VA_ARGS__)
+#define fd_is_valid(...) fd_is_valid_guarded(__VA_ARGS__)
+#define fd_closed(...) fd_closed_guarded(__VA_ARGS__)
+#define fd_change(...) fd_change_guarded(__VA_ARGS__)
+#define fd_search(...) fd_search_guarded(__VA_ARGS__)
+#define fd_duopyramid(...) fd_duopyramid_guarded(__VA_ARGS__)
+#define fd_duoprism(...) fd_duoprism_guarded(__VA_ARGS__)
+#define fd_duotegum(...) fd_duotegum_guarded(__VA_ARGS__)
+#define fd_duocomb(...) fd_duocomb_guarded(__VA_ARGS__)
+
+#undef FD_INLINE
+#undef FD_LISTING
+#undef FD_OUTPUT
+#undef FD_LENT_LISTING
+#undef FD_LENT_OUTPUT
+#undef FD_GUARDED_COUNT
+#undef FD_GUARDED_TEST
+#undef FD_GUARDED_PRODUCT
 
 #endif

@@ -1,7 +1,7 @@
 //! Answers questions of the form of the replay list by the unproved model: a line each, on standard input. Lines that
 //! are empty or begin with '#' come back as they are.
 
-use flumedrac::trial::{reply_to, Model};
+use flumedrac_trial::{reply_to, Model};
 
 fn main() {
     for line in std::io::stdin().lines() {

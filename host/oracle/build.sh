@@ -4,7 +4,7 @@
 #   host/oracle/build.sh [FOLDER]
 #
 # FOLDER holds the files: as miratope-core/src/.. in a copy of their repository, or flat, as
-# src--miratope-core--src--..txt. Without it $FLUMEDRAC_RUST is taken.
+# src--miratope-core--src--..txt. Without it $FLUMEDRAC_RUST is taken, or else shared/docs/src beside the project.
 #
 # RUSTC names another compiler, and CARGO_BUILD_TARGET another target, as they do for cargo.
 #
@@ -14,7 +14,7 @@
 set -eu
 
 here=$(cd "$(dirname "$0")" && pwd)
-from=${1:-${FLUMEDRAC_RUST:?says where the Rust files are}}
+from=${1:-${FLUMEDRAC_RUST:-$here/../../../shared/docs/src}}
 rustc=${RUSTC:-rustc}
 target=${CARGO_BUILD_TARGET:-}
 out=$here/../target/${target:+$target/}oracle
@@ -30,7 +30,7 @@ place() {
         fi
     done
     echo "The Rust files are not in $from ($1 is missing): there is nothing to compare with." >&2
-    echo "Everything else works without them." >&2
+    echo "Name the folder of a copy of their repository: host/oracle/build.sh FOLDER" >&2
     exit 2
 }
 

@@ -1,48 +1,40 @@
-//! Flumedrac from Rust: tests of cells, the four products, flag changes and the oriented flag search.
-//!
-//! The work is done by the archive `libflumedrac.a`, whose functions are proved; this package wraps them. A cell is a
-//! [`Listing`]. What is refused is a [`Refusal`], with the place where the fault was seen first.
-//!
-//! Where the archive was not found (see `build.rs`), only what needs no proof is here: listings and refusals, and the
-//! means of trying the library.
-#![cfg_attr(
-    linked,
-    doc = "
-```
-use flumedrac::{duoprism, Listing};
+//! The means of trying Flumedrac: what it is asked, an unproved model of it, and cells to ask about.
 
-// A prism is the duoprism of a dyad and a triangle.
-let prism = duoprism(&Listing::dyad(), &Listing::polygon(3)?)?;
-assert_eq!(prism.slices().counts, [1, 6, 9, 5, 1]);
-prism.closed()?;
+pub mod cells;
+pub mod guarded;
+pub mod library;
+pub mod model;
+pub mod question;
+pub mod random;
+pub mod start;
+pub mod text;
 
-// It has six flags for each vertex, and can be oriented.
-let first = prism.first_flag().expect(\"a closed cell has flags\");
-let search = prism.search(&first, prism.all_changes(), 1000)?;
-assert_eq!(search.len(), 36);
-assert!(search.is_orientable());
-# Ok::<(), flumedrac::Refusal>(())
-```"
-)]
+pub use guarded::Guarded;
+pub use library::{build, Archive, Kind, Library, Outputs, Test};
+pub use model::{Break, Model};
+pub use question::{reply_to, Question, Reply};
+pub use random::Random;
+pub use start::{limit_memory, misused};
 
-pub mod ffi;
-#[cfg(linked)]
-pub mod raw;
+use flumedrac::{Listing, Slices};
 
-#[cfg(linked)]
-mod cell;
-mod flags;
-mod listing;
-mod refusal;
+/// Three owned slices, whether or not they are a listing.
+#[derive(Clone, Debug, Default, PartialEq, Eq, Hash)]
+pub struct Raw {
+    pub counts: Vec<u16>,
+    pub ends: Vec<u16>,
+    pub inc: Vec<u16>,
+}
 
-/// The means of trying the library: no part of it.
-#[doc(hidden)]
-pub mod trial;
+impl Raw {
+    pub fn slices(&self) -> Slices<'_> {
+        Slices { counts: &self.counts, ends: &self.ends, inc: &self.inc }
+    }
+}
 
-#[cfg(linked)]
-pub use cell::{duocomb, duoprism, duopyramid, duotegum};
-pub use flags::{Event, Flag, Orientation};
-#[cfg(linked)]
-pub use flags::{Events, Search};
-pub use listing::{Listing, Slices, MAX_ELEMENTS, MAX_FLAGS, MAX_INCIDENCES, MAX_RANKS};
-pub use refusal::{Class, Refusal, Section, Side};
+impl From<Listing> for Raw {
+    fn from(listing: Listing) -> Self {
+        let (counts, ends, inc) = listing.into_slices();
+        Self { counts, ends, inc }
+    }
+}

@@ -1,13 +1,12 @@
-//! The listings whose answers were given with the request, asked of the model and, where it is linked, of the archive.
+//! The listings whose answers were given with the request, asked of the model and of the archive.
 
 use flumedrac::ffi::Answer;
-use flumedrac::trial::{cells, Kind, Library, Model, Raw, Test};
 use flumedrac::Listing;
+use flumedrac_trial::{build, cells, Archive, Kind, Library, Model, Raw, Test};
 
 fn each(check: impl Fn(&dyn Library)) {
     check(&Model::default());
-    #[cfg(linked)]
-    check(&flumedrac::trial::library::Archive);
+    check(&Archive);
 }
 
 fn raw(listing: Listing) -> Raw {
@@ -21,16 +20,6 @@ fn answer(no: u16, fields: [u16; 4]) -> Answer {
 
 fn triangle() -> Listing {
     cells::polygon(3)
-}
-
-/// A product with room for any.
-fn product(library: &dyn Library, kind: Kind, p: &Listing, q: &Listing) -> (Answer, Raw) {
-    let mut built = Raw { counts: vec![0; 16], ends: vec![0; 8192], inc: vec![0; 32768] };
-    let said = library.product(kind, p.slices(), q.slices(), &mut built.counts, &mut built.ends, &mut built.inc);
-    built.counts.truncate(said.counts.into());
-    built.ends.truncate(said.ends.into());
-    built.inc.truncate(said.inc.into());
-    (said.answer, built)
 }
 
 /// The subs of the elements of a rank.
@@ -79,22 +68,22 @@ fn refused_cells() {
 fn products() {
     let (nullitope, point, dyad) = (Listing::nullitope(), Listing::point(), Listing::dyad());
     each(|library| {
-        let (said, square) = product(library, Kind::Duoprism, &dyad, &dyad);
+        let (said, square) = build(library, Kind::Duoprism, &dyad, &dyad);
         assert_eq!(said, answer(0, [0; 4]));
         assert_eq!(square.counts, [1, 4, 4, 1]);
         assert_eq!(subs(&square, 2), [[0, 1], [2, 3], [0, 2], [1, 3]]);
-        assert_eq!(product(library, Kind::Duopyramid, &dyad, &point).1, raw(triangle()));
-        assert_eq!(product(library, Kind::Duoprism, &nullitope, &triangle()).1, raw(nullitope.clone()));
-        assert_eq!(product(library, Kind::Duotegum, &dyad, &dyad).1.counts, [1, 4, 4, 1]);
-        let (_, comb) = product(library, Kind::Duocomb, &dyad, &dyad);
+        assert_eq!(build(library, Kind::Duopyramid, &dyad, &point).1, raw(triangle()));
+        assert_eq!(build(library, Kind::Duoprism, &nullitope, &triangle()).1, raw(nullitope.clone()));
+        assert_eq!(build(library, Kind::Duotegum, &dyad, &dyad).1.counts, [1, 4, 4, 1]);
+        let (_, comb) = build(library, Kind::Duocomb, &dyad, &dyad);
         assert_eq!(comb.counts, [1, 4, 1]);
         assert_eq!(library.test(Test::IsValid, comb.slices()).no, 0);
         assert_eq!(library.test(Test::Closed, comb.slices()).no, 17);
-        assert_eq!(product(library, Kind::Duocomb, &point, &point).0, answer(32, [0; 4]));
-        assert_eq!(product(library, Kind::Duocomb, &triangle(), &triangle()).1.counts, [1, 9, 18, 9, 1]);
+        assert_eq!(build(library, Kind::Duocomb, &point, &point).0, answer(32, [0; 4]));
+        assert_eq!(build(library, Kind::Duocomb, &triangle(), &triangle()).1.counts, [1, 9, 18, 9, 1]);
         let digonal = cells::digonal;
-        assert_eq!(product(library, Kind::Duopyramid, &digonal(8), &digonal(7)).0.no, 0);
-        assert_eq!(product(library, Kind::Duopyramid, &digonal(8), &digonal(8)).0.no, 33);
+        assert_eq!(build(library, Kind::Duopyramid, &digonal(8), &digonal(7)).0.no, 0);
+        assert_eq!(build(library, Kind::Duopyramid, &digonal(8), &digonal(8)).0.no, 33);
     });
 }
 

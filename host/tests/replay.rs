@@ -1,6 +1,6 @@
-//! The replay lists, asked of the model and, where it is linked, of the archive. No Rust files are needed for it.
+//! The replay lists, asked of the model and of the archive. No Rust files are needed for it.
 
-use flumedrac::trial::{reply_to, Library, Model};
+use flumedrac_trial::{reply_to, Archive, Library, Model};
 
 const RUST: &str = include_str!("../replay.txt");
 const RULES: &str = include_str!("../rules.txt");
@@ -26,10 +26,9 @@ fn model() {
     replay(&Model::default());
 }
 
-#[cfg(linked)]
 #[test]
 fn archive() {
-    replay(&flumedrac::trial::library::Archive);
+    replay(&Archive);
 }
 
 /// Under a heading '# NUMBER: ..' of the list by the rules, every answer is that refusal.

@@ -1,4 +1,3 @@
 pub mod ChangeAnswers
-pub mod EventRow
-pub mod EventsTaken
 pub mod ChangeTwice
+pub mod ChangeBroken

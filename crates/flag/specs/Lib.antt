@@ -1,3 +1,3 @@
 pub mod Changed
 pub mod Orientations
-pub mod Events
+pub mod Rules

@@ -5,3 +5,4 @@ pub mod Halving
 pub mod Padding
 pub mod Replaced
 pub mod Changes
+pub mod StartBroken

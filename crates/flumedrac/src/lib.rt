@@ -1,13 +1,13 @@
 // The C boundary: each function passes its numbers and slices on to an entry, of the same name but for the class, the
 // sign and the next event, which cross as numbers. A slice crosses as a pointer and a length. Nothing is decided here.
 use flag::Changed;
-use flag::Cursor;
-use flag::Said;
 use listing::Answer;
 use listing::Built;
 use listing::Index;
 use listing::Number;
 use search::Searched;
+use search_events::Cursor;
+use search_events::Said;
 ghost use mathlib.Core.Path.{_≡_};
 ghost use mathlib.Core.Bool.{true, false};
 ghost use Rattle.listing.specs.Refusals.{band, bandNo};
@@ -16,7 +16,7 @@ ghost use Rattle.listing.specs.Listing.{held, limits};
 ghost use Rattle.valid.specs.Tests as tests;
 ghost use Rattle.product.specs.Outcome.{Outcome};
 ghost use Rattle.flag.specs.Changed.{changedOf};
-ghost use Rattle.flag.specs.Events.{SaidStep};
+ghost use Rattle.search_events.specs.Events.{SaidStep};
 ghost use Rattle.flag.specs.Orientations.{ofByte, signOf};
 ghost use Rattle.search.specs.Outcome.{searchedBy, tableAfter, bytesAfter};
 
@@ -143,7 +143,7 @@ pub extern "C" fn fd_sign(orientation: u8) -> f64
 pub extern "C" fn fd_next_event(c: &mut Cursor, count: u16, place: u16) -> Said
     ensures { λ s. ⌜ SaidStep (now (c .entry) .at) count place (now (c .exit) .at) s ⌝ }
 {
-    flag::numbers(flag::next_event(c, count, place))
+    search_events::numbers(search_events::next_event(c, count, place))
 }
 
 // Each product writes the last three slices, which overlap no other slice that is lent here.

@@ -6,4 +6,7 @@ pub mod ShapeExact
 pub mod Sequences
 pub mod Layers
 pub mod Written
+pub mod Broken
+pub mod Among
+pub mod ShapeBroken
 pub mod Output

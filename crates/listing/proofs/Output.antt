@@ -2,10 +2,12 @@
 -- written, and taken apart again.
 -- Assumes nothing.
 use mathlib.Core.Path.{_≡_, refl, sym, ap, _∙_}
+use mathlib.Core.Bool.{_||_}
 use mathlib.Core.List.{List}
 use Prim.Native.Nat.{ℕ, zero, suc, _≤_, _<_}
 use native.Mathlib.Omega.{arith}
 use borrow.Author.Tests.{lt-ltb, le-ltb, ltb-false}
+use lib.Dec.{ltb}
 use lib.ListN.{length, take}
 use Rattle.order.specs.Lists.{over}
 use Rattle.order.proofs.Over.{over-take}
@@ -16,7 +18,8 @@ use Rattle.listing.specs.Refusals.{outputShort}
 use Rattle.listing.specs.Answers.{plain, fine, ifZero}
 use Rattle.listing.specs.Listing.{Listing, listing}
 use Rattle.listing.specs.Output.{Fits, roomTest, builtOf, after, Made, prefix, Untouched, Wrote}
-use Rattle.listing.proofs.Answers.{other, on-no, no-of, stops}
+use Rattle.listing.proofs.Answers.{other, no-of, stops}
+use Rattle.listing.proofs.Broken.{Tests, tests-on}
 
 -- ---- room
 
@@ -38,12 +41,17 @@ module _ (R : Listing) (c e i : ℕ) where
   unfolding roomTest
   room-fine h = rw (le-ltb c _ (h .0), le-ltb e _ (h .1), le-ltb i _ (h .2))
 
-  pub room-fits : roomTest R c e i .no ≡ 0 → Fits R c e i
+  pub room-tested : Tests outputShort outputShort (Fits R c e i) (roomTest R c e i)
   unfolding roomTest
-  room-fits z =
-      let p = or-none _ _ (on-no _ (plain outputShort) (λ w. omega arith) z) in
-      let q = or-none _ _ (p .1) in
-      (ltb-false _ _ (p .0), ltb-false _ _ (q .0), ltb-false _ _ (q .1))
+  room-tested =
+      tests-on (ltb c (length (R .counts)) || (ltb e (length (R .ends)) || ltb i (length (R .inc)))) outputShort
+      (omega arith)
+      (λ z. let p = or-none _ _ z in let q = or-none _ _ (p .1) in
+      (ltb-false _ _ (p .0), ltb-false _ _ (q .0), ltb-false _ _ (q .1)))
+      (λ h. rw (le-ltb _ _ (h .0), le-ltb _ _ (h .1), le-ltb _ _ (h .2)))
+
+  pub room-fits : roomTest R c e i .no ≡ 0 → Fits R c e i
+  room-fits = room-tested .exact .0
 
 -- ---- what is answered
 

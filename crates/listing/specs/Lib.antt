@@ -7,3 +7,4 @@ pub mod Layers
 pub mod Written
 pub mod Cells
 pub mod Output
+pub mod Rules

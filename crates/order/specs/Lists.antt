@@ -1,5 +1,6 @@
 -- Lists of numbers.
 --
+-- Earlier     of two pairs of numbers, the first comes before the second: by its first number, then by its second
 -- In          a number stands in a list
 -- has         whether it does, by looking
 -- Ascending   a list strictly ascends
@@ -12,6 +13,9 @@ use mathlib.Core.List.{List, [], _∷_, _++_}
 use Prim.Native.Nat.{ℕ, suc, _<_}
 use lib.Dec.{eqb}
 use lib.ListN.{length, drop}
+
+abbrev pub Earlier : ℕ → ℕ → ℕ → ℕ → Type 0
+Earlier j i p q = (j < p) ⊎ ((j ≡ p) × (i < q))
 
 unfoldable pub In : ℕ → List ℕ → Type 0
 In a [] = ⊥

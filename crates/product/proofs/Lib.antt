@@ -2,4 +2,5 @@ pub mod Tests
 pub mod Made
 pub mod Chain
 pub mod Answered
+pub mod ProductBroken
 pub mod Exchange

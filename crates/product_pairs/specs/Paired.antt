@@ -16,6 +16,7 @@ use mathlib.Core.Path.{_≡_}
 use mathlib.Core.Logic.{_⊎_}
 use mathlib.Core.List.{List, _++_, map}
 use Prim.Native.Nat.{ℕ, suc, pred, _+_, _-_, _*_, _/_, _%_, _<_}
+use Rattle.order.specs.Lists.{Earlier}
 use Rattle.order.specs.Sums.{sum, place}
 use Rattle.listing.specs.Layers.{Layers}
 
@@ -33,8 +34,7 @@ position A B x =
     (x .0 .0 + x .1 .0, offset A B (x .0 .0) (x .1 .0) + (x .0 .1 * B .size (x .1 .0) + x .1 .1))
 
 abbrev pub Sooner : El × El → El × El → Type 0
-Sooner x y =
-    ((x .0 .0 < y .0 .0) ⊎ ((x .0 .0 ≡ y .0 .0) × (x .0 .1 < y .0 .1))) ⊎ ((x .0 ≡ y .0) × (x .1 .1 < y .1 .1))
+Sooner x y = Earlier (x .0 .0) (x .0 .1) (y .0 .0) (y .0 .1) ⊎ ((x .0 ≡ y .0) × (x .1 .1 < y .1 .1))
 
 unfoldable pub pairOf : Layers → ℕ → ℕ × ℕ → El × El
 pairOf B R p = ((p .0, p .1 / B .size (R - p .0)), (R - p .0, p .1 % B .size (R - p .0)))

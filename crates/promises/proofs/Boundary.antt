@@ -1,7 +1,7 @@
 -- Each fd_ function answers and writes as its entry does.
 -- Assumes nothing.
 use mathlib.Core.Path.{refl}
-use Rattle.flag.specs.Events.{eventAt}
+use Rattle.search_events.specs.Events.{eventAt}
 use Rattle.promises.specs.Boundary.{Boundary}
 
 -- The whole boundary, a field for each function.

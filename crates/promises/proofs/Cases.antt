@@ -11,12 +11,12 @@ use Rattle.listing.specs.Refusals.{band, bandNo}
 use Rattle.listing.proofs.Bands.{band-shape, band-structure, band-flags, band-products, band-over, band-none}
 use Rattle.flag.specs.declared.Orientation.{Orientation}
 use Rattle.flag.specs.declared.Orientation.the-variants.{Even, Odd}
-use Rattle.flag.specs.declared.Event.{Event}
-use Rattle.flag.specs.declared.Event.the-variants.{Nothing}
-use Rattle.flag.specs.declared.Said.{Said}
+use Rattle.search_events.specs.declared.Event.{Event}
+use Rattle.search_events.specs.declared.Event.the-variants.{Nothing}
+use Rattle.search_events.specs.declared.Said.{Said}
 use Rattle.flag.specs.Orientations.{byteOf, ofByte, flipOf, signOf}
-use Rattle.flag.specs.Events.{events, nextAt, eventsOf, taken, saidOf, Stepped, SaidStep}
-use Rattle.flag.proofs.EventsTaken.{all-taken, past-last}
+use Rattle.search_events.specs.Events.{events, nextAt, eventsOf, taken, saidOf, Stepped, SaidStep}
+use Rattle.search_events.proofs.EventsTaken.{all-taken, past-last}
 use Rattle.promises.specs.Cases.{ClassOf, SignAt, ByteFor, Calls}
 
 pub class-of : (n : ℕ) → ClassOf n (bandNo (band n))

@@ -15,8 +15,8 @@ use contract.Lifetimes.{Lfts}
 use denote.Ref.{now}
 use denote.Triple.Entry.{Args, Res}
 use denote.Triple.Clauses.{AtExit}
-use Rattle.flag.specs.Events.{Stepped, SaidStep}
-use Rattle.flag.proofs.next_event as next-event
+use Rattle.search_events.specs.Events.{Stepped, SaidStep}
+use Rattle.search_events.proofs.next_event as next-event
 use Rattle.flumedrac.proofs.fd_next_event as fd-next-event
 
 module _ {M : Type 1} (𝓤 : URA M) (H : Heap 𝓤) (A : Atoms 𝓤) (mem : Memory → SProp 𝓤) (run : Routine → Fun 𝓤)

@@ -18,8 +18,9 @@ use Rattle.promises.specs.Entries.{lent, flag, asked, tables}
 use Rattle.promises.specs.Demands.{DemandOne}
 use Rattle.promises.proofs.Taking.{takes-any}
 use Rattle.promises.proofs.Cases.{class-of}
-use Rattle.promises.proofs.Refused.{counted-broken, shape-alone, bounded-broken, incident-broken, dyadic-broken}
-use Rattle.promises.proofs.Refused.{valid-broken, closed-broken, change-broken}
+use Rattle.listing.proofs.ShapeBroken.{counted-broken, shape-alone}
+use Rattle.valid.proofs.TestsBroken.{bounded-broken, incident-broken, dyadic-broken, valid-broken, closed-broken}
+use Rattle.flag.proofs.ChangeBroken.{change-broken}
 use Rattle.promises.proofs.Produced.{produces}
 use Rattle.promises.proofs.Searched.{searches}
 use Rattle.promises.proofs.Named as named

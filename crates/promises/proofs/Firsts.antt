@@ -9,16 +9,15 @@ use native.Mathlib.Nat.{eq-or-lt-of-le}
 use native.Mathlib.Omega.{arith}
 use borrow.Author.Tests.{leb-true, leb-false}
 use lib.Dec.{leb}
-use Rattle.order.specs.Lists.{In, occurs}
+use Rattle.order.specs.Lists.{Earlier, In, occurs}
 use Rattle.listing.specs.declared.Answer.{Answer}
 use Rattle.listing.specs.Answers.{fine, on, _orElse_, firstIn, firstFor, firstOf}
 use Rattle.listing.specs.Listing.{Listing, count}
 use Rattle.listing.proofs.Answers.{or-fine, or-stop, on-no, of-each}
-use Rattle.search_theory.specs.Course.{Earlier}
 use Rattle.valid_diamond.specs.Dyadic.{thirdTest}
 use Rattle.valid_diamond.proofs.Counting.{occurs-nil, occurs-cons, still}
 use Rattle.promises.specs.Named.{FirstIn, FirstThird}
-use Rattle.promises.proofs.Broken.{zero-or}
+use Rattle.listing.proofs.Broken.{zero-or}
 
 module _ (Q : Answer → Type 0) where
   -- a refusal has a property

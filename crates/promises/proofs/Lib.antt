@@ -1,8 +1,5 @@
 pub mod OneAnswer
-pub mod Broken
 pub mod Firsts
-pub mod Numbers
-pub mod Refused
 pub mod Counted
 pub mod Cases
 pub mod Produced

@@ -41,10 +41,10 @@ use Rattle.promises.specs.Named.{FirstThird, Named, of-shape, of-flags, 
 use Rattle.promises.specs.Named.{sub-not-back}
 use Rattle.promises.specs.Named.{sup-not-back, sub-missing, sup-missing, third-between, lone-between}
 use Rattle.promises.specs.Named.{not-ascending, ThreeOf, OneOf, BetweenNamed, RefusalsNamed}
-use Rattle.promises.proofs.Broken.{zero-or}
-use Rattle.promises.proofs.Numbers.{bounded-numbers, incidence-numbers, ascent-numbers}
+use Rattle.listing.proofs.Broken.{zero-or}
+use Rattle.valid.proofs.TestNumbers.{bounded-numbers, incidence-numbers, ascent-numbers}
 use Rattle.promises.proofs.Firsts.{Tells, tells-or, tells-on}
-use Rattle.promises.proofs.Searched.{said}
+use Rattle.search.proofs.SearchBroken.{said}
 use Rattle.promises.proofs.NamedTests.{shape-tells, bounded-named, incidences-named, dyadic-named, valid-named}
 use Rattle.promises.proofs.NamedTests.{closed-named}
 

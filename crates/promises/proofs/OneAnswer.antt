@@ -11,9 +11,9 @@ use Rattle.listing.specs.declared.Built.{Built}
 use Rattle.listing.specs.Listing.{Listing, limits}
 use Rattle.listing.proofs.Output.{made-once}
 use Rattle.product.specs.Outcome.{Outcome}
-use Rattle.flag.specs.declared.Event.{Event}
-use Rattle.flag.specs.declared.Said.{Said}
-use Rattle.flag.specs.Events.{Stepped, SaidStep}
+use Rattle.search_events.specs.declared.Event.{Event}
+use Rattle.search_events.specs.declared.Said.{Said}
+use Rattle.search_events.specs.Events.{Stepped, SaidStep}
 use Rattle.promises.specs.Entries.{OneAnswer, OneOutcome, outputs, tables}
 use Rattle.listing.proofs.class.Reads as class
 use Rattle.listing.proofs.band_number.Reads as band-number
@@ -32,11 +32,11 @@ use Rattle.flag.proofs.Orientation.flip.Reads as flip
 use Rattle.flag.proofs.Orientation.sign.Reads as sign
 use Rattle.flag.proofs.Orientation.byte.Reads as byte
 use Rattle.flag.proofs.Orientation.of_byte.Reads as of-byte
-use Rattle.flag.proofs.is_within.Reads as is-within
-use Rattle.flag.proofs.event_at.Reads as event-at
-use Rattle.flag.proofs.events_in.Reads as events-in
-use Rattle.flag.proofs.next_at.Reads as next-at
-use Rattle.flag.proofs.numbers.Reads as numbers
+use Rattle.search_events.proofs.is_within.Reads as is-within
+use Rattle.search_events.proofs.event_at.Reads as event-at
+use Rattle.search_events.proofs.events_in.Reads as events-in
+use Rattle.search_events.proofs.next_at.Reads as next-at
+use Rattle.search_events.proofs.numbers.Reads as numbers
 use Rattle.search.proofs.search.Reads as search
 use Rattle.product.proofs.duopyramid.Reads as duopyramid
 use Rattle.product.proofs.duoprism.Reads as duoprism

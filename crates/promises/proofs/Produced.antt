@@ -6,6 +6,7 @@ use mathlib.Core.Bool.{Bool, false}
 use lib.ListN.{length}
 use Rattle.listing.specs.declared.Built.{Built}
 use Rattle.listing.specs.Listing.{Listing, limits}
+use Rattle.listing.specs.Rules.{FirstBroken}
 use Rattle.listing.specs.Output.{prefix}
 use Rattle.listing.proofs.Answers.{no-or}
 use Rattle.listing.proofs.Output.{made-answer, made-untouched, made-wrote, made-prefix}
@@ -17,11 +18,10 @@ use Rattle.product_closure.proofs.Valid.{valid-sound, product-tests}
 use Rattle.product_closure.proofs.Pairs.{result-matched, result-low, result-high, result-swapped}
 use Rattle.product_closure.proofs.Lists.{result-arranged}
 use Rattle.product.specs.Outcome.{Outcome}
+use Rattle.product.proofs.ProductBroken.{product-broken}
 use Rattle.product.proofs.Answered.{answered-passed, answered-shaped, answered-closed}
 use Rattle.product.proofs.Exchange.{answers-same}
-use Rattle.promises.specs.Rules.{FirstBroken}
 use Rattle.promises.specs.Products.{roomRules, Produces, Kept, SameRoom, Exchange}
-use Rattle.promises.proofs.Refused.{product-broken}
 
 module _ (min max : Bool) {A B old new : Listing} {r : Built} (o : Outcome limits min max A B old new r) where
   abbrev R : Listing

@@ -7,10 +7,10 @@
 use mathlib.Core.Path.{_≡_}
 use Prim.Native.Nat.{ℕ}
 use Rattle.listing.specs.Refusals.{bandNo}
-use Rattle.flag.specs.declared.Event.{Event}
-use Rattle.flag.specs.declared.Said.{Said}
+use Rattle.search_events.specs.declared.Event.{Event}
+use Rattle.search_events.specs.declared.Said.{Said}
 use Rattle.flag.specs.Orientations.{ofByte}
-use Rattle.flag.specs.Events.{saidOf, Stepped, SaidStep}
+use Rattle.search_events.specs.Events.{saidOf, Stepped, SaidStep}
 use Rattle.listing.proofs.class.Reads as class
 use Rattle.listing.proofs.rank.Reads as rank
 use Rattle.listing.proofs.el_count.Reads as el-count

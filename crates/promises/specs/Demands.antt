@@ -35,11 +35,11 @@ use Rattle.valid.specs.Bounds.{Bounded}
 use Rattle.valid.specs.Ascent.{Ascends}
 use Rattle.valid.specs.Closed.{Closed}
 use Rattle.flag_change.specs.Change.{Changes, changeAt, padded}
-use Rattle.flag.specs.declared.Event.{Event}
-use Rattle.flag.specs.declared.Event.the-variants.{Nothing}
-use Rattle.flag.specs.declared.Said.{Said}
+use Rattle.search_events.specs.declared.Event.{Event}
+use Rattle.search_events.specs.declared.Event.the-variants.{Nothing}
+use Rattle.search_events.specs.declared.Said.{Said}
 use Rattle.flag.specs.Orientations.{byteOf}
-use Rattle.flag.specs.Events.{events, eventsOf, saidOf, Stepped, SaidStep}
+use Rattle.search_events.specs.Events.{events, eventsOf, saidOf, Stepped, SaidStep}
 use Rattle.listing.proofs.class.Reads as class
 use Rattle.listing.proofs.band_number.Reads as band-number
 use Rattle.listing.proofs.rank.Reads as rank-count
@@ -57,7 +57,7 @@ use Rattle.flag.proofs.Orientation.flip.Reads as flip
 use Rattle.flag.proofs.Orientation.sign.Reads as sign
 use Rattle.flag.proofs.Orientation.byte.Reads as byte
 use Rattle.flag.proofs.Orientation.of_byte.Reads as of-byte
-use Rattle.flag.proofs.numbers.Reads as numbers
+use Rattle.search_events.proofs.numbers.Reads as numbers
 use Rattle.search.proofs.search.Reads as search
 use Rattle.product.proofs.duopyramid.Reads as duopyramid
 use Rattle.product.proofs.duoprism.Reads as duoprism
@@ -66,8 +66,9 @@ use Rattle.product.proofs.duocomb.Reads as duocomb
 use Rattle.promises.specs.Entries.{Says, SaysOfTwo, Slice, Three, lent, right, outputs, flag, asked, tables}
 use Rattle.promises.specs.Taking.{TakesAny}
 use Rattle.promises.specs.Cases.{ClassOf, SignAt, ByteFor, Calls}
-use Rattle.promises.specs.Rules.{Rule, FirstBroken, countRules, shapeRules, boundedRules, incidentRules}
-use Rattle.promises.specs.Rules.{dyadicRules, validRules, closedRules, changeRules}
+use Rattle.listing.specs.Rules.{Rule, FirstBroken, countRules, shapeRules}
+use Rattle.valid.specs.Rules.{boundedRules, incidentRules, dyadicRules, validRules, closedRules}
+use Rattle.flag.specs.Rules.{changeRules}
 use Rattle.promises.specs.Products.{Produces, Kept, Exchange}
 use Rattle.promises.specs.Searches.{Searches, Found}
 use Rattle.promises.specs.Named.{RefusalsNamed}

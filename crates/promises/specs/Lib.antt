@@ -1,7 +1,6 @@
 pub mod Entries
 pub mod Taking
 pub mod Cases
-pub mod Rules
 pub mod Products
 pub mod Searches
 pub mod Named

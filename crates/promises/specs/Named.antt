@@ -23,7 +23,7 @@ use mathlib.Core.Path.{_≡_}
 use mathlib.Core.Logic.{_≢_}
 use mathlib.Core.List.{List, [], _∷_, _++_}
 use Prim.Native.Nat.{ℕ, _+_, _-_, _≤_, _<_}
-use Rattle.order.specs.Lists.{In, Ascending, occurs}
+use Rattle.order.specs.Lists.{Earlier, In, Ascending, occurs}
 use Rattle.listing.specs.declared.Answer.{Answer}
 use Rattle.listing.specs.declared.Built.{Built}
 use Rattle.listing.specs.Refusals.{noRanks, fallingEnds, notBounded, noSubs, noSups, subNotBack, supNotBack}
@@ -39,7 +39,6 @@ use Rattle.valid.proofs.check_incidences.Reads as check-incidences
 use Rattle.valid.proofs.is_dyadic.Reads as is-dyadic
 use Rattle.valid.proofs.is_valid.Reads as is-valid
 use Rattle.valid.proofs.closed.Reads as closed
-use Rattle.search_theory.specs.Course.{Earlier}
 use Rattle.flag.proofs.change.Reads as change
 use Rattle.search.proofs.search.Reads as search
 use Rattle.product.proofs.duopyramid.Reads as duopyramid

@@ -19,6 +19,7 @@ use lib.ListN.{length}
 use Rattle.listing.specs.declared.Built.{Built}
 use Rattle.listing.specs.Listing.{Listing, limits, rank}
 use Rattle.listing.specs.Cells.{nullitope}
+use Rattle.listing.specs.Rules.{Rule, FirstBroken}
 use Rattle.listing.specs.Output.{Untouched, Wrote}
 use Rattle.valid.specs.Closed.{Closed}
 use Rattle.valid.specs.Tests.{bounded, checkIncidences, isValid}
@@ -26,7 +27,7 @@ use Rattle.product_pairs.specs.Trimmed.{bit}
 use Rattle.product_closure.specs.Result.{firstFactor, secondFactor, nullCase, resultOf, HighEnough}
 use Rattle.product_closure.specs.Pairs.{Matched, LowEnd, HighEnd, Swapped}
 use Rattle.product_closure.specs.Lists.{Arranged}
-use Rattle.promises.specs.Rules.{Rule, FirstBroken, productRules}
+use Rattle.product.specs.Rules.{productRules}
 
 abbrev pub roomRules : Bool → Bool → Listing → Listing → Listing → List Rule
 roomRules min max A B old =

@@ -18,7 +18,8 @@ use Rattle.search.specs.declared.Searched.{Searched}
 use Rattle.search_walk.specs.Searched.{foundBy}
 use Rattle.search.specs.Outcome.{refusedAs, roomOf}
 use Rattle.search.specs.Exact.{Holds, Finds}
-use Rattle.promises.specs.Rules.{FirstBroken, searchRules}
+use Rattle.listing.specs.Rules.{FirstBroken}
+use Rattle.search.specs.Rules.{searchRules}
 
 abbrev pub roomIn : Listing → List ℕ → List ℕ → ℕ
 roomIn L table bytes = roomOf limits L (length table) (length bytes)

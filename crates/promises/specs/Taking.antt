@@ -20,11 +20,11 @@ use Rattle.flag.proofs.Orientation.flip.Reads as flip
 use Rattle.flag.proofs.Orientation.sign.Reads as sign
 use Rattle.flag.proofs.Orientation.byte.Reads as byte
 use Rattle.flag.proofs.Orientation.of_byte.Reads as of-byte
-use Rattle.flag.proofs.is_within.Reads as is-within
-use Rattle.flag.proofs.event_at.Reads as event-at
-use Rattle.flag.proofs.events_in.Reads as events-in
-use Rattle.flag.proofs.next_at.Reads as next-at
-use Rattle.flag.proofs.numbers.Reads as numbers
+use Rattle.search_events.proofs.is_within.Reads as is-within
+use Rattle.search_events.proofs.event_at.Reads as event-at
+use Rattle.search_events.proofs.events_in.Reads as events-in
+use Rattle.search_events.proofs.next_at.Reads as next-at
+use Rattle.search_events.proofs.numbers.Reads as numbers
 use Rattle.search.proofs.search.Reads as search
 use Rattle.product.proofs.duopyramid.Reads as duopyramid
 use Rattle.product.proofs.duoprism.Reads as duoprism

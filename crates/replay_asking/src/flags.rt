@@ -1,10 +1,10 @@
 // Questions on flags: changes, searches, and their events.
 use crate::room;
-use flag::Event;
 use flag::Orientation;
 use listing::Index;
 use replay_saying::say;
 use search::Searched;
+use search_events::Event;
 
 // A change.
 pub fn change(counts: &[Index], ends: &[Index], inc: &[Index], flag: &[Index], r: u16) {
@@ -74,9 +74,9 @@ fn event(e: Event, table: &[Index], odd: &[u8], w: usize) {
 // The events of a search with this count and place, in order.
 fn told(count: u16, place: u16, table: &[Index], odd: &[u8], w: usize) {
     let mut at = 0;
-    let end = flag::events_in(count, place);
+    let end = search_events::events_in(count, place);
     while at < end {
-        event(flag::event_at(at, count, place), table, odd, w);
+        event(search_events::event_at(at, count, place), table, odd, w);
         at += 1;
     }
 }
@@ -97,8 +97,8 @@ pub fn sign(byte: u8) {
 
 // The next event for a cursor, a count and a place, and the cursor afterwards.
 pub fn next_event(at: u32, count: u16, place: u16) {
-    let s = flag::numbers(flag::event_at(at, count, place));
+    let s = search_events::numbers(search_events::event_at(at, count, place));
     say::number(s.kind as u64);
     say::number(s.flag as u64);
-    say::number(flag::next_at(at, count, place) as u64);
+    say::number(search_events::next_at(at, count, place) as u64);
 }

@@ -7,10 +7,11 @@ use Prim.Native.Nat.{ℕ, zero, suc, _-_, _≤_, _<_}
 use native.Mathlib.Decide.{ℕ-discrete}
 use native.Mathlib.Omega.{arith}
 use lib.ListN.{length, getD}
+use Rattle.order.specs.Lists.{Earlier}
 use Rattle.listing.specs.Listing.{Listing}
 use Rattle.flag_change.specs.Change.{changeAt}
 use Rattle.flag_change.proofs.Halving.{ascending-at, ascending-back}
-use Rattle.search_theory.specs.Course.{Earlier, Stands, Agrees, Inside, nbr, Came, Clash}
+use Rattle.search_theory.specs.Course.{Stands, Agrees, Inside, nbr, Came, Clash}
 use Rattle.search_theory.proofs.Once.{in-at, at-in}
 use Rattle.search_masks.specs.Masks.{ranksOf}
 use Rattle.search_masks.proofs.Ranks.{ranks-exact, ranks-ascend}

@@ -6,3 +6,4 @@ pub mod InOrder
 pub mod Contents
 pub mod Exact
 pub mod OneAnswer
+pub mod SearchBroken

@@ -9,10 +9,10 @@ use native.Mathlib.Decide.{ℕ-discrete, decLt}
 use native.Mathlib.Omega.{arith}
 use lib.ListN.{length, getD, take, drop, take-append-drop}
 use lib.Seq.{ext-getD, getD-drop}
+use Rattle.order.specs.Lists.{Earlier}
 use Rattle.listing.specs.Listing.{Listing, rank}
 use Rattle.flag_change.specs.Change.{changeAt}
 use Rattle.search_theory.specs.Search.{Once}
-use Rattle.search_theory.specs.Course.{Earlier}
 use Rattle.search_theory.proofs.Once.{in-at}
 use Rattle.search_store.specs.Rows.{rowOf, rows, flatten}
 use Rattle.search_store.proofs.Rows.{rows-length, rows-at, rows-flat}

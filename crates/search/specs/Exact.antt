@@ -24,6 +24,7 @@ use mathlib.Core.Logic.{_≢_, _↔_}
 use mathlib.Core.List.{List, List·Memᴰ}
 use Prim.Native.Nat.{ℕ, suc, _+_, _-_, _*_, _≤_, _<_}
 use lib.ListN.{length, getD, take, drop}
+use Rattle.order.specs.Lists.{Earlier}
 use Rattle.order.specs.Steps.{ChangedAt, Reach}
 use Rattle.listing.specs.Refusals.{notAFlag, outsideRanks, moreFlags}
 use Rattle.listing.specs.Answers.{plain, fine}
@@ -33,7 +34,7 @@ use Rattle.valid.specs.Tests.{closed}
 use Rattle.flag_change.specs.Flags.{IsFlag}
 use Rattle.flag_change.specs.Change.{changeAt}
 use Rattle.search_theory.specs.Search.{Once, More, Colouring, tone}
-use Rattle.search_theory.specs.Course.{Earlier, Stands, Agrees}
+use Rattle.search_theory.specs.Course.{Stands, Agrees}
 use Rattle.search_store.specs.Rows.{rowOf, rows}
 use Rattle.search_masks.specs.Masks.{bit}
 use Rattle.search.specs.declared.Searched.{Searched}

@@ -6,7 +6,8 @@ use mathlib.Core.List.{List}
 use Prim.Native.Nat.{ℕ, suc, _≤_, _<_}
 use native.Mathlib.Decide.{decLt}
 use native.Mathlib.Omega.{arith}
-use Rattle.search_theory.specs.Course.{Earlier, Stands, Agrees, Inside, nbr, Came, Clash}
+use Rattle.order.specs.Lists.{Earlier}
+use Rattle.search_theory.specs.Course.{Stands, Agrees, Inside, nbr, Came, Clash}
 
 -- ---- which is met before which
 

@@ -9,9 +9,10 @@ use native.Mathlib.Decide.{ℕ-discrete, decLt}
 use native.Mathlib.Omega.{arith}
 use lib.ListN.{length, getD, length-append}
 use lib.Seq.{getD-at}
+use Rattle.order.specs.Lists.{Earlier}
 use Rattle.search_theory.specs.Search.{State, nothing, add, overfull, placeAfter, again, indexIn, meet, meetAll, work}
 use Rattle.search_theory.specs.Search.{search, Decides}
-use Rattle.search_theory.specs.Course.{Earlier, Inside, nbr, Came, Clash}
+use Rattle.search_theory.specs.Course.{Inside, nbr, Came, Clash}
 use Rattle.search_theory.proofs.Once.{length-snoc}
 use Rattle.search_theory.proofs.Lookup.{index-at}
 use Rattle.search_theory.proofs.Step.{place-kept, place-same, place-first, meet-cases, meet-paired, meet-fits}

@@ -1,6 +1,6 @@
--- The course of a search: those found are worked in order, and the neighbours of each are met in order.
+-- The course of a search: those found are worked in order, and the neighbours of each are met in order. That neighbour
+-- i of the jth is met before neighbour q of the pth is `Earlier j i p q`.
 --
--- Earlier   neighbour i of the jth is met before neighbour q of the pth
 -- Stands    y stands among the first n
 -- Agrees    y stands among the first n, with the byte b
 -- Inside    the jth has a neighbour i
@@ -10,13 +10,11 @@
 -- Clash     neighbour `at` of one of the first n stands among these with another byte than it should have; all that was
 --           met before stands among these with the byte that it should have, and these were all met before
 use mathlib.Core.Path.{_≡_}
-use mathlib.Core.Logic.{_≢_, _⊎_}
+use mathlib.Core.Logic.{_≢_}
 use mathlib.Core.List.{List}
 use Prim.Native.Nat.{ℕ, _-_, _<_}
 use lib.ListN.{length, getD}
-
-abbrev pub Earlier : ℕ → ℕ → ℕ → ℕ → Type 0
-Earlier j i p q = (j < p) ⊎ ((j ≡ p) × (i < q))
+use Rattle.order.specs.Lists.{Earlier}
 
 module _ {A : Type 0} (row : ℕ → A) where
   pub record Stands (n : ℕ) (y : A) : Type 0 where

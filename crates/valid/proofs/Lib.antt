@@ -1,3 +1,5 @@
 pub mod BoundsExact
 pub mod AscentExact
 pub mod ClosedExact
+pub mod TestNumbers
+pub mod TestsBroken

@@ -2,3 +2,4 @@ pub mod Bounds
 pub mod Ascent
 pub mod Tests
 pub mod Closed
+pub mod Rules

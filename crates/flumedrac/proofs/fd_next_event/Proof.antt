@@ -38,23 +38,23 @@ use denote.Triple.Walked.{says, Stays, gave-ref, stay-none, walkOf, AllGo, goes-
 use denote.Triple.Walked.{walked, walk-meets}
 use denote.Triple.Clauses.{ensured, lasts}
 use denote.Exit.{yes}
-use Rattle.flag.specs.Events.{eventAt, nextAt, saidOf}
-use Rattle.flag.specs.declared.Cursor.{Cursor}
-use Rattle.flag.specs.declared.Event.{Event}
-use Rattle.flag.specs.declared.Said.{Said}
-use Rattle.flag.proofs.Cursor as T
-use Rattle.flag.proofs.Event as S
-use Rattle.flag.proofs.Event.Laws as S′
-use Rattle.flag.proofs.Said as R
-use Rattle.flag.proofs.Said.Laws as R′
-use Rattle.flag.proofs.next_event as next
-use Rattle.flag.proofs.next_event.Symbol as next-def
-use Rattle.flag.proofs.next_event.Symbol.{name as #flag·next-event}
-use Rattle.flag.proofs.next_event.Met as next-thm
-use Rattle.flag.proofs.numbers as nums
-use Rattle.flag.proofs.numbers.Symbol as nums-def
-use Rattle.flag.proofs.numbers.Symbol.{name as #flag·numbers}
-use Rattle.flag.proofs.numbers.Met as nums-thm
+use Rattle.search_events.specs.Events.{eventAt, nextAt, saidOf}
+use Rattle.search_events.specs.declared.Cursor.{Cursor}
+use Rattle.search_events.specs.declared.Event.{Event}
+use Rattle.search_events.specs.declared.Said.{Said}
+use Rattle.search_events.proofs.Cursor as T
+use Rattle.search_events.proofs.Event as S
+use Rattle.search_events.proofs.Event.Laws as S′
+use Rattle.search_events.proofs.Said as R
+use Rattle.search_events.proofs.Said.Laws as R′
+use Rattle.search_events.proofs.next_event as next
+use Rattle.search_events.proofs.next_event.Symbol as next-def
+use Rattle.search_events.proofs.next_event.Symbol.{name as #search-events·next-event}
+use Rattle.search_events.proofs.next_event.Met as next-thm
+use Rattle.search_events.proofs.numbers as nums
+use Rattle.search_events.proofs.numbers.Symbol as nums-def
+use Rattle.search_events.proofs.numbers.Symbol.{name as #search-events·numbers}
+use Rattle.search_events.proofs.numbers.Met as nums-thm
 use Rattle.flumedrac.proofs.fd_next_event.Key.{name as #flumedrac·fd-next-event}
 use Rattle.flumedrac.proofs.fd_next_event as f
 use Rattle.flumedrac.proofs.fd_next_event.Statement as stated
@@ -140,8 +140,8 @@ module _ {M : Type 1} (𝓤 : URA M) (H : Heap 𝓤) (A : Atoms 𝓤) (W : Given
       move ! (2 ∷ 0 ∷ []) $ fjoin ! $ frame ! $ done !
 
   module _ (C : Calls 𝓤 H) (Λ : Loops 𝓤 H) (fm : FmC 𝓤 H (W .laws) C)
-      (known-next : Triple 𝓤 (C #flag·next-event) (Next 𝓤 H A at-mem run))
-      (known-nums : Triple 𝓤 (C #flag·numbers) (Nums 𝓤 H A at-mem run)) where
+      (known-next : Triple 𝓤 (C #search-events·next-event) (Next 𝓤 H A at-mem run))
+      (known-nums : Triple 𝓤 (C #search-events·numbers) (Nums 𝓤 H A at-mem run)) where
     walk : ent 𝓤 (onEntry 𝓤 H A f.signature (κ, tt) (q, tt) x at)
         (WpFn 𝓤 H C Λ code.function (vptr b o ∷ vint w16 n ∷ vint w16 p ∷ []) Post)
     walk =
@@ -193,7 +193,7 @@ module _ {M : Type 1} (𝓤 : URA M) (H : Heap 𝓤) (A : Atoms 𝓤) (W : Given
 module _ {M : Type 1} (𝓤 : URA M) (H : Heap 𝓤) (A : Atoms 𝓤) (W : Given 𝓤 H A) (at-mem : Memory → SProp 𝓤)
     (run : Routine → Fun 𝓤) where
   fd-next-event-walks : (C : Calls 𝓤 H) (Λ : Loops 𝓤 H) → FmC 𝓤 H (W .laws) C
-      → Triple 𝓤 (C #flag·next-event) (Next 𝓤 H A at-mem run) → Triple 𝓤 (C #flag·numbers) (Nums 𝓤 H A at-mem run)
+      → Triple 𝓤 (C #search-events·next-event) (Next 𝓤 H A at-mem run) → Triple 𝓤 (C #search-events·numbers) (Nums 𝓤 H A at-mem run)
       → Walks 𝓤 H A f.ended stayed (WpFn 𝓤 H C Λ code.function) (f.clauses 𝓤 H A at-mem run)
   fd-next-event-walks C Λ fm known-next known-nums =
       walked 𝓤 H A f.ended stayed (f.clauses 𝓤 H A at-mem run) (WpFn 𝓤 H C Λ code.function)
@@ -210,8 +210,8 @@ module _ {M : Type 1} (𝓤 : URA M) (H : Heap 𝓤) (A : Atoms 𝓤) (W : Given
     (goes-none 𝓤 H A W 1 (λ _. u16) yes (λ κs x f. refl), (goes-none 𝓤 H A W 1 (λ _. u16) yes (λ κs x f. refl), tt)),
   )
 
-  fd-next-event-meets : (𝓣 : Tables 𝓤 H) → Triple 𝓤 (𝓣 .C #flag·next-event) (Next 𝓤 H A at-mem run)
-      → Triple 𝓤 (𝓣 .C #flag·numbers) (Nums 𝓤 H A at-mem run)
+  fd-next-event-meets : (𝓣 : Tables 𝓤 H) → Triple 𝓤 (𝓣 .C #search-events·next-event) (Next 𝓤 H A at-mem run)
+      → Triple 𝓤 (𝓣 .C #search-events·numbers) (Nums 𝓤 H A at-mem run)
       → Meets 𝓤 H A f.signature (WpFn 𝓤 H (𝓣 .C) (𝓣 .Λ) code.function) (f.spec 𝓤 H A at-mem run)
   fd-next-event-meets 𝓣 known-next known-nums =
       walk-meets 𝓤 H A f.ended stayed W goes (f.clauses 𝓤 H A at-mem run)
@@ -225,7 +225,7 @@ fd-next-event-spec 𝓤 H 𝓜 𝓖 𝓡 =
     (tables 𝓤 H 𝓜 𝓡 code.env .C) (tables 𝓤 H 𝓜 𝓡 code.env .Λ) #flumedrac·fd-next-event code.function
     (code.unfolded 𝓤 H 𝓜 𝓡)
     (fd-next-event-meets 𝓤 H (𝓖 .A) (givenOf 𝓤 H 𝓜 𝓖) (𝓜 .mem) (𝓡 .run) (tablesOf 𝓤 H 𝓜 (tables 𝓤 H 𝓜 𝓡 code.env))
-    (cited 𝓤 H (Next 𝓤 H (𝓖 .A) (𝓜 .mem) (𝓡 .run)) 𝓜 𝓡 code.env #flag·next-event next-def.routine
-    code.calls-flag·next-event (next-thm.met 𝓤 H 𝓜 𝓖 𝓡))
-    (cited 𝓤 H (Nums 𝓤 H (𝓖 .A) (𝓜 .mem) (𝓡 .run)) 𝓜 𝓡 code.env #flag·numbers nums-def.routine
-    code.calls-flag·numbers (nums-thm.met 𝓤 H 𝓜 𝓖 𝓡)))
+    (cited 𝓤 H (Next 𝓤 H (𝓖 .A) (𝓜 .mem) (𝓡 .run)) 𝓜 𝓡 code.env #search-events·next-event next-def.routine
+    code.calls-search-events·next-event (next-thm.met 𝓤 H 𝓜 𝓖 𝓡))
+    (cited 𝓤 H (Nums 𝓤 H (𝓖 .A) (𝓜 .mem) (𝓡 .run)) 𝓜 𝓡 code.env #search-events·numbers nums-def.routine
+    code.calls-search-events·numbers (nums-thm.met 𝓤 H 𝓜 𝓖 𝓡)))

@@ -1,6 +1,6 @@
 //! Listings with one thing changed.
 
-use flumedrac::trial::{Random, Raw};
+use flumedrac_trial::{Random, Raw};
 
 use crate::plain;
 

@@ -1,8 +1,8 @@
 //! What a library has to reply: by the Rust files where they decide, by a plain condition where they do not.
 
-use flumedrac::trial::question::{answer_numbers, BYTE_FILL, FILL};
-use flumedrac::trial::{Kind, Question, Reply};
 use flumedrac::{MAX_ELEMENTS, MAX_FLAGS, MAX_INCIDENCES, MAX_RANKS};
+use flumedrac_trial::question::{answer_numbers, BYTE_FILL, FILL};
+use flumedrac_trial::{Kind, Question, Reply};
 
 use crate::oracle::{self, Cell, Event, Product};
 use crate::plain;

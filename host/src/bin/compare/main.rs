@@ -8,7 +8,7 @@
 //! --rounds sets how many damaged and random listings are tried, --small asks less of everything. --write-replay
 //! writes the replay list.
 //!
-//! Status 0: no differences. 1: some. 2: no archive to ask, or no Rust files to compare with.
+//! Status 0: no differences. 1: some. 2: no Rust files to compare with, or an option that is not known.
 
 mod damage;
 mod inputs;
@@ -23,7 +23,7 @@ mod tally;
 
 use std::process::ExitCode;
 
-use flumedrac::trial::{limit_memory, Break, Library, Model};
+use flumedrac_trial::{limit_memory, misused, Archive, Break, Guarded, Library, Model};
 
 use inputs::Scale;
 use replay::Replay;
@@ -66,40 +66,30 @@ fn options() -> Result<Options, String> {
 
 fn main() -> ExitCode {
     limit_memory(1000);
-    let options = match options() {
-        Ok(options) => options,
-        Err(what) => {
-            eprintln!("{what}");
-            return ExitCode::from(2);
-        }
-    };
+    options().map_or_else(misused, |options| ask(&options))
+}
+
+/// Asks whom the options name.
+fn ask(options: &Options) -> ExitCode {
     if !oracle::PRESENT {
-        println!("The Rust files are not built (host/oracle/build.sh); only plain conditions are compared.");
+        println!("The Rust files are not built (host/oracle/build.sh FOLDER); only plain conditions are compared.");
     }
     println!("seed {}", options.seed);
     if options.breaks {
         return breaks(options.seed);
     }
     match (options.fault, options.model) {
-        (Some(fault), _) => compare(&Model::broken(fault), &format!("the model with {}", fault.name()), &options),
-        (None, true) => compare(&Model::default(), "the model", &options),
-        (None, false) => archive(&options),
+        (Some(fault), _) => compare(&Model::broken(fault), &format!("the model with {}", fault.name()), options),
+        (None, true) => compare(&Model::default(), "the model", options),
+        (None, false) => archive(options),
     }
 }
 
-#[cfg(linked)]
 fn archive(options: &Options) -> ExitCode {
-    use flumedrac::trial::{guarded::Guarded, library::Archive};
     match options.guarded {
         true => compare(&Guarded::default(), "the archive, its slices guarded", options),
         false => compare(&Archive, "the archive", options),
     }
-}
-
-#[cfg(not(linked))]
-fn archive(_: &Options) -> ExitCode {
-    println!("The archive was not found when this was built; --model tries this program without it.");
-    ExitCode::from(2)
 }
 
 fn compare(library: &dyn Library, name: &str, options: &Options) -> ExitCode {

@@ -1,7 +1,7 @@
 //! The conditions that the Rust files do not decide, each said once and plainly.
 
-use flumedrac::trial::{Kind, Raw};
 use flumedrac::{MAX_ELEMENTS, MAX_INCIDENCES, MAX_RANKS};
+use flumedrac_trial::{Kind, Raw};
 
 /// The number of the shape's refusal, 0 for none.
 pub fn shape(cell: &Raw) -> u16 {

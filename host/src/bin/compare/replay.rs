@@ -2,7 +2,7 @@
 
 use std::collections::BTreeMap;
 
-use flumedrac::trial::{Question, Random, Reply};
+use flumedrac_trial::{Question, Random, Reply};
 
 use crate::subject::{By, Subject};
 

@@ -3,7 +3,7 @@
 use std::panic::{catch_unwind, AssertUnwindSafe};
 use std::time::Instant;
 
-use flumedrac::trial::{Library, Question};
+use flumedrac_trial::{Library, Question};
 
 use crate::judge::judge;
 use crate::replay::Replay;

@@ -3,7 +3,7 @@
 use std::cell::OnceCell;
 
 use flumedrac::ffi::Answer;
-use flumedrac::trial::{Raw, Test};
+use flumedrac_trial::{Raw, Test};
 
 use crate::oracle::{self, Cell, Event};
 use crate::plain;

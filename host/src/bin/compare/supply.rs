@@ -1,7 +1,7 @@
 //! Listings to ask about.
 
-use flumedrac::trial::{cells, Kind, Random, Raw};
 use flumedrac::Listing;
+use flumedrac_trial::{cells, Kind, Random, Raw};
 
 use crate::damage::{written, Lists};
 use crate::plain;

@@ -1,6 +1,6 @@
 //! Closed cells with their flags, changes and searches, and products of cells.
 
-use flumedrac::trial::{cells, Kind, Question, Random};
+use flumedrac_trial::{cells, Kind, Question, Random};
 
 use crate::run::{Go, Run};
 use crate::subject::Subject;

@@ -1,7 +1,7 @@
 //! Damaged cells and random slices, and products of random valid listings.
 
-use flumedrac::trial::{cells, Kind, Question, Random, Raw};
 use flumedrac::Listing;
+use flumedrac_trial::{cells, Kind, Question, Random, Raw};
 
 use crate::damage::damaged;
 use crate::oracle;

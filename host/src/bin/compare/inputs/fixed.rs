@@ -1,7 +1,7 @@
 //! Listings chosen by hand: those to try of the request, and those at the limits or past them.
 
-use flumedrac::trial::{cells, Kind, Question, Raw};
 use flumedrac::{Listing, MAX_FLAGS};
+use flumedrac_trial::{cells, Kind, Question, Raw};
 
 use crate::damage::{written, Lists};
 use crate::run::{Go, Run};

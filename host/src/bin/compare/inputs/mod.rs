@@ -5,8 +5,8 @@ mod damaged;
 mod fixed;
 mod small;
 
-use flumedrac::trial::{Kind, Question, Random, Raw, Reply, Test};
 use flumedrac::{MAX_ELEMENTS, MAX_INCIDENCES, MAX_RANKS};
+use flumedrac_trial::{Kind, Question, Random, Raw, Reply, Test};
 
 use crate::judge::judge;
 use crate::run::{Caught, Go, Run};

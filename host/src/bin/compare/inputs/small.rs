@@ -2,8 +2,8 @@
 
 use std::iter;
 
-use flumedrac::trial::{cells, Kind, Question, Random, Raw};
 use flumedrac::Listing;
+use flumedrac_trial::{cells, Kind, Question, Random, Raw};
 
 use crate::run::{Go, Run};
 use crate::subject::Subject;

@@ -1,0 +1,2 @@
+pub mod EventRow
+pub mod EventsTaken

@@ -1,0 +1,71 @@
+/*
+ * Stands in for the archive, to see what the header hands on: every function that takes slices answers the number 99
+ * where one of its pointers is null, and else 0s.
+ */
+#include "flumedrac.h"
+
+#define SLICE(type, p) type *p, size_t p##_len
+#define LISTING(p) SLICE(const uint16_t, p##counts), SLICE(const uint16_t, p##ends), SLICE(const uint16_t, p##inc)
+#define NO_POINTER(p) ((void)p##_len, (p) == NULL)
+#define NO_LISTING(p) (NO_POINTER(p##counts) || NO_POINTER(p##ends) || NO_POINTER(p##inc))
+
+static fd_answer said(int null)
+{
+    fd_answer answer = {0, 0, 0, 0, 0};
+    answer.no = null ? 99 : 0;
+    return answer;
+}
+
+static fd_number counted(int null)
+{
+    fd_number number = {0, 0};
+    number.no = said(null).no;
+    return number;
+}
+
+/* A name in parentheses is the function's, not the header's macro. */
+#define COUNT(name) \
+    fd_number(name)(SLICE(const uint16_t, counts)) { return counted(NO_POINTER(counts)); }
+#define TEST(name) \
+    fd_answer(name)(LISTING()) { return said(NO_LISTING()); }
+#define PRODUCT(name) \
+    fd_built(name)(LISTING(p_), LISTING(q_), SLICE(uint16_t, counts), SLICE(uint16_t, ends), SLICE(uint16_t, inc)) \
+    { \
+        fd_built built = {{0, 0, 0, 0, 0}, 0, 0, 0}; \
+        built.answer = said(NO_LISTING(p_) || NO_LISTING(q_) || NO_LISTING()); \
+        return built; \
+    }
+
+COUNT(fd_rank)
+COUNT(fd_vertex_count)
+COUNT(fd_facet_count)
+TEST(fd_bounded)
+TEST(fd_check_incidences)
+TEST(fd_is_dyadic)
+TEST(fd_is_valid)
+TEST(fd_closed)
+PRODUCT(fd_duopyramid)
+PRODUCT(fd_duoprism)
+PRODUCT(fd_duotegum)
+PRODUCT(fd_duocomb)
+
+fd_number(fd_el_count)(SLICE(const uint16_t, counts), size_t rank)
+{
+    return counted(NO_POINTER(counts) || rank > 100);
+}
+
+fd_changed(fd_change)(LISTING(), SLICE(const uint16_t, flag), uint16_t r)
+{
+    fd_changed changed = {{0, 0, 0, 0, 0}, {0}};
+    changed.answer = said(NO_LISTING() || NO_POINTER(flag) || r > 100);
+    return changed;
+}
+
+fd_searched(fd_search)(LISTING(), SLICE(const uint16_t, first), uint16_t mask, SLICE(uint16_t, table),
+                       SLICE(uint8_t, orientations))
+{
+    fd_searched searched = {{0, 0, 0, 0, 0}, 0, 0, 0};
+    searched.answer = said(NO_LISTING() || NO_POINTER(first) || NO_POINTER(table) || NO_POINTER(orientations));
+    searched.count = mask;
+    return searched;
+}

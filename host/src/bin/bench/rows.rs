@@ -1,0 +1,131 @@
+//! What is measured: a row for each piece of work, in three groups.
+
+use std::hint::black_box;
+
+use flumedrac::{Listing, MAX_ELEMENTS, MAX_FLAGS, MAX_INCIDENCES, MAX_RANKS};
+use flumedrac_trial::{cells, Kind, Library, Test};
+
+use crate::rust;
+use crate::times::{Summary, Times, Work};
+
+/// Some work: ours, the closed test alone if the work includes it, and the Rust's.
+pub struct Row<'a> {
+    pub name: String,
+    ours: Times<'a>,
+    closed: Option<Times<'a>>,
+    rust: Option<Times<'a>>,
+}
+
+/// What was measured of a row.
+pub struct Measured {
+    pub ours: Summary,
+    pub closed: Option<Summary>,
+    pub rust: Option<Summary>,
+}
+
+impl Row<'_> {
+    /// Each side once; who comes first is for the caller to change from run to run.
+    pub fn measure(&mut self, ours_first: bool) {
+        if ours_first {
+            self.ours.measure();
+        }
+        self.rust.iter_mut().for_each(Times::measure);
+        self.closed.iter_mut().for_each(Times::measure);
+        if !ours_first {
+            self.ours.measure();
+        }
+    }
+
+    pub fn measured(&self) -> Measured {
+        let (closed, rust) = (self.closed.as_ref(), self.rust.as_ref());
+        Measured { ours: self.ours.summary(), closed: closed.map(Times::summary), rust: rust.map(Times::summary) }
+    }
+}
+
+/// Makes the rows of one library.
+#[derive(Clone, Copy)]
+pub struct Rows<'a>(pub &'a dyn Library);
+
+impl<'a> Rows<'a> {
+    fn build(self, name: &str, kind: Kind, p: Listing, q: Listing) -> Row<'a> {
+        let rust = rust::product(kind, &p, &q).map(Times::new);
+        let mut slices = [vec![0; MAX_RANKS], vec![0; 2 * MAX_ELEMENTS], vec![0; MAX_INCIDENCES]];
+        let ours: Work<'a> = Box::new(move |_| {
+            let outputs = slices.each_mut().map(Vec::as_mut_slice);
+            assert_eq!(self.0.product(kind, p.slices(), q.slices(), outputs).answer.no, 0);
+        });
+        Row { name: format!("build {name}"), ours: Times::new(ours), closed: None, rust }
+    }
+
+    fn test(self, test: Test, cell: Listing) -> Times<'a> {
+        Times::new(Box::new(move |_| assert_eq!(self.0.test(test, black_box(cell.slices())).no, 0)))
+    }
+
+    fn valid(self, name: &str, cell: Listing) -> Row<'a> {
+        let rust = rust::valid(&cell).map(Times::new);
+        Row { name: format!("is_valid of {name}"), ours: self.test(Test::IsValid, cell), closed: None, rust }
+    }
+
+    /// A search by all changes of a cell that is orientable and has so many flags.
+    fn search(self, name: &str, cell: Listing, flags: usize) -> Row<'a> {
+        let first = cell.first_flag().expect("a closed cell has flags");
+        let mask = cell.all_changes();
+        let mut table = vec![0; MAX_FLAGS * (cell.rank() + 1)];
+        let mut orientations = vec![0; MAX_FLAGS];
+        let rust = rust::search(&cell, &first, mask, flags).map(Times::new);
+        let closed = Some(self.test(Test::Closed, cell.clone()));
+        let ours: Work<'a> = Box::new(move |_| {
+            let searched = self.0.search(cell.slices(), &first, mask, &mut table, &mut orientations);
+            assert_eq!((searched.answer.no, usize::from(searched.count), searched.orientable), (0, flags, 1));
+        });
+        Row { name: format!("search of {name}, {flags} flags"), ours: Times::new(ours), closed, rust }
+    }
+
+    /// Cells at the limits of the library.
+    pub fn largest(self) -> Vec<Row<'a>> {
+        let polygon = cells::polygon;
+        let prism = |n, m| cells::product(Kind::Duoprism, &polygon(n), &polygon(m));
+        vec![
+            self.build("duoprism(31-gon, 32-gon)", Kind::Duoprism, polygon(31), polygon(32)),
+            self.build("duopyramid(31-gon, 31-gon)", Kind::Duopyramid, polygon(31), polygon(31)),
+            self.build("duocomb(31-gon, 33-gon)", Kind::Duocomb, polygon(31), polygon(33)),
+            self.valid("duoprism(31-gon, 32-gon)", prism(31, 32)),
+            self.valid("the 2047-gon", polygon(2047)),
+            self.search("duoprism(22-gon, 31-gon)", prism(22, 31), 16_368),
+            self.search("the digonal listing of rank 15", cells::digonal(15), 16_384),
+            self.search("the 2047-gon", polygon(2047), 4_094),
+        ]
+    }
+
+    /// Cells as grids have them: built, tested and searched.
+    pub fn usual(self) -> Vec<Row<'a>> {
+        let polygon = cells::polygon;
+        let (point, dyad) = (Listing::point(), Listing::dyad());
+        let made = [
+            ("the tetrahedron", Kind::Duopyramid, polygon(3), point, 24),
+            ("the box", Kind::Duoprism, polygon(4), dyad.clone(), 48),
+            ("the hexagonal prism", Kind::Duoprism, polygon(6), dyad.clone(), 72),
+            ("the 4-box", Kind::Duoprism, cells::cuboid(3), dyad, 384),
+        ];
+        let rows = |(name, kind, p, q, flags)| {
+            let cell = cells::product(kind, &p, &q);
+            [self.build(name, kind, p, q), self.valid(name, cell.clone()), self.search(name, cell, flags)]
+        };
+        made.into_iter().flat_map(rows).collect()
+    }
+
+    /// Cells of the same kind that become larger.
+    pub fn growth(self) -> Vec<Row<'a>> {
+        let prism = |n| {
+            let cell = cells::product(Kind::Duoprism, &cells::polygon(n), &cells::polygon(n));
+            (format!("duoprism({n}-gon, {n}-gon)"), cell, 24 * usize::from(n) * usize::from(n))
+        };
+        let ring = |n| (format!("the {n}-gon"), cells::polygon(n), 2 * usize::from(n));
+        let rows = |(name, cell, flags): (String, Listing, usize)| {
+            let name = format!("{name}, {} incidences", cell.slices().inc.len());
+            [self.valid(&name, cell.clone()), self.search(&name, cell, flags)]
+        };
+        let grown = [3, 6, 13, 26].map(prism).into_iter().chain([255, 511, 1023, 2047].map(ring));
+        grown.flat_map(rows).collect()
+    }
+}

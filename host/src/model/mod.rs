@@ -1,0 +1,273 @@
+//! A plain reading of what the library is to answer, in Rust and unproved.
+//!
+//! It is there to try the harness: without faults it must agree with the Rust files everywhere, and with any one of the
+//! faults in [`Break`] it must be caught. Here are the model, its faults, the counts and the classes; `tests`, `flags`
+//! and `products` have the rest.
+
+mod flags;
+mod products;
+mod tests;
+
+use flumedrac::ffi::{Answer, Built, Changed, Cursor, Event, Number, Searched};
+use flumedrac::Slices;
+
+use crate::library::{Kind, Library, Outputs, Test};
+
+macro_rules! breaks {
+    ($($(#[$doc:meta])* $case:ident $name:literal,)*) => {
+        /// Faults that a model can be given, one at a time.
+        #[derive(Clone, Copy, Debug, PartialEq, Eq)]
+        pub enum Break {
+            $($(#[$doc])* $case,)*
+        }
+
+        impl Break {
+            pub const ALL: &'static [Break] = &[$(Break::$case),*];
+
+            pub fn name(self) -> &'static str {
+                match self {
+                    $(Break::$case => $name,)*
+                }
+            }
+        }
+    };
+}
+
+breaks! {
+    /// Every test refuses.
+    RefusesAll "refuses-all",
+    /// Every test accepts.
+    AcceptsAll "accepts-all",
+    /// Refusal 5 looks at the last end and not at the length of inc.
+    IncidencesByEnds "incidences-by-ends",
+    /// The sum of the counts is made in 16 bits.
+    SumWraps "sum-wraps",
+    /// The last end is not looked at.
+    LastEndFree "last-end-free",
+    /// The classes' first band ends at 8.
+    BandShort "band-short",
+    /// The nullitope has a facet.
+    NullitopeFacet "nullitope-facet",
+    /// Bytes from 2 have the sign of even.
+    SignOfTwo "sign-of-two",
+    /// 13 is answered for 15 and 15 for 13.
+    Exchanged "13-15-exchanged",
+    /// 12 is looked for before the subs.
+    SupsFirst "12-before-subs",
+    /// 13 and 14 ask both lists to hold each other equally often.
+    BackByCount "back-by-count",
+    /// is_dyadic does not look at incidences first.
+    DyadicAlone "dyadic-alone",
+    /// is_dyadic asks for bounds.
+    DyadicBounded "dyadic-bounded",
+    /// The diamond counts an index once for each sub.
+    OccurrencesOnce "occurrences-once",
+    /// 18 names the largest index.
+    LoneLargest "lone-largest",
+    /// Of one element 18 is answered before 17.
+    LoneBeforeThird "lone-before-third",
+    /// closed looks at the diamond as is_valid does.
+    ClosedStopsEarly "closed-stops-early",
+    /// closed does not ask for ascent.
+    AscentNotAsked "ascent-not-asked",
+    /// Equal numbers ascend.
+    AscentNotStrict "ascent-not-strict",
+    /// Sups are looked at before subs for ascent.
+    AscentSupsFirst "ascent-sups-first",
+    /// A flag may be longer than the listing.
+    LongFlag "long-flag",
+    /// A flag's members need not be incident.
+    LooseFlag "loose-flag",
+    /// 21 comes before 20.
+    RanksBeforeFlag "21-before-20",
+    /// A change at the top rank is answered.
+    ChangeAtTop "change-at-top",
+    /// The flag comes back unchanged.
+    NoChange "no-change",
+    /// Changes are taken from the highest bit downward.
+    MaskDownward "mask-downward",
+    /// A new flag has the orientation of the flag it came from.
+    NotFlipped "not-flipped",
+    /// The stored orientation follows a repeat.
+    OrientationFollows "orientation-follows",
+    /// The place is one less.
+    PlaceOneLess "place-one-less",
+    /// The event comes after all flags.
+    EventAtEnd "event-at-end",
+    /// Room is what the table alone holds.
+    RoomByTable "room-by-table",
+    /// A search that fills its room is refused.
+    FullRefused "full-refused",
+    /// A search that has filled its room stops and is accepted.
+    FullStops "full-stops",
+    /// 22 writes nothing.
+    MoreWritesNothing "22-writes-nothing",
+    /// 22 keeps the count.
+    MoreKeepsCount "22-keeps-count",
+    /// The table holds the first flag again and again.
+    OneFlag "one-flag-repeated",
+    /// The flags' limit is one less.
+    FlagsOneLess "flags-one-less",
+    /// The cursor runs on past the last event.
+    CursorRunsOn "cursor-runs-on",
+    /// The cursor gives one event and then none.
+    CursorStops "cursor-stops",
+    /// The event that a cell is not orientable comes one flag late.
+    CursorLate "cursor-late",
+    /// The left factor is asked to be closed.
+    FactorClosed "factor-closed",
+    /// The right factor is not tested.
+    RightUntested "right-untested",
+    /// A duopyramid with the nullitope is the nullitope.
+    PyramidNullitope "pyramid-nullitope",
+    /// A duocomb of a point and a larger listing is 33.
+    CombOfOnePoint "comb-of-one-point",
+    /// A product with 16 ranks is refused.
+    RanksOneLess "33-one-less",
+    /// A product with 4,096 elements is refused.
+    ElementsOneLess "34-one-less",
+    /// A product with 32,768 incidences is refused.
+    IncidencesOneLess "35-one-less",
+    /// 36 before 35.
+    ShortBeforeIncidences "36-before-35",
+    /// 36 writes the counts.
+    ShortWrites "36-writes",
+    /// 36 does not look at the third slice.
+    ShortInc "36-without-inc",
+    /// A product writes one number more than it says.
+    WritesRest "writes-rest",
+    /// A product answers its lengths and writes nothing.
+    WritesNothing "writes-nothing",
+    /// A product is its first factor.
+    FirstFactor "first-factor",
+    /// The duopyramid takes its pairs the other way.
+    PairsSwapped "pairs-swapped",
+    /// The second member's subs come first.
+    SubsOtherOrder "subs-other-order",
+    /// Sups are gathered downward.
+    SupsDownward "sups-downward",
+    /// The sups of a product's pairs are gathered once for each element above.
+    SupsOnce "sups-once",
+    /// The first end is one more.
+    FirstEndMoved "first-end-moved",
+}
+
+/// The model, right or with one fault.
+#[derive(Clone, Copy, Debug, Default)]
+pub struct Model {
+    pub fault: Option<Break>,
+}
+
+/// A refusal, if there is one.
+type Refused = Option<Answer>;
+
+/// An element's subs and sups.
+#[derive(Clone, Copy)]
+struct Element<'a> {
+    subs: &'a [u16],
+    sups: &'a [u16],
+}
+
+/// The elements of each rank.
+type Layers<'a> = Vec<Vec<Element<'a>>>;
+
+fn refuse(no: u16, fields: [usize; 4]) -> Refused {
+    let [a, b, c, d] = fields.map(|x| x as u16);
+    Some(Answer { no, a, b, c, d })
+}
+
+/// The elements of slices that have the right shape.
+fn layers(l: Slices<'_>) -> Layers<'_> {
+    let mut start = 0;
+    let mut ends = l.ends.iter();
+    let mut list = || {
+        let end = *ends.next().expect("two ends for each element") as usize;
+        let list = &l.inc[start..end];
+        start = end;
+        list
+    };
+    l.counts.iter().map(|&count| (0..count).map(|_| Element { subs: list(), sups: list() }).collect()).collect()
+}
+
+impl Model {
+    /// The model with a fault.
+    pub fn broken(fault: Break) -> Self {
+        Self { fault: Some(fault) }
+    }
+
+    fn has(&self, fault: Break) -> bool {
+        self.fault == Some(fault)
+    }
+
+    fn number(&self, counts: &[u16], value: impl Fn(usize) -> usize) -> Number {
+        match counts.len() {
+            0 => Number { no: 1, value: 0 },
+            n => Number { no: 0, value: value(n - 1) },
+        }
+    }
+}
+
+impl Library for Model {
+    fn rank(&self, counts: &[u16]) -> Number {
+        self.number(counts, |rank| rank)
+    }
+
+    fn el_count(&self, counts: &[u16], rank: usize) -> Number {
+        self.number(counts, |_| counts.get(rank).map_or(0, |&count| count as usize))
+    }
+
+    fn vertex_count(&self, counts: &[u16]) -> Number {
+        self.el_count(counts, 1)
+    }
+
+    fn facet_count(&self, counts: &[u16]) -> Number {
+        let facets = |rank: usize| match self.has(Break::NullitopeFacet) {
+            true => rank.saturating_sub(1),
+            false => rank.wrapping_sub(1),
+        };
+        self.number(counts, |rank| self.el_count(counts, facets(rank)).value)
+    }
+
+    fn class(&self, no: u16) -> u16 {
+        match no {
+            9 if self.has(Break::BandShort) => 0,
+            1..=9 => 1,
+            10..=19 => 2,
+            20..=29 => 3,
+            30..=39 => 4,
+            _ => 0,
+        }
+    }
+
+    fn test(&self, test: Test, l: Slices<'_>) -> Answer {
+        match self.fault {
+            Some(Break::AcceptsAll) => Answer::default(),
+            Some(Break::RefusesAll) => Answer { no: 1, ..Answer::default() },
+            _ => self.tested(test, l).unwrap_or_default(),
+        }
+    }
+
+    fn change(&self, l: Slices<'_>, flag: &[u16], r: u16) -> Changed {
+        self.answer_change(l, flag, r)
+    }
+
+    fn search(&self, l: Slices<'_>, first: &[u16], mask: u16, table: &mut [u16], orientations: &mut [u8]) -> Searched {
+        self.answer_search(l, first, mask, table, orientations)
+    }
+
+    fn sign(&self, orientation: u8) -> f64 {
+        match orientation {
+            0 => 1.0,
+            2.. if self.has(Break::SignOfTwo) => 1.0,
+            _ => -1.0,
+        }
+    }
+
+    fn next_event(&self, cursor: &mut Cursor, count: u16, place: u16) -> Event {
+        self.answer_event(cursor, count, place)
+    }
+
+    fn product(&self, kind: Kind, p: Slices<'_>, q: Slices<'_>, outputs: Outputs<'_>) -> Built {
+        self.answer_product(kind, p, q, outputs)
+    }
+}

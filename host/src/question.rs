@@ -1,0 +1,250 @@
+//! One question to a library, and its reply.
+
+use flumedrac::ffi::{Answer, Cursor, Number};
+use flumedrac::{MAX_FLAGS, MAX_RANKS};
+
+use crate::library::{Kind, Library, Test};
+use crate::Raw;
+
+/// What is asked. `L` is a listing, or what holds one.
+#[derive(Clone, Debug)]
+pub enum Question<L> {
+    /// The four counts; the second also has its rank.
+    Rank(Vec<u16>),
+    ElCount(Vec<u16>, usize),
+    VertexCount(Vec<u16>),
+    FacetCount(Vec<u16>),
+    Class(u16),
+    Sign(u8),
+    /// The next event for a cursor, a count and a place.
+    NextEvent(u32, u16, u16),
+    Test(Test, L),
+    Change {
+        cell: L,
+        flag: Vec<u16>,
+        r: u16,
+    },
+    /// A search, with the lengths of the table and of the orientations.
+    Search {
+        cell: L,
+        first: Vec<u16>,
+        mask: u16,
+        table: usize,
+        orientations: usize,
+    },
+    /// The events of a search with all room, by the cursor.
+    Events {
+        cell: L,
+        first: Vec<u16>,
+        mask: u16,
+    },
+    /// A product, with the lengths of the three slices lent.
+    Product {
+        kind: Kind,
+        p: L,
+        q: L,
+        room: [usize; 3],
+    },
+}
+
+/// All that a library said: the numbers it returned and the slices it was lent, as they are afterwards.
+#[derive(Clone, Debug, Default, PartialEq, Eq)]
+pub struct Reply {
+    pub numbers: Vec<i64>,
+    pub slices: Vec<Vec<u16>>,
+    /// Whether anything outside the slices was written.
+    pub spilled: bool,
+}
+
+/// What stands in a lent slice before a call.
+pub const FILL: u16 = 65535;
+/// What stands in lent orientations before a call.
+pub const BYTE_FILL: u8 = 255;
+
+/// How many numbers stand on either side of a lent slice, to see whether it was left. They are odd in number, so that
+/// a slice is aligned as its numbers ask and no better.
+const MARGIN: usize = 3;
+
+/// A slice to lend, full of one number, with a margin of another on either side.
+struct Lent<T>(Vec<T>, T);
+
+impl<T: Copy + PartialEq> Lent<T> {
+    fn new(length: usize, fill: T, margin: T) -> Self {
+        let mut numbers = vec![margin; length + 2 * MARGIN];
+        numbers[MARGIN..][..length].fill(fill);
+        Self(numbers, margin)
+    }
+
+    fn slice(&mut self) -> &mut [T] {
+        let end = self.0.len() - MARGIN;
+        &mut self.0[MARGIN..end]
+    }
+
+    fn spilled(&self) -> bool {
+        let end = self.0.len() - MARGIN;
+        self.0[..MARGIN].iter().chain(&self.0[end..]).any(|x| *x != self.1)
+    }
+}
+
+fn words(length: usize) -> Lent<u16> {
+    Lent::new(length, FILL, 0xA5A5)
+}
+
+fn bytes(length: usize) -> Lent<u8> {
+    Lent::new(length, BYTE_FILL, 0xA5)
+}
+
+/// The numbers of an answer.
+pub fn answer_numbers(answer: Answer) -> Vec<i64> {
+    let Answer { no, a, b, c, d } = answer;
+    [no, a, b, c, d].map(i64::from).to_vec()
+}
+
+impl Reply {
+    pub fn of(numbers: Vec<i64>) -> Self {
+        Self { numbers, ..Self::default() }
+    }
+
+    fn count(number: Number) -> Self {
+        Self::of(vec![number.no.into(), number.value as i64])
+    }
+}
+
+impl<L: AsRef<Raw>> Question<L> {
+    /// What it is called: the function's name, or `events`.
+    pub fn name(&self) -> &'static str {
+        match self {
+            Question::Rank(_) => "rank",
+            Question::ElCount(..) => "el_count",
+            Question::VertexCount(_) => "vertex_count",
+            Question::FacetCount(_) => "facet_count",
+            Question::Class(_) => "class",
+            Question::Sign(_) => "sign",
+            Question::NextEvent(..) => "next_event",
+            Question::Test(test, _) => test.name(),
+            Question::Change { .. } => "change",
+            Question::Search { .. } => "search",
+            Question::Events { .. } => "events",
+            Question::Product { kind, .. } => kind.name(),
+        }
+    }
+
+    /// What a library replies.
+    pub fn ask(&self, library: &dyn Library) -> Reply {
+        match self {
+            Question::Rank(counts) => Reply::count(library.rank(counts)),
+            Question::ElCount(counts, rank) => Reply::count(library.el_count(counts, *rank)),
+            Question::VertexCount(counts) => Reply::count(library.vertex_count(counts)),
+            Question::FacetCount(counts) => Reply::count(library.facet_count(counts)),
+            Question::Class(no) => Reply::of(vec![library.class(*no).into()]),
+            Question::Sign(byte) => Reply::of(vec![sign_number(library.sign(*byte))]),
+            Question::NextEvent(at, count, place) => {
+                let mut cursor = Cursor { at: *at };
+                let event = library.next_event(&mut cursor, *count, *place);
+                Reply::of(vec![event.kind.into(), event.flag.into(), cursor.at.into()])
+            }
+            Question::Test(test, cell) => Reply::of(answer_numbers(library.test(*test, cell.as_ref().slices()))),
+            Question::Change { cell, flag, r } => {
+                let changed = library.change(cell.as_ref().slices(), flag, *r);
+                Reply { numbers: answer_numbers(changed.answer), slices: vec![changed.flag.to_vec()], spilled: false }
+            }
+            Question::Search { cell, first, mask, table, orientations } => {
+                let (mut table, mut orientations) = (words(*table), bytes(*orientations));
+                let (lent, lent_bytes) = (table.slice(), orientations.slice());
+                let searched = library.search(cell.as_ref().slices(), first, *mask, lent, lent_bytes);
+                let mut numbers = answer_numbers(searched.answer);
+                numbers.extend([searched.count, searched.place, searched.orientable.into()].map(i64::from));
+                let spilled = table.spilled() || orientations.spilled();
+                let wide = orientations.slice().iter().map(|&byte| byte.into()).collect();
+                Reply { numbers, slices: vec![table.slice().to_vec(), wide], spilled }
+            }
+            Question::Events { cell, first, mask } => events(library, cell.as_ref(), first, *mask),
+            Question::Product { kind, p, q, room } => {
+                let [mut counts, mut ends, mut inc] = room.map(words);
+                let (p, q) = (p.as_ref().slices(), q.as_ref().slices());
+                let built = library.product(*kind, p, q, [counts.slice(), ends.slice(), inc.slice()]);
+                let mut numbers = answer_numbers(built.answer);
+                numbers.extend([built.counts, built.ends, built.inc].map(i64::from));
+                let spilled = counts.spilled() || ends.spilled() || inc.spilled();
+                let slices = [&mut counts, &mut ends, &mut inc].map(|lent| lent.slice().to_vec()).to_vec();
+                Reply { numbers, slices, spilled }
+            }
+        }
+    }
+}
+
+/// What a library replies to a line: to a question or, after the word `tested`, to a product and then to is_valid and
+/// closed of the listing that it wrote, with the counts of that listing.
+pub fn reply_to(line: &str, library: &dyn Library) -> Option<Reply> {
+    match line.strip_prefix("tested ") {
+        Some(product) => Some(tested(Question::read(product)?.ask(library), library)),
+        None => Some(Question::read(line)?.ask(library)),
+    }
+}
+
+/// A product's reply, with the tests of the listing that it wrote in place of the slices.
+fn tested(product: Reply, library: &dyn Library) -> Reply {
+    let Reply { mut numbers, slices, spilled } = product;
+    let written: Vec<Vec<u16>> =
+        slices.iter().zip(&numbers[5..]).map(|(slice, &length)| slice[..length as usize].to_vec()).collect();
+    let [counts, ends, inc] = <[Vec<u16>; 3]>::try_from(written).expect("a product has three slices");
+    if numbers[0] != 0 {
+        return Reply { numbers, slices: vec![], spilled };
+    }
+    let cell = Raw { counts, ends, inc };
+    for test in [Test::IsValid, Test::Closed] {
+        numbers.extend(answer_numbers(library.test(test, cell.slices())));
+    }
+    Reply { numbers, slices: vec![cell.counts], spilled }
+}
+
+/// 1 or -1 for these two signs, 0 for any other number.
+fn sign_number(sign: f64) -> i64 {
+    match sign.to_bits() {
+        bits if bits == 1f64.to_bits() => 1,
+        bits if bits == (-1f64).to_bits() => -1,
+        _ => 0,
+    }
+}
+
+/// The events of a search one by one: orientation and flag of each flag, and an empty slice for "not orientable".
+fn events(library: &dyn Library, cell: &Raw, first: &[u16], mask: u16) -> Reply {
+    let width = cell.counts.len().clamp(1, MAX_RANKS);
+    let mut table = vec![FILL; MAX_FLAGS * width];
+    let mut orientations = vec![BYTE_FILL; MAX_FLAGS];
+    let searched = library.search(cell.slices(), first, mask, &mut table, &mut orientations);
+    let mut reply = Reply::of(answer_numbers(searched.answer));
+    let mut cursor = Cursor::default();
+    // There is at most one event more than flags: a cursor that does not end is stopped, and seen.
+    for _ in 0..=searched.count as usize + 1 {
+        let event = library.next_event(&mut cursor, searched.count, searched.place);
+        let at = event.flag as usize;
+        match event.kind {
+            0 => break,
+            1 if at < MAX_FLAGS => {
+                let flag = &table[at * width..][..width];
+                reply.slices.push([&[orientations[at].into()], flag].concat());
+            }
+            _ => reply.slices.push(vec![]),
+        }
+    }
+    reply
+}
+
+#[cfg(test)]
+mod tests {
+    use super::*;
+
+    /// A write outside the slice is seen.
+    #[test]
+    fn margins_are_seen() {
+        let mut lent = words(3);
+        lent.slice().fill(7);
+        assert!(!lent.spilled());
+        for at in [MARGIN - 1, MARGIN + 3] {
+            let mut lent = words(3);
+            lent.0[at] = 7;
+            assert!(lent.spilled());
+        }
+    }
+}

@@ -1,0 +1,209 @@
+//! Questions and replies as lines of text, written and read.
+
+use std::fmt::{self, Display, Write};
+
+use crate::library::{Kind, Test};
+use crate::question::{Question, Reply};
+use crate::Raw;
+
+/// Numbers in brackets.
+struct List<'a>(&'a [u16]);
+
+/// Slices of a reply that are longer are written as a digest.
+const LONGEST: usize = 300;
+
+/// A slice of a reply: its numbers in brackets or, if it is long, its length, its sum and its check number in braces.
+struct Digest<'a>(&'a [u16]);
+
+/// The check number of a list: c := (257 c + x + 1) mod 4294967291, from 0, over its numbers x in order.
+fn check_number(list: &[u16]) -> u64 {
+    list.iter().fold(0, |c, &x| (257 * c + u64::from(x) + 1) % 4_294_967_291)
+}
+
+impl Display for Digest<'_> {
+    fn fmt(&self, f: &mut fmt::Formatter<'_>) -> fmt::Result {
+        if self.0.len() <= LONGEST {
+            return write!(f, "{}", List(self.0));
+        }
+        let sum: u64 = self.0.iter().map(|&x| u64::from(x)).sum();
+        write!(f, "{{{} {sum} {}}}", self.0.len(), check_number(self.0))
+    }
+}
+
+impl Display for List<'_> {
+    fn fmt(&self, f: &mut fmt::Formatter<'_>) -> fmt::Result {
+        f.write_char('[')?;
+        for (i, x) in self.0.iter().enumerate() {
+            write!(f, "{}{x}", if i == 0 { "" } else { " " })?;
+        }
+        f.write_char(']')
+    }
+}
+
+impl Display for Raw {
+    fn fmt(&self, f: &mut fmt::Formatter<'_>) -> fmt::Result {
+        write!(f, "{} {} {}", List(&self.counts), List(&self.ends), List(&self.inc))
+    }
+}
+
+impl<L: AsRef<Raw>> Display for Question<L> {
+    fn fmt(&self, f: &mut fmt::Formatter<'_>) -> fmt::Result {
+        write!(f, "{} ", self.name())?;
+        match self {
+            Question::Rank(counts) | Question::VertexCount(counts) | Question::FacetCount(counts) => {
+                write!(f, "{}", List(counts))
+            }
+            Question::ElCount(counts, rank) => write!(f, "{} {rank}", List(counts)),
+            Question::Class(no) => write!(f, "{no}"),
+            Question::Sign(byte) => write!(f, "{byte}"),
+            Question::NextEvent(at, count, place) => write!(f, "{at} {count} {place}"),
+            Question::Test(_, cell) => write!(f, "{}", cell.as_ref()),
+            Question::Change { cell, flag, r } => write!(f, "{} {} {r}", cell.as_ref(), List(flag)),
+            Question::Search { cell, first, mask, table, orientations } => {
+                write!(f, "{} {} {mask} {table} {orientations}", cell.as_ref(), List(first))
+            }
+            Question::Events { cell, first, mask } => write!(f, "{} {} {mask}", cell.as_ref(), List(first)),
+            Question::Product { p, q, room: [counts, ends, inc], .. } => {
+                write!(f, "{} {} {counts} {ends} {inc}", p.as_ref(), q.as_ref())
+            }
+        }
+    }
+}
+
+impl Display for Reply {
+    fn fmt(&self, f: &mut fmt::Formatter<'_>) -> fmt::Result {
+        let numbers: Vec<String> = self.numbers.iter().map(i64::to_string).collect();
+        write!(f, "{}", numbers.join(" "))?;
+        for slice in &self.slices {
+            write!(f, " {}", Digest(slice))?;
+        }
+        if self.spilled {
+            write!(f, " and wrote outside the slices")?;
+        }
+        Ok(())
+    }
+}
+
+/// The words of a line: numbers, and numbers in brackets.
+struct Words<'a>(&'a str);
+
+impl<'a> Words<'a> {
+    fn word(&mut self) -> Option<&'a str> {
+        let rest = self.0.trim_start();
+        let end = match rest.starts_with('[') {
+            true => rest.find(']')? + 1,
+            false => rest.find(' ').unwrap_or(rest.len()),
+        };
+        self.0 = &rest[end..];
+        (end > 0).then_some(&rest[..end])
+    }
+
+    fn number<T: std::str::FromStr>(&mut self) -> Option<T> {
+        self.word()?.parse().ok()
+    }
+
+    /// Numbers in brackets, where `5*3` stands for `5 5 5`.
+    fn list(&mut self) -> Option<Vec<u16>> {
+        let inside = self.word()?.strip_prefix('[')?.strip_suffix(']')?;
+        let mut list = vec![];
+        for item in inside.split_whitespace() {
+            let (number, times) = item.split_once('*').unwrap_or((item, "1"));
+            list.extend(std::iter::repeat_n(number.parse::<u16>().ok()?, times.parse().ok()?));
+        }
+        Some(list)
+    }
+
+    fn raw(&mut self) -> Option<Raw> {
+        Some(Raw { counts: self.list()?, ends: self.list()?, inc: self.list()? })
+    }
+}
+
+impl AsRef<Raw> for Raw {
+    fn as_ref(&self) -> &Raw {
+        self
+    }
+}
+
+impl Question<Raw> {
+    /// Reads what `Display` writes.
+    pub fn read(text: &str) -> Option<Self> {
+        let mut words = Words(text);
+        let name = words.word()?;
+        let question = match name {
+            "rank" => Question::Rank(words.list()?),
+            "el_count" => Question::ElCount(words.list()?, words.number()?),
+            "vertex_count" => Question::VertexCount(words.list()?),
+            "facet_count" => Question::FacetCount(words.list()?),
+            "class" => Question::Class(words.number()?),
+            "sign" => Question::Sign(words.number()?),
+            "next_event" => Question::NextEvent(words.number()?, words.number()?, words.number()?),
+            "change" => Question::Change { cell: words.raw()?, flag: words.list()?, r: words.number()? },
+            "search" => Question::Search {
+                cell: words.raw()?,
+                first: words.list()?,
+                mask: words.number()?,
+                table: words.number()?,
+                orientations: words.number()?,
+            },
+            "events" => Question::Events { cell: words.raw()?, first: words.list()?, mask: words.number()? },
+            _ => match (Test::ALL.iter().find(|t| t.name() == name), Kind::ALL.iter().find(|k| k.name() == name)) {
+                (Some(test), _) => Question::Test(*test, words.raw()?),
+                (_, Some(kind)) => Question::Product {
+                    kind: *kind,
+                    p: words.raw()?,
+                    q: words.raw()?,
+                    room: [words.number()?, words.number()?, words.number()?],
+                },
+                _ => return None,
+            },
+        };
+        words.0.trim().is_empty().then_some(question)
+    }
+}
+
+impl Reply {
+    /// Reads what `Display` writes.
+    pub fn read(text: &str) -> Option<Self> {
+        let mut words = Words(text);
+        let mut reply = Reply::default();
+        while !words.0.trim().is_empty() {
+            match words.0.trim_start().starts_with('[') {
+                true => reply.slices.push(words.list()?),
+                false => reply.numbers.push(words.number()?),
+            }
+        }
+        Some(reply)
+    }
+}
+
+#[cfg(test)]
+mod tests {
+    use super::*;
+    use crate::Model;
+    use flumedrac::Listing;
+
+    /// Questions and replies are read as they were written.
+    #[test]
+    fn text_goes_round() {
+        let cell = || Raw::from(Listing::polygon(3).unwrap());
+        let questions = [
+            Question::ElCount(vec![1, 2, 1], 1),
+            Question::NextEvent(0, 3, 2),
+            Question::Test(Test::Closed, cell()),
+            Question::Change { cell: cell(), flag: vec![0; 4], r: 1 },
+            Question::Search { cell: cell(), first: vec![0; 4], mask: 6, table: 25, orientations: 7 },
+            Question::Events { cell: cell(), first: vec![0; 4], mask: 6 },
+            Question::Product { kind: Kind::Duoprism, p: cell(), q: Raw::default(), room: [0, 1, 2] },
+        ];
+        for question in questions {
+            let text = question.to_string();
+            let reply = question.ask(&Model::default());
+            let read = Question::read(&text).expect("a question");
+            assert_eq!(read.to_string(), text);
+            assert_eq!(read.ask(&Model::default()), reply);
+            assert_eq!(Reply::read(&reply.to_string()), Some(reply));
+        }
+        assert!(Question::read("closed [1] [0 0]").is_none());
+        assert!(Question::read("rank [1] 2").is_none());
+    }
+}
