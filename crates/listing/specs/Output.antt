@@ -1,5 +1,5 @@
--- A listing R written into three lent output slices: whether there is room, what is answered, what the slices then hold.
--- The slices held `old` and hold `new`; r is what is answered.
+-- A listing R written into three lent output slices: whether there is room, what is answered, what they hold then. The
+-- slices held `old` and hold `new`; r is what is answered.
 --
 -- Fits       slices of the lengths c, e and i have room for R
 -- roomTest   36: one of them is too short

@@ -1,5 +1,6 @@
 -- What the four products answer and write. min and max tell the product: duopyramid neither, duoprism min, duotegum
--- max, duocomb both. m are the limits, A is the left factor, B the right one; the output slices held `old` and hold `new`.
+-- max, duocomb both. m are the limits, A is the left factor, B the right one. The output slices held `old` and hold
+-- `new`; r is what is answered.
 --
 -- factorsTest   30 and 31: is_valid refuses the left factor, the right one
 -- restTest      what is tested of valid factors: 32, and then the sizes

@@ -25,7 +25,8 @@ ghost use Rattle.product.specs.Outcome.{restTest, Outcome};
 
 // What a product of these sizes answers once it is written.
 fn written(answer: Answer, s: Sizes) -> Built
-    requires { ⌜ (s .ranks ≤ limits .ranks) × (s .elements ≤ limits .elements) × (s .incidences ≤ limits .incidences) ⌝ }
+    requires { ⌜ (s .ranks ≤ limits .ranks) × (s .elements ≤ limits .elements)
+        × (s .incidences ≤ limits .incidences) ⌝ }
     ensures { λ r. ⌜ ((R : Listing) → Measures R s → answer .no ≡ 0 → r ≡ builtOf answer R) ⌝ }
 {
     Built {
@@ -78,7 +79,8 @@ fn put_nullitope(counts: &mut [Index], ends: &mut [Index], inc: &[Index]) -> Bui
     ensures { λ r. ⌜ Made
         (sizeTest limits nullitope (length (now (counts .entry))) (length (now (ends .entry)))
         (length (now (inc .entry))))
-        nullitope (held (counts .entry) (ends .entry) (inc .entry)) (held (counts .exit) (ends .exit) (inc .entry)) r ⌝ }
+        nullitope (held (counts .entry) (ends .entry) (inc .entry))
+        (held (counts .exit) (ends .exit) (inc .entry)) r ⌝ }
 {
     let s = Sizes {
         ranks: 1,

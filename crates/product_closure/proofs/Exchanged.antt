@@ -13,7 +13,8 @@ use Rattle.product_pairs.specs.Sound.{Sound}
 use Rattle.product_pairs.specs.Product.{productOf}
 use Rattle.product_closure.specs.Result.{firstFactor, secondFactor, nullCase, combCase, resultOf}
 use Rattle.product_closure.specs.Sizes.{Sizes, sizesOf}
-use Rattle.product_closure.proofs.Sizes.{productOf-ranks, productOf-elements, productOf-ends, productOf-incidences}
+use Rattle.product_closure.proofs.Sizes.{productOf-ranks, productOf-elements, productOf-ends}
+use Rattle.product_closure.proofs.Sizes.{productOf-incidences}
 use Rattle.product_closure.proofs.Results.{result-product, result-null, null-exchanged, exchanged, both}
 
 -- Two listings of the same sizes.

@@ -21,15 +21,17 @@ use Rattle.product_pairs.proofs.ProductEnds.{product-max-size, product-max, pro
 use Rattle.product_pairs.proofs.ProductSwap.{product-swap, product-swap-pair, product-swap-min, product-swap-max}
 use Rattle.product_closure.specs.Result.{firstFactor, secondFactor, nullCase, resultOf}
 use Rattle.product_closure.specs.Pairs.{InnerPair, placeOf, Matched, LowEnd, HighEnd, Swapped}
-use Rattle.product_closure.proofs.Alike.{alike-exists, alike-used, alike-listed, alike-renumbered, productOf-alike}
+use Rattle.product_closure.proofs.Alike.{alike-exists, alike-used, alike-listed, alike-renumbered}
+use Rattle.product_closure.proofs.Alike.{productOf-alike}
 use Rattle.product_closure.proofs.Results.{result-product, null-exchanged, exchanged, both}
 
 -- ---- the product of two listings
 
 module _ (min max : Bool) (A B : Listing) (sA : Sound (layers A)) (sB : Sound (layers B)) where
   -- where a pair in use stands there is an element
-  used : (x : El × El) → InnerPair min max A B x → Used min max (productLayers min max A B) (placeOf min max A B x)
-  used = at-used min max (layers A) (layers B) (layers-topped A) (layers-topped B) sA sB
+  pub place-used : (x : El × El) → InnerPair min max A B x
+      → Used min max (productLayers min max A B) (placeOf min max A B x)
+  place-used = at-used min max (layers A) (layers B) (layers-topped A) (layers-topped B) sA sB
 
   productOf-matched : Matched min max A B (productOf min max A B)
   productOf-matched =
@@ -37,7 +39,7 @@ module _ (min max : Bool) (A B : Listing) (sA : Sound (layers A)) (sB : Sound (l
       let tB = layers-topped B in
       let k = productOf-alike min max A B in
       record {
-        there = λ x u. alike-used k min max _ .1 (used x u);
+        there = λ x u. alike-used k min max _ .1 (place-used x u);
         once = at-one min max (layers A) (layers B) tA tB sA sB;
         all = λ y i. at-onto min max (layers A) (layers B) tA tB sA sB y (alike-used k min max y .0 i);
         ranks = at-rank min max (layers A) (layers B);
@@ -45,7 +47,8 @@ module _ (min max : Bool) (A B : Listing) (sA : Sound (layers A)) (sB : Sound (l
             rw (k .same-size (y .0), k .same-top)
             (product-kinds min max (layers A) (layers B) y (alike-exists k y .0 e));
         under = λ x y p q.
-            Iff·trans (alike-listed k _ _ (used y q .0)) (at-under min max (layers A) (layers B) tA tB sA sB x y p q);
+            Iff·trans (alike-listed k _ _ (place-used y q .0))
+            (at-under min max (layers A) (layers B) tA tB sA sB x y p q);
       }
 
 module _ (max : Bool) (A B : Listing) (sA : Sound (layers A)) (sB : Sound (layers B)) where
@@ -55,7 +58,8 @@ module _ (max : Bool) (A B : Listing) (sA : Sound (layers A)) (sB : Sound (layer
       record {
         one = k .same-size 0 ∙ product-min-size max (layers A) (layers B);
         pairs = λ x u.
-            Iff·trans (alike-listed k _ _ (used true max A B sA sB x u .0)) (product-min max (layers A) (layers B) x u);
+            Iff·trans (alike-listed k _ _ (place-used true max A B sA sB x u .0))
+            (product-min max (layers A) (layers B) x u);
         no-other = λ y e l.
             let h = alike-exists k y .0 e in
             alike-used k true max y .1 (product-min-only max (layers A) (layers B) y h (alike-listed k _ y h .0 l));
@@ -123,7 +127,8 @@ module _ (min max : Bool) (A B : Listing) (sA : Sound (layers A)) (sB : Sound (l
       (productOf-matched min max (firstFactor min A B) (secondFactor min A B) (sound .0) (sound .1))
 
   -- Exchanging the factors only swaps the pairs.
-  pub result-swapped : Swapped min max (firstFactor min A B) (secondFactor min A B) (resultOf min max A B) (resultOf min max B A)
+  pub result-swapped : Swapped min max (firstFactor min A B) (secondFactor min A B) (resultOf min max A B)
+      (resultOf min max B A)
   result-swapped =
       let F = firstFactor min A B in
       let S = secondFactor min A B in

@@ -79,17 +79,19 @@ unfolding nullCase
 null-exchanged min max A B = ap (λ t. (min || max) && t) (or-comm (eqb (rank A) 0) (eqb (rank B) 0))
 
 -- what both factors have, the first and the second have
-pub both : (P : Listing → Type 0) (min : Bool) (A B : Listing) → P A → P B → P (firstFactor min A B) × P (secondFactor min A B)
+pub both : (P : Listing → Type 0) (min : Bool) (A B : Listing) → P A → P B
+    → P (firstFactor min A B) × P (secondFactor min A B)
 both P true A B a b = (a, b)
 both P false A B a b = (b, a)
 
 -- what holds of the second and the first factor holds of the first and the second of the exchanged ones
-pub exchanged : (P : Listing → Listing → Type 0) (min : Bool) (A B : Listing) → P (secondFactor min A B) (firstFactor min A B)
-    → P (firstFactor min B A) (secondFactor min B A)
+pub exchanged : (P : Listing → Listing → Type 0) (min : Bool) (A B : Listing)
+    → P (secondFactor min A B) (firstFactor min A B) → P (firstFactor min B A) (secondFactor min B A)
 exchanged P true A B p = p
 exchanged P false A B p = p
 
-pub both-ranks : (min : Bool) (A B : Listing) → rank (firstFactor min A B) + rank (secondFactor min A B) ≡ rank A + rank B
+pub both-ranks : (min : Bool) (A B : Listing)
+    → rank (firstFactor min A B) + rank (secondFactor min A B) ≡ rank A + rank B
 both-ranks true A B = refl
 both-ranks false A B = omega arith
 

@@ -50,7 +50,8 @@ module _ (min max : Bool) (A B : Layers) where
   unfolding layerProduct sizesOf
   product-ranks = ap suc (grown-top min max (usedPairs min max A B))
 
-  product-elements : sum (layerProduct min max A B .size) (suc (layerProduct min max A B .top)) ≡ sizesOf min max A B .elements
+  product-elements : sum (layerProduct min max A B .size) (suc (layerProduct min max A B .top))
+      ≡ sizesOf min max A B .elements
   unfolding allElements sizesOf
   product-elements =
       product-count min max A B

@@ -1,8 +1,8 @@
 -- Which product of two listings each of the four is. min and max tell them apart: duopyramid neither, duoprism min,
 -- duotegum max, duocomb both. A is the left factor, B the right one.
 --
--- firstFactor, secondFactor   the factor that gives the first, the second members of the pairs: the left one first where
---              min is set, else the right one
+-- firstFactor, secondFactor   the factor that gives the first, the second members of the pairs: the left one gives the
+--              first where min is set, else the right one does
 -- nullCase     a factor of rank 0, for all but the duopyramid
 -- combCase     the duocomb with a factor of rank 1, and none of rank 0
 -- resultOf     the product: the nullitope in the null case, else that of the pairs

@@ -22,7 +22,8 @@ use Rattle.product_pairs.proofs.Trimmed.{lowered, raised, trimmed-toppe
 use Rattle.product_pairs.proofs.Trimmed.{trimmed-order, trimmed-order-to}
 use Rattle.product_pairs.proofs.Positions.{paired-topped}
 use Rattle.product_pairs.proofs.Paired.{paired-sound, paired-sorted, paired-order, paired-order-to}
-use Rattle.product_pairs.proofs.Grown.{grown-topped, grown-sound, grown-sorted, grown-top, grown-order, grown-inside}
+use Rattle.product_pairs.proofs.Grown.{grown-topped, grown-sound, grown-sorted, grown-top, grown-order}
+use Rattle.product_pairs.proofs.Grown.{grown-inside}
 use Rattle.product_pairs.proofs.Grown.{grown-addedMin, grown-addedMax}
 
 -- A pair of elements, as one of what is left of the factors.

@@ -15,7 +15,8 @@ use Rattle.product_pairs.specs.Sound.{Sound, Listed}
 use Rattle.product_pairs.specs.Trimmed.{bit, Used}
 use Rattle.product_pairs.specs.Paired.{El, position}
 use Rattle.product_pairs.specs.Product.{usedPairs, layerProduct, UsedPair, at}
-use Rattle.product_pairs.proofs.Grown.{grown-top, grown-min-size, grown-min-listed, grown-max-size, grown-max-listed}
+use Rattle.product_pairs.proofs.Grown.{grown-top, grown-min-size, grown-min-listed, grown-max-size}
+use Rattle.product_pairs.proofs.Grown.{grown-max-listed}
 use Rattle.product_pairs.proofs.Product.{product-topped}
 use Rattle.product_pairs.proofs.ProductPairs.{at-used}
 
@@ -46,8 +47,8 @@ module _ (max : Bool) (A B : Layers) where
       (lowest-pair (x .0 .0) (x .1 .0) (u .0 .1) (u .1 .1))
 
   -- and under nothing that is not a pair (at-onto says which)
-  pub product-min-only : (y : El) → y .1 < layerProduct true max A B .size (y .0) → Listed (layerProduct true max A B) (0, 0) y
-      → Used true max (layerProduct true max A B) y
+  pub product-min-only : (y : El) → y .1 < layerProduct true max A B .size (y .0)
+      → Listed (layerProduct true max A B) (0, 0) y → Used true max (layerProduct true max A B) y
   unfolding layerProduct
   product-min-only y e l = (e, omega (arith, l .0), omega (arith, l .0, grown-top true max (usedPairs true max A B)))
 
@@ -69,7 +70,8 @@ module _ (min : Bool) (A B : Layers) where
 
   -- and over nothing that is not a pair
   pub product-max-only : (y : El) → y .1 < layerProduct min true A B .size (y .0)
-      → Listed (layerProduct min true A B) y (layerProduct min true A B .top, 0) → Used min true (layerProduct min true A B) y
+      → Listed (layerProduct min true A B) y (layerProduct min true A B .top, 0)
+      → Used min true (layerProduct min true A B) y
   unfolding layerProduct
   product-max-only y e l =
       let h = grown-top min true (usedPairs min true A B) in

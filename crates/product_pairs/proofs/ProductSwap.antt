@@ -63,7 +63,8 @@ product-swap-min max A B tA tB sA sB =
     ∙ product-order-min max B A tB tA sB sA
 
 pub product-swap-max : (min : Bool) (A B : Layers) (tA : Topped A) (tB : Topped B) (sA : Sound A) (sB : Sound B)
-    → product-swap min true A B tA tB sA sB .to (layerProduct min true A B .top, 0) ≡ (layerProduct min true B A .top, 0)
+    → product-swap min true A B tA tB sA sB .to (layerProduct min true A B .top, 0)
+    ≡ (layerProduct min true B A .top, 0)
 product-swap-max min A B tA tB sA sB =
     let W = InUse min true (order A) (order B) in
     ap (product-swap min true A B tA tB sA sB .to) (sym (product-order-max min A B tA tB sA sB))

@@ -16,7 +16,8 @@ use Rattle.listing.specs.Layers.{Layers, Topped, order}
 use Rattle.listing.proofs.Layers.{order-ranked}
 use Rattle.product_pairs.specs.Sound.{Sound, Sorted, Listed}
 use Rattle.product_pairs.specs.Trimmed.{bit, trimSize, trimUnder, trimmed, Used}
-use Rattle.product_pairs.proofs.Kept.{whole, kept-whole, whole-kept, kept-top, kept-exists, kept-rank, kept-under}
+use Rattle.product_pairs.proofs.Kept.{whole, kept-whole, whole-kept, kept-top, kept-exists, kept-rank}
+use Rattle.product_pairs.proofs.Kept.{kept-under}
 
 -- An element with its rank counted from the lowest in use, and back.
 abbrev pub lowered : Bool → ℕ × ℕ → ℕ × ℕ

@@ -34,7 +34,7 @@ pub starred : map answered table ≡ table
 unfolding decLt has occurs choose sum place _orElse_ firstIn firstFor firstOf before entries fills shapeTest gather
     derived joined numbers listAt nth written boundedTest entryTest alongTest elementTest incidencesTest climbs
     elementAscent ascentTest subsOfAll thirdTest seenAfter loneTest sectionsTest dyadicTest isValid closed trimSize
-    trimUnder block offset position pairOf pairAt leftSubs rightSubs upTo minSize minUnder maxSize maxUnder layerProduct
-    productOf nullCase combCase resultOf roomTest sizeTest factorsTest restTest productTest every flagAt flagTest startTest
-    common other between changeAt padded changeTest changedOf answered
+    trimUnder block offset position pairOf pairAt leftSubs rightSubs upTo minSize minUnder maxSize maxUnder
+    layerProduct productOf nullCase combCase resultOf roomTest sizeTest factorsTest restTest productTest every flagAt
+    flagTest startTest common other between changeAt padded changeTest changedOf answered
 starred = refl
