@@ -9,4 +9,5 @@ pub mod Written
 pub mod Broken
 pub mod Among
 pub mod ShapeBroken
+pub mod Clear
 pub mod Output

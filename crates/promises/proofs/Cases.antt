@@ -1,14 +1,11 @@
--- Classes, orientations and events by their numbers.
+-- Orientations and events by their numbers.
 -- Assumes nothing.
 use mathlib.Core.Path.{_≡_, refl, ap, _∙_}
-use mathlib.Core.Logic.{inl, inr}
 use mathlib.Core.List.{List, [], _∷_, _++_, map}
 use Prim.Native.Nat.{ℕ, _+_, _-_, _≤_}
 use native.Mathlib.Omega.{arith}
 use borrow.Author.Tests.{eq-eqb, ne-eqb}
 use lib.ListN.{length, replicate}
-use Rattle.listing.specs.Refusals.{band, bandNo}
-use Rattle.listing.proofs.Bands.{band-shape, band-structure, band-flags, band-products, band-over, band-none}
 use Rattle.flag.specs.declared.Orientation.{Orientation}
 use Rattle.flag.specs.declared.Orientation.the-variants.{Even, Odd}
 use Rattle.search_events.specs.declared.Event.{Event}
@@ -17,17 +14,7 @@ use Rattle.search_events.specs.declared.Said.{Said}
 use Rattle.flag.specs.Orientations.{byteOf, ofByte, flipOf, signOf}
 use Rattle.search_events.specs.Events.{events, nextAt, eventsOf, taken, saidOf, Stepped, SaidStep}
 use Rattle.search_events.proofs.EventsTaken.{all-taken, past-last}
-use Rattle.promises.specs.Cases.{ClassOf, SignAt, ByteFor, Calls}
-
-pub class-of : (n : ℕ) → ClassOf n (bandNo (band n))
-unfolding bandNo
-class-of n = record {
-  shape = λ l h. ap bandNo (band-shape n l h);
-  structure = λ l h. ap bandNo (band-structure n l h);
-  flags = λ l h. ap bandNo (band-flags n l h);
-  products = λ l h. ap bandNo (band-products n l h);
-  none = elim [ inl e ↦ ap bandNo (band-none n (omega arith)) | inr h ↦ ap bandNo (band-over n h) ];
-}
+use Rattle.promises.specs.OfFlags.{SignAt, ByteFor, Calls}
 
 -- ---- orientations
 

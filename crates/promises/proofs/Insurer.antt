@@ -17,8 +17,8 @@ use Rattle.valid.specs.Tests.{isValid, closed}
 use Rattle.valid.proofs.ClosedExact.{closed-exact, closed-is-valid-and}
 use Rattle.product_closure.specs.Result.{HighEnough}
 use Rattle.product.specs.Outcome.{Outcome}
-use Rattle.promises.specs.Starred.{leakingBox, Row, answered, table}
-use Rattle.promises.specs.Starred.Row.{tested, built, refused, changed}
+use Rattle.promises.specs.Starred.{leakingBox, Row, answered, tried}
+use Rattle.promises.specs.Starred.Row.{tested, combined, refused, changed}
 use Rattle.promises.proofs.Produced.{outcome-kept}
 use Rattle.promises.proofs.Starred.{starred}
 
@@ -27,19 +27,19 @@ use Rattle.promises.proofs.Starred.{starred}
 -- what stands in a row of the table for is_valid and for closed
 abbrev validIn : Row → Answer
 validIn (tested L v c) = v
-validIn (built min max A B a R v c) = v
+validIn (combined min max A B a R v c) = v
 validIn (refused min max A B a) = a
 validIn (changed L f r c) = c .answer
 
 abbrev closedIn : Row → Answer
 closedIn (tested L v c) = c
-closedIn (built min max A B a R v c) = c
+closedIn (combined min max A B a R v c) = c
 closedIn (refused min max A B a) = a
 closedIn (changed L f r c) = c .answer
 
-last : map answered table ≡ table → answered (tested leakingBox fine (refusal loneBetween 2 0 4 0))
+last : map answered tried ≡ tried → answered (tested leakingBox fine (refusal loneBetween 2 0 4 0))
     ≡ tested leakingBox fine (refusal loneBetween 2 0 4 0)
-last e = ap (λ rows. getD rows 18 (tested leakingBox fine fine)) e
+last e = ap (λ rows. getD rows 21 (tested leakingBox fine fine)) e
 
 -- The cell: is_valid accepts it, and closed says of edge 0 that only one face lies between it and the cell.
 pub let-through : (isValid limits leakingBox ≡ fine) × (closed limits leakingBox ≡ refusal loneBetween 2 0 4 0)

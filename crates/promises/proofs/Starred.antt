@@ -27,10 +27,10 @@ use Rattle.order.specs.Tests.{every}
 use Rattle.flag_change.specs.Flags.{flagAt, flagTest, startTest}
 use Rattle.flag_change.specs.Change.{common, other, between, changeAt, padded}
 use Rattle.flag.specs.Changed.{changeTest, changedOf}
-use Rattle.promises.specs.Starred.{answered, table}
+use Rattle.promises.specs.Starred.{answered, tried}
 
 -- Computing each row of the table gives the answers that stand in it.
-pub starred : map answered table ≡ table
+pub starred : map answered tried ≡ tried
 unfolding decLt has occurs choose sum place _orElse_ firstIn firstFor firstOf before entries fills shapeTest gather
     derived joined numbers listAt nth written boundedTest entryTest alongTest elementTest incidencesTest climbs
     elementAscent ascentTest subsOfAll thirdTest seenAfter loneTest sectionsTest dyadicTest isValid closed trimSize

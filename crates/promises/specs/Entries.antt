@@ -1,6 +1,5 @@
--- How a promise speaks of a public function: through P, the reading of its contract that the prover makes from the
--- source. P k a b x says that the contract admits the answer b and the parameters x at exit for the arguments a; k are
--- the lifetimes.
+-- How a promise speaks of an entry: through P, the reading of its contract that the prover makes from the source. P k a
+-- b x says that the contract admits the answer b and the parameters x at exit for the arguments a; k are the lifetimes.
 --
 -- Takes       the contract asks nothing: R k a, the reading of what it asks of a caller, holds for any arguments
 -- Says        whatever the contract admits has a property of arguments, answer and exit

@@ -4,22 +4,25 @@
 -- otherSquare   the same with the edges {0,2}, {1,2}, {0,3}, {1,3}
 -- fourOnTop     four vertices under the top
 -- threePyramid  the duopyramid of three vertices under a top with a point: an edge with three vertices
+-- prism         the duoprism of the dyad with the triangle, in this order
+-- twiceListed   an edge whose only vertex stands twice among its subs
+-- twicePyramid  the duopyramid of that with a point
 -- leakingBox    the insurer's cell: a box whose edge 0 is doubled as edge 12, each of the two in one face
 -- Row           a row of the table: what is tried, and what is answered
 -- tested        a listing; what is_valid answers, what closed answers
--- built         a product of two listings, with just the room that it takes; what it answers, the listing that it is,
+-- combined      a product of two listings, with just the room that it takes; what it answers, the listing that it is,
 --               and what the two tests answer of that
 -- refused       a product without any room; what it answers
 -- changed       a listing, a flag and a rank; what the change answers
 -- to            a change that is answered with a flag
 -- answered      the row with the answers that computing gives
--- table         the rows
+-- tried         the rows; beside each name of a refusal stands its number
 use mathlib.Core.Bool.{Bool, true, false}
 use mathlib.Core.List.{List, [], _∷_}
 use Prim.Native.Nat.{ℕ}
 use lib.ListN.{length}
 use Rattle.listing.specs.declared.Answer.{Answer}
-use Rattle.listing.specs.Refusals.{noRanks, notBounded, subNotBack, thirdBetween, loneBetween, combOfPoint}
+use Rattle.listing.specs.Refusals.{noRanks, notBounded, subNotBack, thirdBetween, loneBetween, notAscending, combOfPoint}
 use Rattle.listing.specs.Answers.{refusal, plain, fine}
 use Rattle.listing.specs.Listing.{Listing, listing, limits}
 use Rattle.listing.specs.Cells.{nullitope, point, dyad, triangle, nothing, twoMinimal, threeOnTop, oneOnTop, struck}
@@ -57,6 +60,31 @@ threePyramid =
     (0 ∷ 1 ∷ 2 ∷ 3 ∷ 0 ∷ 0 ∷ 1 ∷ 0 ∷ 0 ∷ 2 ∷ 0 ∷ 0 ∷ 3 ∷ 0 ∷ 1 ∷ 2 ∷ 3 ∷
     0 ∷ 1 ∷ 2 ∷ 0 ∷ 0 ∷ 3 ∷ 0 ∷ 1 ∷ 3 ∷ 0 ∷ 2 ∷ 3 ∷ 0 ∷ 0 ∷ 1 ∷ 2 ∷ 3 ∷ [])
 
+abbrev pub prism : Listing
+prism =
+    listing
+    (1 ∷ 6 ∷ 9 ∷ 5 ∷ 1 ∷ [])
+    (0 ∷ 6 ∷ 7 ∷ 10 ∷ 11 ∷ 14 ∷ 15 ∷ 18 ∷ 19 ∷ 22 ∷ 23 ∷ 26 ∷ 27 ∷ 30 ∷ 32 ∷ 34 ∷ 36 ∷ 38 ∷ 40 ∷ 42 ∷ 44 ∷ 46 ∷ 48 ∷
+    50 ∷ 52 ∷ 54 ∷ 56 ∷ 58 ∷ 60 ∷ 62 ∷ 64 ∷ 66 ∷ 69 ∷ 70 ∷ 73 ∷ 74 ∷ 78 ∷ 79 ∷ 83 ∷ 84 ∷ 88 ∷ 89 ∷ 94 ∷ 94 ∷ [])
+    (0 ∷ 1 ∷ 2 ∷ 3 ∷ 4 ∷ 5 ∷ 0 ∷ 0 ∷ 1 ∷ 6 ∷ 0 ∷ 0 ∷ 2 ∷ 7 ∷ 0 ∷ 1 ∷ 2 ∷ 8 ∷ 0 ∷ 3 ∷ 4 ∷ 6 ∷ 0 ∷ 3 ∷ 5 ∷ 7 ∷ 0 ∷ 4 ∷
+    5 ∷ 8 ∷ 0 ∷ 1 ∷ 0 ∷ 2 ∷ 0 ∷ 2 ∷ 0 ∷ 3 ∷ 1 ∷ 2 ∷ 0 ∷ 4 ∷ 3 ∷ 4 ∷ 1 ∷ 2 ∷ 3 ∷ 5 ∷ 1 ∷ 3 ∷ 4 ∷ 5 ∷ 1 ∷ 4 ∷ 0 ∷ 3 ∷ 2
+    ∷ 3 ∷ 1 ∷ 4 ∷ 2 ∷ 4 ∷ 2 ∷ 5 ∷ 3 ∷ 4 ∷ 0 ∷ 1 ∷ 2 ∷ 0 ∷ 3 ∷ 4 ∷ 5 ∷ 0 ∷ 0 ∷ 3 ∷ 6 ∷ 7 ∷ 0 ∷ 1 ∷ 4 ∷ 6 ∷ 8 ∷ 0 ∷ 2 ∷
+    5 ∷ 7 ∷ 8 ∷ 0 ∷ 0 ∷ 1 ∷ 2 ∷ 3 ∷ 4 ∷ [])
+
+abbrev pub twiceListed : Listing
+twiceListed =
+    listing
+    (1 ∷ 1 ∷ 1 ∷ 1 ∷ [])
+    (0 ∷ 1 ∷ 2 ∷ 4 ∷ 6 ∷ 7 ∷ 8 ∷ 8 ∷ [])
+    (0 ∷ 0 ∷ 0 ∷ 0 ∷ 0 ∷ 0 ∷ 0 ∷ 0 ∷ [])
+
+abbrev pub twicePyramid : Listing
+twicePyramid =
+    listing
+    (1 ∷ 2 ∷ 2 ∷ 2 ∷ 1 ∷ [])
+    (0 ∷ 2 ∷ 3 ∷ 6 ∷ 7 ∷ 8 ∷ 10 ∷ 12 ∷ 14 ∷ 16 ∷ 17 ∷ 18 ∷ 21 ∷ 22 ∷ 24 ∷ 24 ∷ [])
+    (0 ∷ 1 ∷ 0 ∷ 0 ∷ 0 ∷ 1 ∷ 0 ∷ 1 ∷ 0 ∷ 0 ∷ 0 ∷ 1 ∷ 0 ∷ 1 ∷ 1 ∷ 1 ∷ 0 ∷ 0 ∷ 0 ∷ 1 ∷ 1 ∷ 0 ∷ 0 ∷ 1 ∷ [])
+
 abbrev pub leakingBox : Listing
 leakingBox =
     listing
@@ -72,15 +100,15 @@ leakingBox =
 
 pub data Row : Type 0 where
   tested : Listing → Answer → Answer → Row
-  built : Bool → Bool → Listing → Listing → Answer → Listing → Answer → Answer → Row
+  combined : Bool → Bool → Listing → Listing → Answer → Listing → Answer → Answer → Row
   refused : Bool → Bool → Listing → Listing → Answer → Row
   changed : Listing → List ℕ → ℕ → Changed → Row
 
 unfoldable pub answered : Row → Row
 answered (tested L v c) = tested L (isValid limits L) (closed limits L)
-answered (built min max A B a R v c) =
+answered (combined min max A B a R v c) =
     let P = resultOf min max A B in
-    built min max A B (productTest limits min max A B (length (P .counts)) (length (P .ends)) (length (P .inc)))
+    combined min max A B (productTest limits min max A B (length (P .counts)) (length (P .ends)) (length (P .inc)))
     P (isValid limits P) (closed limits P)
 answered (refused min max A B a) = refused min max A B (productTest limits min max A B 0 0 0)
 answered (changed L f r c) = changed L f r (changedOf limits L f r)
@@ -88,24 +116,39 @@ answered (changed L f r c) = changed L f r (changedOf limits L f r)
 abbrev pub to : List ℕ → Changed
 to f = record { answer = fine; flag = padded f }
 
-abbrev pub table : List Row
-table =
+abbrev pub tried : List Row
+tried =
     tested nullitope fine fine ∷
     tested point fine fine ∷
     tested dyad fine fine ∷
     tested triangle fine fine ∷
+    -- noRanks is 1
     tested nothing (plain noRanks) (plain noRanks) ∷
+    -- notBounded is 10
     tested twoMinimal (refusal notBounded 2 1 0 0) (refusal notBounded 2 1 0 0) ∷
+    -- thirdBetween is 17
     tested threeOnTop fine (refusal thirdBetween 0 0 2 0) ∷
+    -- loneBetween is 18
     tested oneOnTop fine (refusal loneBetween 0 0 2 0) ∷
+    -- subNotBack is 13
     tested struck (refusal subNotBack 2 1 0 0) (refusal subNotBack 2 1 0 0) ∷
-    built true false dyad dyad fine square fine fine ∷
-    built false false dyad point fine triangle fine fine ∷
-    built true false nullitope triangle fine nullitope fine fine ∷
-    built false true dyad dyad fine otherSquare fine fine ∷
-    built true true dyad dyad fine fourOnTop fine (refusal thirdBetween 0 0 2 0) ∷
-    built false false threeOnTop point fine threePyramid (refusal thirdBetween 0 0 2 0) (refusal thirdBetween 0 0 2 0) ∷
+    -- notAscending is 19
+    tested twiceListed fine (refusal notAscending 1 0 1 0) ∷
+    combined true false dyad dyad fine square fine fine ∷
+    combined true false dyad triangle fine prism fine fine ∷
+    combined false false dyad point fine triangle fine fine ∷
+    combined true false nullitope triangle fine nullitope fine fine ∷
+    combined false true dyad dyad fine otherSquare fine fine ∷
+    -- 17 again: four vertices under the top
+    combined true true dyad dyad fine fourOnTop fine (refusal thirdBetween 0 0 2 0) ∷
+    -- 17, below the top too
+    combined false false threeOnTop point fine threePyramid (refusal thirdBetween 0 0 2 0) (refusal thirdBetween 0 0 2 0) ∷
+    -- 17 by occurrences, and 19
+    combined false false twiceListed point fine twicePyramid (refusal thirdBetween 1 0 3 1)
+    (refusal notAscending 1 0 1 0) ∷
+    -- combOfPoint is 32
     refused true true point point (plain combOfPoint) ∷
     changed triangle (0 ∷ 0 ∷ 0 ∷ 0 ∷ []) 1 (to (0 ∷ 1 ∷ 0 ∷ 0 ∷ [])) ∷
     changed triangle (0 ∷ 0 ∷ 0 ∷ 0 ∷ []) 2 (to (0 ∷ 0 ∷ 1 ∷ 0 ∷ [])) ∷
+    -- the insurer's cell: 18
     tested leakingBox fine (refusal loneBetween 2 0 4 0) ∷ []

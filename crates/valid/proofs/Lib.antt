@@ -3,3 +3,4 @@ pub mod AscentExact
 pub mod ClosedExact
 pub mod TestNumbers
 pub mod TestsBroken
+pub mod TestsClear

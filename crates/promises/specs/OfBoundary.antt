@@ -1,9 +1,11 @@
--- The C boundary: what the contract of an fd_ function admits, that of its entry admits too, for the same arguments, so
--- that all that is promised of the entry holds of it. Three of them cross as numbers: the class, the sign, the next
--- event. The last is said of `SaidStep` and `Stepped`, of which the two contracts consist: they are lent a record, a
--- form of which the prover makes no reading.
+-- What is promised of the functions for C: what the contract of an fd_ function admits, that of its entry admits too, for
+-- the same arguments, so that all that is promised of the entry holds of it. Three of them cross as numbers: the class,
+-- the sign, the next event. The last is said of `SaidStep` and `Stepped`, of which the two contracts consist: they are
+-- lent a record, a form of which the prover makes no reading (proofs/Cursor.antt).
 --
--- Boundary  each fd_ function answers and writes as its entry does
+-- BoundaryTaken   any slices and numbers are taken
+-- Boundary        each fd_ function answers and writes as its entry does
+-- BoundaryOnce    no second answer fits
 use mathlib.Core.Path.{_≡_}
 use Prim.Native.Nat.{ℕ}
 use Rattle.listing.specs.Refusals.{bandNo}
@@ -45,7 +47,17 @@ use Rattle.flumedrac.proofs.fd_duopyramid.Reads as fd-duopyramid
 use Rattle.flumedrac.proofs.fd_duoprism.Reads as fd-duoprism
 use Rattle.flumedrac.proofs.fd_duotegum.Reads as fd-duotegum
 use Rattle.flumedrac.proofs.fd_duocomb.Reads as fd-duocomb
-use Rattle.promises.specs.Entries.{SaysOfTwo, PassesOn}
+use Rattle.promises.specs.Entries.{Takes, SaysOfTwo, PassesOn, OneAnswer, OneOutcome, outputs, tables}
+
+pub record BoundaryTaken : Type 0 where
+  -- counts, classes and tests
+  pub tests : Takes fd-rank.Asked × Takes fd-el-count.Asked × Takes fd-vertex-count.Asked × Takes fd-facet-count.Asked
+      × Takes fd-class.Asked × Takes fd-bounded.Asked × Takes fd-check-incidences.Asked × Takes fd-is-dyadic.Asked
+      × Takes fd-is-valid.Asked × Takes fd-closed.Asked
+  -- products
+  pub products : Takes fd-duopyramid.Asked × Takes fd-duoprism.Asked × Takes fd-duotegum.Asked × Takes fd-duocomb.Asked
+  -- flags; of fd_next_event it stands in proofs/Cursor.antt
+  pub flags : Takes fd-change.Asked × Takes fd-sign.Asked × Takes fd-search.Asked
 
 pub record Boundary : Type 0 where
   pub rank-passes : PassesOn fd-rank.Post rank.Post
@@ -70,3 +82,25 @@ pub record Boundary : Type 0 where
   -- the next event, in numbers
   pub next-event-passes : (at count place at′ : ℕ) (s : Said) → SaidStep at count place at′ s
       → (e : Event) × Stepped at count place at′ e × (s ≡ saidOf e)
+
+pub record BoundaryOnce : Type 0 where
+  pub one-fd-rank : OneAnswer fd-rank.Post
+  pub one-fd-el-count : OneAnswer fd-el-count.Post
+  pub one-fd-vertex-count : OneAnswer fd-vertex-count.Post
+  pub one-fd-facet-count : OneAnswer fd-facet-count.Post
+  pub one-fd-class : OneAnswer fd-class.Post
+  pub one-fd-bounded : OneAnswer fd-bounded.Post
+  pub one-fd-check-incidences : OneAnswer fd-check-incidences.Post
+  pub one-fd-is-dyadic : OneAnswer fd-is-dyadic.Post
+  pub one-fd-is-valid : OneAnswer fd-is-valid.Post
+  pub one-fd-closed : OneAnswer fd-closed.Post
+  pub one-fd-change : OneAnswer fd-change.Post
+  pub one-fd-sign : OneAnswer fd-sign.Post
+  pub one-fd-search : OneOutcome fd-search.Post tables
+  pub one-fd-duopyramid : OneOutcome fd-duopyramid.Post outputs
+  pub one-fd-duoprism : OneOutcome fd-duoprism.Post outputs
+  pub one-fd-duotegum : OneOutcome fd-duotegum.Post outputs
+  pub one-fd-duocomb : OneOutcome fd-duocomb.Post outputs
+  -- the event cursor, by what its contract cites
+  pub one-fd-next-event : (at count place c d : ℕ) (e f : Said) → SaidStep at count place c e
+      → SaidStep at count place d f → (e ≡ f) × (c ≡ d)
