@@ -24,7 +24,7 @@ pub or-fine : (x y : Answer) → x .no ≡ 0 → x orElse y ≡ y
 unfolding _orElse_
 or-fine x y e = rw e
 
-other : {A : Type 0} (n : ℕ) (x y : A) → (n ≡ 0 → ⊥) → ifZero n x y ≡ y
+pub other : {A : Type 0} (n : ℕ) (x y : A) → (n ≡ 0 → ⊥) → ifZero n x y ≡ y
 other zero x y h = absurd (h refl)
 other (suc n) x y h = refl
 

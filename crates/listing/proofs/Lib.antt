@@ -10,3 +10,4 @@ pub mod Broken
 pub mod Among
 pub mod ShapeBroken
 pub mod Clear
+pub mod Output

@@ -1,6 +1,7 @@
 // Listings: cells in three lent slices. Here are their answers and refusals, the shape test and the four counts.
 pub mod inner;
 pub mod limit;
+pub mod outputs;
 pub mod refusal;
 
 ghost use mathlib.Core.Path.{_≡_};
@@ -27,6 +28,15 @@ pub struct Answer {
 pub struct Number {
     pub no: u16,
     pub value: usize,
+}
+
+// What a function that writes a listing answers: a refusal or 0, and how many numbers it wrote into each output slice.
+#[repr(C)]
+pub struct Built {
+    pub answer: Answer,
+    pub counts: u16,
+    pub ends: u16,
+    pub inc: u16,
 }
 
 // The class of a refusal.

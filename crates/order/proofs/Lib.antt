@@ -1,4 +1,5 @@
 pub mod Lists
+pub mod Over
 pub mod Tests
 pub mod Sums
 pub mod Renumbering

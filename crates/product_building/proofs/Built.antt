@@ -5,9 +5,10 @@ use mathlib.Core.Bool.{Bool}
 use mathlib.Core.List.{List}
 use Prim.Native.Nat.{ℕ, zero, suc, _+_, _*_, _≤_, _<_}
 use native.Mathlib.Omega.{arith}
-use lib.ListN.{length, getD, take, drop, replicate}
-use lib.Seq.{take-append-seam}
+use lib.ListN.{length, getD, take, replicate}
+use Rattle.order.specs.Lists.{over}
 use Rattle.order.specs.Sums.{sum, place}
+use Rattle.order.proofs.Over.{over-first}
 use Rattle.order.proofs.Sums.{sum-same, place-at}
 use Rattle.listing.specs.Listing.{Listing, before}
 use Rattle.listing.specs.Layers.{Layers, derived}
@@ -18,7 +19,7 @@ use Rattle.product_places.specs.Factors.{Factor}
 use Rattle.product_writing.specs.Filling.{Row}
 use Rattle.product_writing.specs.Pairs.{target, listsOf, sizeOf, Plan}
 use Rattle.listing_sups.specs.Sups.{upCount, UpCounts, Fillable, Filled}
-use Rattle.product_building.specs.Built.{over, countsOf, Derives}
+use Rattle.product_building.specs.Built.{countsOf, Derives}
 use Rattle.product_places.proofs.Numbers.{some-rank, before-lt, bit-le}
 use Rattle.product_writing.proofs.Target.{target-size}
 use Rattle.product_building.proofs.CountsLaid.{target-counts, counts-length}
@@ -31,7 +32,7 @@ zeros (suc n) (suc k) = zeros n k
 
 -- what was written over the beginning stands there
 take-holds : (s d d′ : List ℕ) → length s ≤ length d → Holds 0 s d d′ → take (length s) d′ ≡ s
-take-holds s d d′ h l = rw (holds-over s d d′ h l) (take-append-seam s (drop (length s) d))
+take-holds s d d′ h l = rw (holds-over s d d′ h l) (over-first s d _ refl)
 
 before-table : (f : ℕ → ℕ) (n : ℕ) → before (table f n) (length (table f n)) ≡ sum f n
 unfolding before

@@ -20,9 +20,11 @@ use Rattle.product_pairs.specs.Sound.{Sound, Sorted, Listed}
 use Rattle.product_pairs.specs.Trimmed.{bit}
 use Rattle.product_pairs.specs.Grown.{upTo, minSize, minUnder, addMin, maxUnder, addMax, grown}
 use Rattle.product_pairs.proofs.Trimmed.{raised}
-use Rattle.product_pairs.proofs.AddMin.{addMin-topped, addMin-sound, addMin-sorted, addMin-order, addMin-order-to}
+use Rattle.product_pairs.proofs.AddMin.{addMin-topped, addMin-sound, addMin-sorted, addMin-order}
+use Rattle.product_pairs.proofs.AddMin.{addMin-order-to}
 use Rattle.product_pairs.proofs.AddMax.{max-size-low, max-size-top, max-under-low, max-under-top, max-listed}
-use Rattle.product_pairs.proofs.AddMax.{addMax-topped, addMax-sound, addMax-sorted, addMax-order, addMax-order-to}
+use Rattle.product_pairs.proofs.AddMax.{addMax-topped, addMax-sound, addMax-sorted, addMax-order}
+use Rattle.product_pairs.proofs.AddMax.{addMax-order-to}
 
 -- What an element more at either end keeps, growing keeps.
 grown-keeps : (P : Layers → Type 0) → ((M : Layers) → P M → P (addMin M)) → ((M : Layers) → P M → P (addMax M))

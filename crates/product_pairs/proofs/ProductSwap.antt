@@ -10,7 +10,7 @@ use Rattle.order.proofs.Product.{Product·swap, Product·swap-pair, Product·sw
 use Rattle.listing.specs.Layers.{Layers, Topped, order}
 use Rattle.product_pairs.specs.Sound.{Sound}
 use Rattle.product_pairs.specs.Paired.{El}
-use Rattle.product_pairs.specs.Product.{product, UsedPair, at}
+use Rattle.product_pairs.specs.Product.{layerProduct, UsedPair, at}
 use Rattle.product_pairs.proofs.Product.{keptPair, product-order, product-order-to}
 use Rattle.product_pairs.proofs.Product.{product-order-min, product-order-max}
 use Rattle.product_pairs.proofs.ProductPairs.{keptPair-exists}
@@ -28,7 +28,7 @@ max-exists true W = tt
 max-exists false W = tt
 
 module _ (min max : Bool) (A B : Layers) (tA : Topped A) (tB : Topped B) (sA : Sound A) (sB : Sound B) where
-  pub product-swap : Renumbering (order (product min max A B)) (order (product min max B A))
+  pub product-swap : Renumbering (order (layerProduct min max A B)) (order (layerProduct min max B A))
   product-swap =
       Renumbering·then (Renumbering·back (product-order min max A B tA tB sA sB))
       (Renumbering·then (Product·swap min max (order A) (order B)) (product-order min max B A tB tA sB sA))
@@ -63,7 +63,8 @@ product-swap-min max A B tA tB sA sB =
     ∙ product-order-min max B A tB tA sB sA
 
 pub product-swap-max : (min : Bool) (A B : Layers) (tA : Topped A) (tB : Topped B) (sA : Sound A) (sB : Sound B)
-    → product-swap min true A B tA tB sA sB .to (product min true A B .top, 0) ≡ (product min true B A .top, 0)
+    → product-swap min true A B tA tB sA sB .to (layerProduct min true A B .top, 0)
+    ≡ (layerProduct min true B A .top, 0)
 product-swap-max min A B tA tB sA sB =
     let W = InUse min true (order A) (order B) in
     ap (product-swap min true A B tA tB sA sB .to) (sym (product-order-max min A B tA tB sA sB))

@@ -16,7 +16,8 @@ use Rattle.listing.specs.Layers.{Layers, Topped, order}
 use Rattle.listing.proofs.Layers.{order-ranked}
 use Rattle.product_pairs.specs.Sound.{Sound, Sorted, Listed}
 use Rattle.product_pairs.specs.Trimmed.{bit, trimSize, trimUnder, trimmed, Used}
-use Rattle.product_pairs.proofs.Kept.{whole, kept-whole, whole-kept, kept-top, kept-exists, kept-rank, kept-under}
+use Rattle.product_pairs.proofs.Kept.{whole, kept-whole, whole-kept, kept-top, kept-exists, kept-rank}
+use Rattle.product_pairs.proofs.Kept.{kept-under}
 
 -- An element with its rank counted from the lowest in use, and back.
 abbrev pub lowered : Bool → ℕ × ℕ → ℕ × ℕ
@@ -42,7 +43,7 @@ module _ (min max : Bool) (M : Layers) where
   unfolding trimSize
   trimmed-size i h = choose-no _ _ _ (λ l. omega arith)
 
-  lowered-exists : (r a : ℕ) → Used min max M (r, a) → a < trimSize min max M (r - bit min)
+  pub lowered-exists : (r a : ℕ) → Used min max M (r, a) → a < trimSize min max M (r - bit min)
   lowered-exists r a u =
       let e : r - bit min + bit min ≡ r = omega (arith, u .1) in
       rw (trimmed-size (r - bit min) (omega (arith, u .2)), e) (u .0)
@@ -53,7 +54,7 @@ module _ (min max : Bool) (M : Layers) where
 
   -- ---- which lists are left
 
-  trimmed-under : (i b : ℕ) → 0 < i → trimUnder min M i b ≡ M .under (i + bit min) b
+  pub trimmed-under : (i b : ℕ) → 0 < i → trimUnder min M i b ≡ M .under (i + bit min) b
   unfolding trimUnder
   trimmed-under zero b h = absurd (omega arith)
   trimmed-under (suc i) b h = refl

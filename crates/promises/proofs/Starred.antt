@@ -18,10 +18,11 @@ use Rattle.valid.specs.Tests.{isValid, closed}
 use Rattle.product_pairs.specs.Trimmed.{trimSize, trimUnder}
 use Rattle.product_pairs.specs.Paired.{block, offset, position, pairOf, pairAt, leftSubs, rightSubs}
 use Rattle.product_pairs.specs.Grown.{upTo, minSize, minUnder, maxSize, maxUnder}
-use Rattle.product_pairs.specs.Product.{product, productOf}
+use Rattle.product_pairs.specs.Product.{layerProduct, productOf}
 use Rattle.product_closure.specs.Result.{nullCase, combCase, resultOf}
 use Rattle.product_sizes.specs.Sizing.{sizeTest}
-use Rattle.product.specs.Outcome.{productTest}
+use Rattle.listing.specs.Output.{roomTest}
+use Rattle.product.specs.Outcome.{factorsTest, restTest, productTest}
 use Rattle.order.specs.Tests.{every}
 use Rattle.flag_change.specs.Flags.{flagAt, flagTest, startTest}
 use Rattle.flag_change.specs.Change.{common, other, between, changeAt, padded}
@@ -33,7 +34,7 @@ pub starred : map answered tried ≡ tried
 unfolding decLt has occurs choose sum place _orElse_ firstIn firstFor firstOf before entries fills shapeTest gather
     derived joined numbers listAt nth written boundedTest entryTest alongTest elementTest incidencesTest climbs
     elementAscent ascentTest subsOfAll thirdTest seenAfter loneTest sectionsTest dyadicTest isValid closed trimSize
-    trimUnder block offset position pairOf pairAt leftSubs rightSubs upTo minSize minUnder maxSize maxUnder product
-    productOf nullCase combCase resultOf sizeTest productTest every flagAt flagTest startTest common other between
-    changeAt padded changeTest changedOf answered
+    trimUnder block offset position pairOf pairAt leftSubs rightSubs upTo minSize minUnder maxSize maxUnder
+    layerProduct productOf nullCase combCase resultOf roomTest sizeTest factorsTest restTest productTest every flagAt
+    flagTest startTest common other between changeAt padded changeTest changedOf answered
 starred = refl

@@ -25,6 +25,7 @@ use mathlib.Core.List.{List, [], _∷_, _++_}
 use Prim.Native.Nat.{ℕ, _+_, _-_, _≤_, _<_}
 use Rattle.order.specs.Lists.{Earlier, In, Ascending, occurs}
 use Rattle.listing.specs.declared.Answer.{Answer}
+use Rattle.listing.specs.declared.Built.{Built}
 use Rattle.listing.specs.Refusals.{noRanks, fallingEnds, notBounded, noSubs, noSups, subNotBack, supNotBack}
 use Rattle.listing.specs.Refusals.{subMissing, supMissing, thirdBetween, loneBetween, notAscending, notAFlag, moreFlags}
 use Rattle.listing.specs.Answers.{plain, refusal}
@@ -40,7 +41,6 @@ use Rattle.valid.proofs.is_valid.Reads as is-valid
 use Rattle.valid.proofs.closed.Reads as closed
 use Rattle.flag.proofs.change.Reads as change
 use Rattle.search.proofs.search.Reads as search
-use Rattle.product.specs.declared.Built.{Built}
 use Rattle.product.proofs.duopyramid.Reads as duopyramid
 use Rattle.product.proofs.duoprism.Reads as duoprism
 use Rattle.product.proofs.duotegum.Reads as duotegum
