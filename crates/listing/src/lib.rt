@@ -1,6 +1,7 @@
 // Listings: cells in three lent slices. Here are their answers and refusals, the shape test and the four counts.
 pub mod inner;
 pub mod limit;
+pub mod membership;
 pub mod refusal;
 
 ghost use mathlib.Core.Path.{_≡_};
@@ -122,7 +123,7 @@ pub fn shape(counts: &[Index], ends: &[Index], inc: &[Index]) -> Answer
     if limit::RANKS < counts.len() {
         return inner::plain(refusal::OVER_RANKS);
     }
-    let n = inner::elements_to(counts, limit::ELEMENTS);
+    let n = inner::elements_before(counts, counts.len());
     if limit::ELEMENTS < n {
         return inner::plain(refusal::OVER_ELEMENTS);
     }

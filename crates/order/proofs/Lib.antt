@@ -1,4 +1,6 @@
 pub mod Lists
+pub mod Positions
+pub mod Once
 pub mod Tests
 pub mod Sums
 pub mod Renumbering

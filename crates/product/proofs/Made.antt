@@ -9,6 +9,7 @@ use Rattle.listing.specs.declared.Answer.{Answer}
 use Rattle.listing.specs.Answers.{ifZero}
 use Rattle.order.specs.Sums.{sum}
 use Rattle.listing.specs.Listing.{Listing, before}
+use Rattle.listing.proofs.Answers.{if-not}
 use Rattle.listing.specs.Cells.{nullitope}
 use Rattle.product_building.specs.Built.{over}
 use Rattle.product.specs.declared.Built.{Built}
@@ -16,10 +17,6 @@ use Rattle.product_sizes.specs.declared.sizes.Sizes.{Sizes}
 use Rattle.product.specs.Outcome.{builtOf, after}
 use Rattle.product_sizes.specs.Sizing.{Measures}
 use Rattle.product.specs.Made.{Made}
-
-if-not : {A : Type 0} (n : ℕ) (x y : A) → (n ≡ 0 → ⊥) → ifZero n x y ≡ y
-if-not zero x y h = absurd (h refl)
-if-not (suc n) x y h = refl
 
 -- the answer is the test's
 pub answer-is : (t : Answer) (R : Listing) (r : Built) → r ≡ builtOf t R → r .answer ≡ t

@@ -11,7 +11,7 @@ use Prim.Native.Nat.{ℕ, suc, _+_, _-_, _*_, _<_}
 use lib.ListN.{length, getD, drop}
 use Rattle.listing.specs.Listing.{Listing, before}
 use Rattle.listing.specs.Layers.{derived, gather}
-use Rattle.listing.specs.Written.{table, written}
+use Rattle.listing.specs.Written.{tabulated, written}
 use Rattle.product_places.specs.Factors.{part}
 use Rattle.product_places.specs.Places.{pairsIn}
 use Rattle.product_writing.specs.Pairs.{target}
@@ -21,7 +21,7 @@ over new old = new ++ drop (length new) old
 
 unfoldable pub countsOf : Bool → Bool → List ℕ → List ℕ → List ℕ
 countsOf min max p q =
-    cond min (1 ∷ []) [] ++ (table (λ r. pairsIn p q r (suc r)) (length p + length q - 1) ++ cond max (1 ∷ []) [])
+    cond min (1 ∷ []) [] ++ (tabulated (λ r. pairsIn p q r (suc r)) (length p + length q - 1) ++ cond max (1 ∷ []) [])
 
 abbrev pub built : Bool → Bool → List ℕ → List ℕ → List ℕ → List ℕ → List ℕ → List ℕ → Listing
 built min max p pends pinc q qends qinc =

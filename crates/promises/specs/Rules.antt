@@ -29,7 +29,7 @@ use Rattle.listing.specs.Refusals.{productIncidences, outputShort}
 use Rattle.listing.specs.Listing.{Listing, Limits, rank, start}
 use Rattle.listing.specs.Shape.{elements}
 use Rattle.valid_incidence.specs.Incidence.{Incident}
-use Rattle.valid_diamond.specs.Dyadic.{MetTwice, Diamond}
+use Rattle.valid_diamond.specs.Dyadic.{MetTwice, DiamondUpTo}
 use Rattle.valid.specs.Bounds.{Bounded}
 use Rattle.valid.specs.Ascent.{Ascends}
 use Rattle.valid.specs.Tests.{isValid}
@@ -83,7 +83,7 @@ module _ (m : Limits) (L : Listing) where
   belowTopRule = rules thirdBetween loneBetween (MetTwice L (rank L - 1))
 
   abbrev pub upToTopRule : Rule
-  upToTopRule = rules thirdBetween loneBetween (Diamond L (rank L))
+  upToTopRule = rules thirdBetween loneBetween (DiamondUpTo L (rank L))
 
   abbrev pub boundedRules : List Rule
   boundedRules = shapeRules ++ boundedRule ∷ []

@@ -22,7 +22,7 @@ use Rattle.listing.specs.declared.Answer.{Answer}
 use Rattle.listing.specs.Refusals.{noRanks, notBounded, subNotBack, thirdBetween, loneBetween, combOfPoint}
 use Rattle.listing.specs.Answers.{refusal, plain, fine}
 use Rattle.listing.specs.Listing.{Listing, listing, limits}
-use Rattle.listing.specs.Cells.{nullitope, point, dyad, triangle, nothing, twoMinimal, threeOnTop, oneOnTop, struck}
+use Rattle.listing.specs.Cells.{nullitope, point, dyad, triangle, rankless, twoMinimal, threeOnTop, oneOnTop, struck}
 use Rattle.valid.specs.Tests.{isValid, closed}
 use Rattle.product_closure.specs.Result.{resultOf}
 use Rattle.product.specs.Outcome.{productTest}
@@ -94,7 +94,7 @@ table =
     tested point fine fine ∷
     tested dyad fine fine ∷
     tested triangle fine fine ∷
-    tested nothing (plain noRanks) (plain noRanks) ∷
+    tested rankless (plain noRanks) (plain noRanks) ∷
     tested twoMinimal (refusal notBounded 2 1 0 0) (refusal notBounded 2 1 0 0) ∷
     tested threeOnTop fine (refusal thirdBetween 0 0 2 0) ∷
     tested oneOnTop fine (refusal loneBetween 0 0 2 0) ∷

@@ -2,16 +2,18 @@
 -- Assumes nothing.
 use mathlib.Core.Bool.{Bool, true, false, not, cond, _&&_}
 use mathlib.Core.List.{List, [], _∷_}
-use Prim.Native.Nat.{ℕ, zero, suc, _+_, _-_, _*_, _≤_}
+use Prim.Native.Nat.{ℕ, zero, suc, _-_, _*_, _≤_}
 use native.Mathlib.Omega.{arith}
 use lib.Dec.{leb, ltb, eqb}
 use lib.ListN.{length}
 use Rattle.order.specs.Lists.{has, occurs}
 use Rattle.listing.specs.declared.Answer.{Answer}
 use Rattle.listing.specs.Answers.{refusal, on, ifZero, _orElse_, firstIn, firstFor, firstOf}
-use Rattle.listing.specs.Listing.{Listing, Limits, rank, count, entries, side, subs, sups}
+use Rattle.listing.specs.Listing.{Listing, Limits, rank, count, side, subs, sups}
 use Rattle.listing.specs.Shape.{fills, elements, shapeTest}
-use Rattle.valid_incidence.specs.Incidence.{entryTest, alongTest, elementTest, incidencesTest}
+use Rattle.valid_incidence.specs.declared.incidence.Way.{Way}
+use Rattle.valid_incidence.specs.Ways.{down, up, back, entryTest, alongTest, listTest}
+use Rattle.valid_incidence.specs.Incidence.{elementTest, incidencesTest}
 use Rattle.valid_diamond.specs.Dyadic.{walk, thirdTest, seenAfter, loneTest, sectionsTest, dyadicTest}
 use Rattle.valid.specs.Bounds.{boundedTest}
 use Rattle.valid.specs.Ascent.{climbs, sideAscent, elementAscent, ascentTest}
@@ -82,28 +84,24 @@ bounded-most L =
     let b = count L (rank L) in
     says (not (eqb a 1 && eqb b 1)) 10 a b 0 0 (omega arith)
 
-entry-most : (n : ℕ) (back : List ℕ) (missing other r i x : ℕ) → missing ≤ 19 → other ≤ 19
-    → Most 19 (entryTest n back missing other r i x)
-unfolding entryTest
-entry-most n back missing other r i x p q = go (ltb x n)
+list-most : (ends inc : List ℕ) (w : Way) → (w .none ≤ 19) × (w .missing ≤ 19) × (w .oneway ≤ 19) → (r i : ℕ)
+    (l : List ℕ) → Most 19 (listTest ends inc w r i l)
+unfolding listTest alongTest entryTest
+list-most ends inc w n r i l =
+    or-most 19 (says (w .asked && eqb (length l) 0) (w .none) r i 0 0 (n .0))
+    (in-most 19 _ (λ x. go x (ltb x (w .size))) l)
   where
-    go : (t : Bool) → Most 19 (cond t (on (not (has back i)) (refusal other r i x 0)) (refusal missing r i x 0))
-    go true = says (not (has back i)) other r i x 0 q
-    go false = refuses 19 missing r i x 0 p
-
-along-most : (ends inc : List ℕ) (n b s missing other r i : ℕ) (l : List ℕ) → missing ≤ 19 → other ≤ 19
-    → Most 19 (alongTest ends inc n b s missing other r i l)
-unfolding alongTest
-along-most ends inc n b s missing other r i l p q =
-    in-most 19 _ (λ x. entry-most n (entries ends inc (2 * (b + x) + s)) missing other r i x p q) l
+    go : (x : ℕ) (t : Bool)
+        → Most 19 (cond t (on (not (has (back ends inc w x) i)) (refusal (w .oneway) r i x 0))
+        (refusal (w .missing) r i x 0))
+    go x true = says (not (has (back ends inc w x) i)) (w .oneway) r i x 0 (n .2)
+    go x false = refuses 19 (w .missing) r i x 0 (n .1)
 
 element-most : (L : Listing) (r i : ℕ) → Most 19 (elementTest L r i)
 unfolding elementTest
 element-most L r i =
-    or-most 19 (says (ltb 0 r && eqb (length (subs L r i)) 0) 11 r i 0 0 (omega arith))
-    (or-most 19 (along-most _ _ _ _ 1 15 13 r i _ (omega arith) (omega arith))
-    (or-most 19 (says (ltb r (rank L) && eqb (length (sups L r i)) 0) 12 r i 0 0 (omega arith))
-    (along-most _ _ _ _ 0 16 14 r i _ (omega arith) (omega arith))))
+    or-most 19 (list-most _ _ (down L r) (omega arith) r i (subs L r i))
+    (list-most _ _ (up L r) (omega arith) r i (sups L r i))
 
 incidences-most : (L : Listing) → Most 19 (incidencesTest L)
 unfolding incidencesTest

@@ -19,11 +19,11 @@ ghost use Rattle.valid_diamond.specs.Tally.{LoneCount, Tally, Tallied, l
 // What a walk leaves: its answer, and how many indices it has met exactly once.
 struct Met {
     answer: Answer,
-    once: u16,
+    once: Index,
 }
 
 // How many indices have been met once, when one more is met that had been met `before` times.
-fn once_after(once: u16, before: u8) -> u16
+fn once_after(once: Index, before: u8) -> Index
     requires { ⌜ (before < 2) × (before ≤ once) × (once + 1 < width) ⌝ }
     ensures { λ n. ⌜ n + 2 * before ≡ once + 1 ⌝ }
 {
@@ -32,7 +32,7 @@ fn once_after(once: u16, before: u8) -> u16
 
 // Counts the subs of one of an element's subs, and refuses the first that is met a third time. Before, `once` indices
 // have been met once.
-fn tally_list(tally: &mut [u8; limit::ELEMENTS], subs: &[Index], once: u16, r: u16, i: u16) -> Met
+fn tally_list(tally: &mut [u8; limit::ELEMENTS], subs: &[Index], once: Index, r: Index, i: Index) -> Met
     requires { ⌜ ((x : ℕ) → In x (now subs) → x < limits .elements) ⌝ }
     requires { ⌜ (2 ≤ r) × LoneCount (limits .elements) (now tally) once ⌝ }
     ensures { λ m. ⌜ ((seen : List ℕ) → Tally (limits .elements) (now (tally .entry)) seen
@@ -72,8 +72,8 @@ fn tally_all(
     inc: &[Index],
     b: usize,
     subs: &[Index],
-    r: u16,
-    i: u16,
+    r: Index,
+    i: Index,
 ) -> Met
     requires { ⌜ Ends (now ends) (now inc) ⌝ }
     requires { ⌜ Walkable (now ends) (now inc) b (limits .elements) (now subs) ⌝ }
@@ -83,7 +83,7 @@ fn tally_all(
         (subsOfAll (now (ends .entry)) (now (inc .entry)) b (now (subs .entry))) (m .answer)) ⌝ }
     ensures { λ m. ⌜ LoneCount (limits .elements) (now (tally .exit)) (m .once) ⌝ }
 {
-    let mut once: u16 = 0;
+    let mut once: Index = 0;
     let mut j: usize = 0;
     while j < subs.len() {
         let m = tally_list(
@@ -106,12 +106,12 @@ fn tally_all(
 }
 
 // The smallest index below n that was met once.
-fn check_once(tally: &[u8; limit::ELEMENTS], n: u16, r: u16, i: u16) -> Answer
+fn check_once(tally: &[u8; limit::ELEMENTS], n: Index, r: Index, i: Index) -> Answer
     requires { ⌜ n ≤ limits .elements ⌝ }
     requires { ⌜ 2 ≤ r ⌝ }
     ensures { λ a. ⌜ a ≡ loneIn (lone r i) (now (tally .entry)) n ⌝ }
 {
-    let mut x: u16 = 0;
+    let mut x: Index = 0;
     while x < n {
         if tally[inner::wide(x)] == 1 {
             return Answer {
@@ -129,7 +129,7 @@ fn check_once(tally: &[u8; limit::ELEMENTS], n: u16, r: u16, i: u16) -> Answer
 
 // The smallest index below n that was met once, where `once` of the whole tally were: it is looked for only if some
 // were.
-fn check_lone(tally: &[u8; limit::ELEMENTS], once: u16, n: u16, r: u16, i: u16) -> Answer
+fn check_lone(tally: &[u8; limit::ELEMENTS], once: Index, n: Index, r: Index, i: Index) -> Answer
     requires { ⌜ n ≤ limits .elements ⌝ }
     requires { ⌜ (2 ≤ r) × LoneCount (limits .elements) (now tally) once ⌝ }
     ensures { λ a. ⌜ a ≡ loneIn (lone r i) (now (tally .entry)) n ⌝ }
@@ -147,7 +147,7 @@ fn check_sections(
     inc: &[Index],
     b: usize,
     r: usize,
-    i: u16,
+    i: Index,
 ) -> Answer
     requires { ⌜ Shaped limits (held counts ends inc) ⌝ }
     requires { ⌜ Incident (held counts ends inc) ⌝ }
@@ -157,11 +157,11 @@ fn check_sections(
     let here = b + inner::wide(inner::count_at(counts, r - 1));
     let subs = inner::side_of(ends, inc, here, i, 0);
     let mut tally = [0u8; limit::ELEMENTS];
-    let m = tally_all(&mut tally, ends, inc, b, subs, r as u16, i);
+    let m = tally_all(&mut tally, ends, inc, b, subs, r as Index, i);
     if m.answer.no != 0 {
         return m.answer;
     }
-    check_lone(&tally, m.once, inner::count_at(counts, r - 2), r as u16, i)
+    check_lone(&tally, m.once, inner::count_at(counts, r - 2), r as Index, i)
 }
 
 // The elements of rank r. The rank below begins at place b.
@@ -174,7 +174,7 @@ fn check_rank(counts: &[Index], ends: &[Index], inc: &[Index], b: usize, r: usiz
         (getD (now (counts .entry)) r 0) ⌝ }
 {
     let n = counts[r];
-    let mut i: u16 = 0;
+    let mut i: Index = 0;
     while i < n {
         let a = check_sections(counts, ends, inc, b, r, i);
         if a.no != 0 {

@@ -6,7 +6,7 @@ use Prim.Native.Nat.{ℕ, _-_}
 use borrow.Author.Needs.{needs}
 use lib.ListN.{length, getD, take}
 use Rattle.listing.specs.Listing.{limits}
-use Rattle.valid_incidence.proofs.Sequences.{in-at}
+use Rattle.order.proofs.Positions.{in-at}
 use Rattle.valid_diamond.specs.Dyadic.{subsOfAll, seenAfter, third}
 use Rattle.valid_diamond.specs.Tally.{LoneCount, Tally, Tallied}
 use Rattle.valid_diamond.proofs.Walks.{subsOf, Walked, walked-none, walk-more, walk-stop, walk-all, tallied-walked}
@@ -25,8 +25,12 @@ abbrev μ-loop : tie.MeasureT-loop
 abbrev Here : Type 0
 Here = tie.After-tally-list Inv-loop μ-loop
 
+-- where the function began, seen from the list at hand
+abbrev begun : tie.After-side-of Inv-loop μ-loop → tie.Start Inv-loop μ-loop
+begun d = d .before .before .before .before .before .before .before .before
+
 abbrev start : Here → tie.Start Inv-loop μ-loop
-start c = c .before .before .before .before .before .before .before .before .before
+start c = begun (c .before)
 
 abbrev at : Here → ℕ
 at c = c .before .before .before .before .before .loop .j

@@ -7,7 +7,7 @@ use native.Mathlib.Omega.{arith}
 use borrow.Author.Needs.{needs}
 use lib.ListN.{length, getD, take}
 use Rattle.listing.specs.Listing.{limits}
-use Rattle.valid_incidence.proofs.Sequences.{in-at}
+use Rattle.order.proofs.Positions.{in-at}
 use Rattle.valid_diamond.specs.Dyadic.{third}
 use Rattle.valid_diamond.specs.Tally.{LoneCount, Tally}
 use Rattle.valid_diamond.proofs.Ones.{lone-le, lone-at, lone-more}
