@@ -32,7 +32,13 @@ fn once_after(once: Index, before: u8) -> Index
 
 // Counts the subs of one of an element's subs, and refuses the first that is met a third time. Before, `once` indices
 // have been met once.
-fn tally_list(tally: &mut [u8; limit::ELEMENTS], subs: &[Index], once: Index, r: Index, i: Index) -> Met
+fn tally_list(
+    tally: &mut [u8; limit::ELEMENTS],
+    subs: &[Index],
+    once: Index,
+    r: Index,
+    i: Index,
+) -> Met
     requires { ⌜ ((x : ℕ) → In x (now subs) → x < limits .elements) ⌝ }
     requires { ⌜ (2 ≤ r) × LoneCount (limits .elements) (now tally) once ⌝ }
     ensures { λ m. ⌜ ((seen : List ℕ) → Tally (limits .elements) (now (tally .entry)) seen
@@ -161,7 +167,13 @@ fn check_sections(
     if m.answer.no != 0 {
         return m.answer;
     }
-    check_lone(&tally, m.once, inner::count_at(counts, r - 2), r as Index, i)
+    check_lone(
+        &tally,
+        m.once,
+        inner::count_at(counts, r - 2),
+        r as Index,
+        i,
+    )
 }
 
 // The elements of rank r. The rank below begins at place b.

@@ -61,7 +61,14 @@ fn check_entry(ends: &[Index], inc: &[Index], way: Way, r: Index, i: Index, x: I
 }
 
 // The entries of a list in their order.
-fn check_along(ends: &[Index], inc: &[Index], way: Way, r: Index, i: Index, list: &[Index]) -> Answer
+fn check_along(
+    ends: &[Index],
+    inc: &[Index],
+    way: Way,
+    r: Index,
+    i: Index,
+    list: &[Index],
+) -> Answer
     requires { ⌜ Ends (now ends) (now inc) ⌝ }
     requires { ⌜ Fits (now ends) way ⌝ }
     ensures { λ a. ⌜ a ≡ alongTest (now (ends .entry)) (now (inc .entry)) way r i (now (list .entry)) ⌝ }
