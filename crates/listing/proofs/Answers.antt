@@ -44,8 +44,6 @@ or-no x y e = go (x .no) refl
 pub no-or : (x y : Answer) → x .no ≡ 0 → y .no ≡ 0 → (x orElse y) .no ≡ 0
 no-or x y e f = ap number (or-fine x y e) ∙ f
 
--- ---- a refusal where a test says so
-
 pub or-assoc : (x y z : Answer) → x orElse (y orElse z) ≡ (x orElse y) orElse z
 unfolding _orElse_
 or-assoc x y z = go (x .no) refl
@@ -53,6 +51,8 @@ or-assoc x y z = go (x .no) refl
     go : (n : ℕ) → x .no ≡ n → ifZero n (ifZero (y .no) z y) x ≡ ifZero (ifZero n y x .no) z (ifZero n y x)
     go zero e = refl
     go (suc n) e = rw e
+
+-- ---- a refusal where a test says so
 
 pub on-no : (b : Bool) (x : Answer) → (x .no ≡ 0 → ⊥) → on b x .no ≡ 0 → b ≡ false
 on-no true x h e = absurd (h e)

@@ -30,6 +30,12 @@ pub struct Number {
     pub value: usize,
 }
 
+// An element: its rank, and its index there.
+pub struct Element {
+    pub rank: Index,
+    pub index: Index,
+}
+
 // The class of a refusal.
 pub enum Band {
     Nothing,

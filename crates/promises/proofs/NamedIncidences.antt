@@ -18,7 +18,7 @@ use Rattle.valid_incidence.specs.declared.incidence.Way.{Way}
 use Rattle.valid_incidence.specs.Ways.{down, up, back, entryTest, alongTest, listTest}
 use Rattle.valid_incidence.specs.Incidence.{elementTest, incidencesTest, SubBack, LowerAt, IncidentAt}
 use Rattle.valid_incidence.proofs.Entries.{lower, upper}
-use Rattle.valid_incidence.proofs.IncidenceExact.{Refuses, down-refuses, up-refuses, Leads, entry-exact, below-is}
+use Rattle.valid_incidence.proofs.IncidenceExact.{Refuses, down-refuses, up-refuses, LeadsBack, entry-exact, below-is}
 use Rattle.valid_incidence.proofs.IncidenceExact.{lower-exact, element-exact}
 use Rattle.promises.specs.Named.{FirstAt, FirstIn, Named}
 use Rattle.promises.specs.Named.{no-subs, no-sups, sub-not-back, sup-not-back, sub-missing, sup-missing}
@@ -54,7 +54,7 @@ module _ (h : ℕ) (L : Listing) where
 
   module _ (w : Way) (R : Refuses w) (r i : ℕ) where
     abbrev Back : ℕ → Type 0
-    Back = Leads (L .ends) (L .inc) w R r i
+    Back = LeadsBack (L .ends) (L .inc) w R r i
 
     entry-tells : (x : ℕ) → (x < w .size → ¬ In i (back (L .ends) (L .inc) w x) → N (refusal (w .oneway) r i x 0))
         → (w .size ≤ x → N (refusal (w .missing) r i x 0)) → Tell (entryTest (L .ends) (L .inc) w r i x)

@@ -56,17 +56,17 @@ module _ (ends inc : List ℕ) (w : Way) (R : Refuses w) (r i : ℕ) where
   -- ---- an entry
 
   -- what it must be: an element of the way that leads back
-  abbrev pub Leads : ℕ → Type 0
-  Leads x = (x < w .size) × In i (back ends inc w x)
+  abbrev pub LeadsBack : ℕ → Type 0
+  LeadsBack x = (x < w .size) × In i (back ends inc w x)
 
   module _ (x : ℕ) where
     abbrev entry : Answer
     entry = entryTest ends inc w r i x
 
-    pub entry-exact : entry .no ≡ 0 ↔ Leads x
+    pub entry-exact : entry .no ≡ 0 ↔ LeadsBack x
     entry-exact = (there (ltb x (w .size)) refl (has (back ends inc w x) i) refl, back-again)
       where
-        there : (b : Bool) → ltb x (w .size) ≡ b → (c : Bool) → has (back ends inc w x) i ≡ c → entry .no ≡ 0 → Leads x
+        there : (b : Bool) → ltb x (w .size) ≡ b → (c : Bool) → has (back ends inc w x) i ≡ c → entry .no ≡ 0 → LeadsBack x
         there true p true q e = (ltb-true x (w .size) p, has-yes i (back ends inc w x) .0 q)
         there true p false q e =
             let o = entry-oneway ends inc w r i x (ltb-true x (w .size) p) q in
@@ -75,7 +75,7 @@ module _ (ends inc : List ℕ) (w : Way) (R : Refuses w) (r i : ℕ) where
             let o = entry-missing ends inc w r i x (ltb-false x (w .size) p) in
             absurd (omega (arith, R .missing, ap number (sym o) ∙ e))
 
-        back-again : Leads x → entry .no ≡ 0
+        back-again : LeadsBack x → entry .no ≡ 0
         back-again p = ap number (entry-fine ends inc w r i x (p .0) (has-yes i (back ends inc w x) .1 (p .1)))
 
   -- ---- a list along its way
@@ -83,7 +83,7 @@ module _ (ends inc : List ℕ) (w : Way) (R : Refuses w) (r i : ℕ) where
   -- what it must be: it holds something where asked, and its entries are there and lead back
   record Along (list : List ℕ) : Type 0 where
     some : w .asked ≡ true → (x : ℕ) × In x list
-    each : (x : ℕ) → In x list → Leads x
+    each : (x : ℕ) → In x list → LeadsBack x
 
   list-exact : (list : List ℕ) → listTest ends inc w r i list .no ≡ 0 ↔ Along list
   unfolding listTest alongTest

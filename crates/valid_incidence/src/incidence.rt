@@ -1,5 +1,6 @@
 // Test 2, on a listing that is known to be shaped.
 use listing::Answer;
+use listing::Element;
 use listing::Index;
 use listing::inner;
 use listing::membership;
@@ -31,20 +32,20 @@ pub struct Way {
     pub oneway: u16,
 }
 
-// One entry x of a list of element i of rank r.
-fn check_entry(ends: &[Index], inc: &[Index], way: Way, r: Index, i: Index, x: Index) -> Answer
+// One entry x of a list of an element.
+fn check_entry(ends: &[Index], inc: &[Index], way: Way, of: Element, x: Index) -> Answer
     requires { ⌜ Ends (now ends) (now inc) ⌝ }
     requires { ⌜ Fits (now ends) way ⌝ }
-    ensures { λ a. ⌜ a ≡ entryTest (now (ends .entry)) (now (inc .entry)) way r i x ⌝ }
+    ensures { λ a. ⌜ a ≡ entryTest (now (ends .entry)) (now (inc .entry)) way (of .rank) (of .index) x ⌝ }
 {
     if x < way.size {
-        if membership::contains(inner::side_of(ends, inc, way.place, x, way.side), i) {
+        if membership::contains(inner::side_of(ends, inc, way.place, x, way.side), of.index) {
             inner::plain(0)
         } else {
             Answer {
                 no: way.oneway,
-                a: r,
-                b: i,
+                a: of.rank,
+                b: of.index,
                 c: x,
                 d: 0,
             }
@@ -52,8 +53,8 @@ fn check_entry(ends: &[Index], inc: &[Index], way: Way, r: Index, i: Index, x: I
     } else {
         Answer {
             no: way.missing,
-            a: r,
-            b: i,
+            a: of.rank,
+            b: of.index,
             c: x,
             d: 0,
         }
@@ -61,21 +62,15 @@ fn check_entry(ends: &[Index], inc: &[Index], way: Way, r: Index, i: Index, x: I
 }
 
 // The entries of a list in their order.
-fn check_along(
-    ends: &[Index],
-    inc: &[Index],
-    way: Way,
-    r: Index,
-    i: Index,
-    list: &[Index],
-) -> Answer
+fn check_along(ends: &[Index], inc: &[Index], way: Way, of: Element, list: &[Index]) -> Answer
     requires { ⌜ Ends (now ends) (now inc) ⌝ }
     requires { ⌜ Fits (now ends) way ⌝ }
-    ensures { λ a. ⌜ a ≡ alongTest (now (ends .entry)) (now (inc .entry)) way r i (now (list .entry)) ⌝ }
+    ensures { λ a. ⌜ a ≡ alongTest (now (ends .entry)) (now (inc .entry)) way (of .rank) (of .index)
+        (now (list .entry)) ⌝ }
 {
     let mut j: usize = 0;
     while j < list.len() {
-        let a = check_entry(ends, inc, way, r, i, list[j]);
+        let a = check_entry(ends, inc, way, of, list[j]);
         if a.no != 0 {
             return a;
         }
@@ -85,22 +80,23 @@ fn check_along(
 }
 
 // A list: whether it may hold nothing, and then its entries.
-fn check_list(ends: &[Index], inc: &[Index], way: Way, r: Index, i: Index, list: &[Index]) -> Answer
+fn check_list(ends: &[Index], inc: &[Index], way: Way, of: Element, list: &[Index]) -> Answer
     requires { ⌜ Ends (now ends) (now inc) ⌝ }
     requires { ⌜ Fits (now ends) way ⌝ }
     requires { ⌜ 0 < way .none ⌝ }
-    ensures { λ a. ⌜ a ≡ listTest (now (ends .entry)) (now (inc .entry)) way r i (now (list .entry)) ⌝ }
+    ensures { λ a. ⌜ a ≡ listTest (now (ends .entry)) (now (inc .entry)) way (of .rank) (of .index)
+        (now (list .entry)) ⌝ }
 {
     if way.asked && list.len() == 0 {
         return Answer {
             no: way.none,
-            a: r,
-            b: i,
+            a: of.rank,
+            b: of.index,
             c: 0,
             d: 0,
         };
     }
-    check_along(ends, inc, way, r, i, list)
+    check_along(ends, inc, way, of, list)
 }
 
 // The number of elements of the rank below: none below rank 0.
@@ -162,13 +158,15 @@ fn check_element(
     requires { ⌜ (here ≡ before (now counts) r) × (i < getD (now counts) r 0) ⌝ }
     ensures { λ a. ⌜ a ≡ elementTest (held (counts .entry) (ends .entry) (inc .entry)) r i ⌝ }
 {
+    let rank = r as Index;
+    let of = Element { rank, index: i };
     let subs = inner::side_of(ends, inc, here, i, 0);
-    let a = check_list(ends, inc, way_down(counts, here, r), r as Index, i, subs);
+    let a = check_list(ends, inc, way_down(counts, here, r), of, subs);
     if a.no != 0 {
         return a;
     }
     let sups = inner::side_of(ends, inc, here, i, 1);
-    check_list(ends, inc, way_up(counts, here, r), r as Index, i, sups)
+    check_list(ends, inc, way_up(counts, here, r), of, sups)
 }
 
 // The elements of rank r, which begins at place here.

@@ -74,9 +74,9 @@ side-of-requires c κs =
     let f = side-fits (L s) (s .pre .0) (s .args .r) (s .args .i) 0 (s .pre .1 .1 .2) (omega arith) in
     (shaped-ends (L s) (s .pre .0), rw (here c) f)
 
-cast-tally-all : tie.Need-cast-tally-all
-cast-tally-all c =
-    let s = c .before .before .before .before .before .before .before in
+cast-rank : tie.Need-cast-rank
+cast-rank c =
+    let s = c .before .before .before .before .before .before in
     omega (arith, there s, s .pre .0)
 
 tally-all-requires : tie.Need-tally-all-requires
@@ -94,11 +94,6 @@ sub-count-at-2 c = search needs
 
 count-at-requires-2 : tie.Need-count-at-requires-2
 count-at-requires-2 c κs = search needs
-
-cast-check-lone : tie.Need-cast-check-lone
-cast-check-lone c =
-    let s = begun (c .before .before .before .before) in
-    omega (arith, there s, s .pre .0)
 
 check-lone-requires : tie.Need-check-lone-requires
 check-lone-requires c κs =
@@ -127,11 +122,10 @@ check-sections-spec =
     wide-requires
     add-here
     side-of-requires
-    cast-tally-all
+    cast-rank
     tally-all-requires
     returns
     sub-count-at-2
     count-at-requires-2
-    cast-check-lone
     check-lone-requires
     returns-2)

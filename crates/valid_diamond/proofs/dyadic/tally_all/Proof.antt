@@ -14,13 +14,13 @@ use Rattle.valid_diamond.proofs.dyadic.tally_all.Statement.{statement}
 use Rattle.valid_diamond.proofs.dyadic.tally_all.Tie as tie
 
 abbrev Inv-loop : tie.InvT-loop
-Inv-loop tally₀ ends inc b subs r i once₀ j₀ tally once j =
+Inv-loop tally₀ ends inc b subs of once₀ j₀ tally once j =
     LoneCount (limits .elements) tally once
     × ((seen : List ℕ) → Tally (limits .elements) tally₀ seen
-    → Walked (limits .elements) (third r i) tally seen (subsOfAll ends inc b (take j subs)))
+    → Walked (limits .elements) (third (of .rank) (of .index)) tally seen (subsOfAll ends inc b (take j subs)))
 
 abbrev μ-loop : tie.MeasureT-loop
-μ-loop tally₀ ends inc b subs r i once₀ j₀ tally once j = length subs - j
+μ-loop tally₀ ends inc b subs of once₀ j₀ tally once j = length subs - j
 
 abbrev Here : Type 0
 Here = tie.After-tally-list Inv-loop μ-loop
@@ -48,7 +48,7 @@ list c =
 
 -- what was tallied for the list at hand
 one : (c : Here) (seen : List ℕ) → Tally (limits .elements) (start c .args .tally .now) seen
-    → Tallied (limits .elements) (c .tally-list .last .0) (third (start c .args .r) (start c .args .i))
+    → Tallied (limits .elements) (c .tally-list .last .0) (third (start c .args .of .rank) (start c .args .of .index))
     (seenAfter seen (done c)) (list c) (c .tally-list .result .answer)
 one c seen T =
     let w = c .before .before .before .before .before .loop .inv .1 seen T in

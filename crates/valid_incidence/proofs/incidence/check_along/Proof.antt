@@ -10,11 +10,11 @@ use Rattle.valid_incidence.proofs.incidence.check_along.Statement.{stat
 use Rattle.valid_incidence.proofs.incidence.check_along.Tie as tie
 
 abbrev Inv-loop : tie.InvT-loop
-Inv-loop ends inc way r i list j₀ j =
-    alongTest ends inc way r i list ≡ alongTest ends inc way r i (drop j list)
+Inv-loop ends inc way of list j₀ j =
+    alongTest ends inc way (of .rank) (of .index) list ≡ alongTest ends inc way (of .rank) (of .index) (drop j list)
 
 abbrev μ-loop : tie.MeasureT-loop
-μ-loop ends inc way r i list j₀ j = length list - j
+μ-loop ends inc way of list j₀ j = length list - j
 
 loop-holds : tie.Need-loop-holds Inv-loop μ-loop
 loop-holds c = search needs

@@ -38,6 +38,11 @@ low c =
     let w = c .before .way-down .ensures (s .args .ends .now) (s .args .inc .now) in
     c .check-list .ensures ∙ list-same _ _ _ _ _ _ w l
 
+cast-rank : tie.Need-cast-rank
+cast-rank c =
+    let s = c .before .before .before in
+    omega (arith, there s, s .pre .0)
+
 side-of-requires : tie.Need-side-of-requires
 side-of-requires c κs =
     let s = c .before .before .before in
@@ -45,11 +50,6 @@ side-of-requires c κs =
 
 way-down-requires : tie.Need-way-down-requires
 way-down-requires c κs = search needs
-
-cast-check-list : tie.Need-cast-check-list
-cast-check-list c =
-    let s = c .before .before .before .before .before in
-    omega (arith, there s, s .pre .0)
 
 check-list-requires : tie.Need-check-list-requires
 check-list-requires c κs =
@@ -70,11 +70,6 @@ way-up-requires c κs =
     let s = begun (c .before .before .before) in
     (s .pre .1 .0, (there s, omega (arith, few-before (L s) (s .pre .0) (s .args .r))))
 
-cast-check-list-2 : tie.Need-cast-check-list-2
-cast-check-list-2 c =
-    let s = begun (c .before .before .before .before) in
-    omega (arith, there s, s .pre .0)
-
 check-list-requires-2 : tie.Need-check-list-requires-2
 check-list-requires-2 c κs =
     let s = begun (c .before .before .before .before) in
@@ -94,13 +89,12 @@ pub check-element-spec : {M : Type 1} → statement M
 check-element-spec =
     tie.close
     (tie.spec
+    cast-rank
     side-of-requires
     way-down-requires
-    cast-check-list
     check-list-requires
     returns
     side-of-requires-2
     way-up-requires
-    cast-check-list-2
     check-list-requires-2
     returns-2)
