@@ -3,7 +3,7 @@
 -- Assumes nothing.
 use mathlib.Core.Path.{_≡_, refl, sym, ap, _∙_}
 use mathlib.Core.List.{List, [], _∷_}
-use mathlib.Core.Logic.{_↔_, _≢_, _⊎_, inl, inr}
+use mathlib.Core.Logic.{_↔_, Iff·symm, _≢_, _⊎_, inl, inr}
 use Prim.Native.Nat.{ℕ, _+_, _-_, _<_}
 use native.Mathlib.Omega.{arith}
 use native.Mathlib.Decide.{ℕ-discrete}
@@ -14,7 +14,7 @@ use Rattle.order.specs.Steps.{ChangedAt}
 use Rattle.order.specs.Diamond.{OneOther}
 use Rattle.order.proofs.Renumbering.{OneOther·same}
 use Rattle.listing.specs.Listing.{Listing, Limits, count, rank, subs}
-use Rattle.valid_diamond.specs.Dyadic.{Between, DiamondAt, Diamond}
+use Rattle.valid_diamond.specs.Dyadic.{LiesBetween, DiamondAt, DiamondUpTo}
 use Rattle.valid.specs.Closed.{Closed}
 use Rattle.flag_change.specs.Flags.{IsFlag}
 use Rattle.flag_change.specs.Change.{other, between, changeAt, Changes}
@@ -48,21 +48,23 @@ module _ {m : Limits} (L : Listing) (C : Closed m L) (r : ℕ) (p : 0 < r) (q : 
 
     -- an element under the upper neighbour exists
     mid-exists : (x : ℕ) → In x (subs L (r + 1) (getD f (r + 1) 0)) → x < count L r
+    unfolding Incident
     mid-exists x h =
         let e : r + 1 - 1 ≡ r = omega arith in
-        rw e at (C .incident .sub-back (r + 1) (getD f (r + 1) 0) x high-exists h .1)
+        rw e at (C .incident (r + 1) (getD f (r + 1) 0) high-exists .lower .each x h .1)
 
     -- the elements between the neighbours, as the diamond has them
-    between-is : (x : ℕ) → In x (between L r f) ↔ Between L (r + 1) (getD f (r + 1) 0) (getD f (r - 1) 0) x
-    unfolding between
+    between-is : (x : ℕ) → In x (between L r f) ↔ LiesBetween L (r + 1) (getD f (r + 1) 0) (getD f (r - 1) 0) x
+    unfolding between Incident
     between-is x =
         let e : r + 1 - 1 ≡ r = omega arith in
         let d : r - 1 + 1 ≡ r = omega arith in
+        let up = C .incident (r - 1) (getD f (r - 1) 0) low-exists .upper in
         rw e (
+          λ h. let k = common-in x _ _ .0 h in (k .1, rw d at (up .each x (k .0) .1)),
           λ h.
-              let k = common-in x _ _ .0 h in
-              (k .1, rw d at (C .incident .sup-back (r - 1) (getD f (r - 1) 0) x low-exists (k .0) .1)),
-          λ h. common-in x _ _ .1 (C .incident .sub-back r x (getD f (r - 1) 0) (mid-exists x (h .0)) (h .1) .2, h .0),
+              let b = C .incident r x (mid-exists x (h .0)) .lower .each (getD f (r - 1) 0) (h .1) in
+              common-in x _ _ .1 (b .2, h .0),
         )
 
     -- the flag's own element is one of them
@@ -75,10 +77,10 @@ module _ {m : Limits} (L : Listing) (C : Closed m L) (r : ℕ) (p : 0 < r) (q : 
         between-is (getD f r 0) .1 (rw e (F .under r (omega (arith, F .one-each)), u))
 
     the-other : OneOther (λ x. In x (between L r f)) (getD f r 0)
-    unfolding Diamond DiamondAt
+    unfolding DiamondUpTo DiamondAt
     the-other =
         let here = between-is (getD f r 0) .0 stands in
-        OneOther·same (Between L (r + 1) (getD f (r + 1) 0) (getD f (r - 1) 0)) (λ x. In x (between L r f)) (getD f r 0)
+        OneOther·same (LiesBetween L (r + 1) (getD f (r + 1) 0) (getD f (r - 1) 0)) (λ x. In x (between L r f)) (getD f r 0)
         (λ w. between-is w .1) (λ w. between-is w .0)
         (C .diamond (r + 1) (omega arith) (omega arith) (getD f (r + 1) 0) (getD f (r - 1) 0) (getD f r 0)
         high-exists here)

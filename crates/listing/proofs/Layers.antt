@@ -39,7 +39,7 @@ order-ranked M t = record {
 
 -- ---- gathering
 
--- from lists that are alike
+-- lists that are alike
 pub gather-same : (f g : ℕ → List ℕ) (x n : ℕ) → ((k : ℕ) → k < n → f k ≡ g k) → gather f x n ≡ gather g x n
 unfolding gather
 gather-same f g x zero h = refl

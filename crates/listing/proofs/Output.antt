@@ -18,7 +18,7 @@ use Rattle.listing.specs.Refusals.{outputShort}
 use Rattle.listing.specs.Answers.{plain, fine, ifZero}
 use Rattle.listing.specs.Listing.{Listing, listing}
 use Rattle.listing.specs.Output.{Fits, roomTest, builtOf, after, Made, prefix, Untouched, Wrote}
-use Rattle.listing.proofs.Answers.{other, no-of, stops}
+use Rattle.listing.proofs.Answers.{if-not, no-of, stops}
 use Rattle.listing.proofs.Broken.{Tests, tests-on}
 
 -- ---- room
@@ -75,11 +75,11 @@ answer-is t R r e = ap (λ (b : Built). b .answer) e ∙ go (t .no)
 module _ (t : Answer) (R : Listing) (h : t .no ≡ 0 → ⊥) where
   pub built-refused : builtOf t R ≡ record { answer = t; counts = 0; ends = 0; inc = 0 }
   unfolding builtOf
-  built-refused = other (t .no) _ _ h
+  built-refused = if-not (t .no) _ _ h
 
   after-refused : (new old : List ℕ) → old ≡ after t new old
   unfolding after
-  after-refused new old = sym (other (t .no) _ _ h)
+  after-refused new old = sym (if-not (t .no) _ _ h)
 
   pub made-refused : (test : Answer) → t ≡ test → (old : Listing) (r : Built) → r ≡ builtOf t R → Made test R old old r
   made-refused test q old r e = rw (← q) (record {

@@ -2,6 +2,7 @@
 pub mod inner;
 pub mod limit;
 pub mod outputs;
+pub mod membership;
 pub mod refusal;
 
 ghost use mathlib.Core.Path.{_≡_};
@@ -37,6 +38,12 @@ pub struct Built {
     pub counts: u16,
     pub ends: u16,
     pub inc: u16,
+}
+
+// An element: its rank, and its index there.
+pub struct Element {
+    pub rank: Index,
+    pub index: Index,
 }
 
 // The class of a refusal.
@@ -132,7 +139,7 @@ pub fn shape(counts: &[Index], ends: &[Index], inc: &[Index]) -> Answer
     if limit::RANKS < counts.len() {
         return inner::plain(refusal::OVER_RANKS);
     }
-    let n = inner::elements_to(counts, limit::ELEMENTS);
+    let n = inner::elements_before(counts, counts.len());
     if limit::ELEMENTS < n {
         return inner::plain(refusal::OVER_ELEMENTS);
     }

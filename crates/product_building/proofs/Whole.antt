@@ -11,17 +11,17 @@ use lib.Seq.{ext-getD, getD-take, getD-drop, getD-append-add}
 use Rattle.order.specs.Lists.{over}
 use Rattle.order.specs.Sums.{sum}
 use Rattle.order.proofs.Over.{over-numbers}
-use Rattle.order.proofs.Sums.{sum-lt, part-same, place-ok}
+use Rattle.order.proofs.Sums.{sum-lt, part-same, part-ok}
 use Rattle.listing.specs.Listing.{limits, before, start, entries, Ends}
-use Rattle.listing.specs.Written.{joined, table, lengths}
-use Rattle.listing.proofs.Written.{joined-length, joined-split, table-length, table-at}
+use Rattle.listing.specs.Written.{joined, tabulated, lengths}
+use Rattle.listing.proofs.Written.{joined-length, joined-split, tabulated-length, tabulated-at}
 use Rattle.product_places.specs.Laid.{Holds}
 use Rattle.product_writing.specs.Filling.{starts, Row}
 use Rattle.listing_sups.specs.Sups.{gathered, Fillable, Filled}
 use Rattle.product_building.specs.Built.{Derives}
 use Rattle.product_places.proofs.Numbers.{before-lt}
 use Rattle.product_writing.proofs.Rows.{starts-next, starts-le, starts-room}
-use Rattle.listing_sups.proofs.SupsFilled.{gather-same}
+use Rattle.listing.proofs.Layers.{gather-same}
 
 -- ---- one list over another
 
@@ -147,7 +147,7 @@ module _ (lists : ℕ → List ℕ) (counts : List ℕ) (N : ℕ) (ends₀ inc�
         → getD inc′ (starts lists (2 * e + 1) + j) 0 ≡ getD (lists (2 * e + 1)) j 0
     unfolding before
     sups-at e j h l =
-        let o = place-ok (λ k. getD counts k 0) (length counts) e (omega (arith, all)) in
+        let o = part-ok (λ k. getD counts k 0) (length counts) e (omega (arith, all)) in
         at _ _ (o .0) (o .1) (o .2)
       where
         at : (i x : ℕ) → i < length counts → x < getD counts i 0 → e ≡ before counts i + x
@@ -183,7 +183,7 @@ module _ (lists : ℕ → List ℕ) (counts : List ℕ) (N : ℕ) (ends₀ inc�
       where
         first : (p : ℕ) → p < length (joined lists (2 * N)) → getD inc′ p 0 ≡ getD (joined lists (2 * N)) p 0
         first p h =
-            let o = place-ok (lengths lists) (2 * N) p (omega (arith, joined-length lists (2 * N))) in
+            let o = part-ok (lengths lists) (2 * N) p (omega (arith, joined-length lists (2 * N))) in
             rw (o .2) (list-at _ _ (o .0) (o .1) ∙ sym (joined-at lists (2 * N) _ _ (o .0) (o .1)))
 
         rest : (p : ℕ) → length (joined lists (2 * N)) ≤ p → getD inc′ p 0 ≡ getD inc₀ p 0
@@ -196,10 +196,10 @@ module _ (lists : ℕ → List ℕ) (counts : List ℕ) (N : ℕ) (ends₀ inc�
             ))
             ∙ row .inc-rest p (omega (arith, joined-length lists (2 * N)))
 
-  pub whole-ends : ends ≡ over (table (λ t. sum (lengths lists) (suc t)) (2 * N)) ends₀
+  pub whole-ends : ends ≡ over (tabulated (λ t. sum (lengths lists) (suc t)) (2 * N)) ends₀
   whole-ends =
-      let n = table-length (λ t. sum (lengths lists) (suc t)) (2 * N) in
-      over-numbers (table (λ t. sum (lengths lists) (suc t)) (2 * N)) ends₀ ends (row .ends-length) (omega arith)
+      let n = tabulated-length (λ t. sum (lengths lists) (suc t)) (2 * N) in
+      over-numbers (tabulated (λ t. sum (lengths lists) (suc t)) (2 * N)) ends₀ ends (row .ends-length) (omega arith)
       (λ t h.
-      row .ends-done t (omega arith) ∙ sym (table-at (λ u. sum (lengths lists) (suc u)) (2 * N) t (omega arith)))
+      row .ends-done t (omega arith) ∙ sym (tabulated-at (λ u. sum (lengths lists) (suc u)) (2 * N) t (omega arith)))
       (λ t h. row .ends-rest t (omega arith))

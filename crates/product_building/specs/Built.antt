@@ -10,14 +10,14 @@ use Prim.Native.Nat.{ℕ, suc, _+_, _-_, _*_, _<_}
 use lib.ListN.{length, getD}
 use Rattle.listing.specs.Listing.{Listing, before}
 use Rattle.listing.specs.Layers.{derived, gather}
-use Rattle.listing.specs.Written.{table, written}
+use Rattle.listing.specs.Written.{tabulated, written}
 use Rattle.product_places.specs.Factors.{part}
 use Rattle.product_places.specs.Places.{pairsIn}
 use Rattle.product_writing.specs.Pairs.{target}
 
 unfoldable pub countsOf : Bool → Bool → List ℕ → List ℕ → List ℕ
 countsOf min max p q =
-    cond min (1 ∷ []) [] ++ (table (λ r. pairsIn p q r (suc r)) (length p + length q - 1) ++ cond max (1 ∷ []) [])
+    cond min (1 ∷ []) [] ++ (tabulated (λ r. pairsIn p q r (suc r)) (length p + length q - 1) ++ cond max (1 ∷ []) [])
 
 abbrev pub built : Bool → Bool → List ℕ → List ℕ → List ℕ → List ℕ → List ℕ → List ℕ → Listing
 built min max p pends pinc q qends qinc =

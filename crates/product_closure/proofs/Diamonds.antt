@@ -5,13 +5,13 @@ use mathlib.Core.Logic.{_↔_}
 use Prim.Native.Nat.{ℕ, suc, pred, _-_, _<_}
 use native.Mathlib.Numerals.{sub-one}
 use native.Mathlib.Omega.{arith}
-use Rattle.order.specs.Diamond.{OneOther, Between as OrderBetween, Diamond as OrderDiamond}
+use Rattle.order.specs.Diamond.{OneOther, Between, Diamond}
 use Rattle.order.proofs.Renumbering.{OneOther·map}
 use Rattle.order.proofs.Pairs.{pair-path}
 use Rattle.listing.specs.Listing.{Listing, rank, count}
 use Rattle.listing.specs.Layers.{layers, order}
 use Rattle.listing.proofs.Layers.{layers-topped, in-range}
-use Rattle.valid_diamond.specs.Dyadic.{Between, Diamond, DiamondAt}
+use Rattle.valid_diamond.specs.Dyadic.{LiesBetween, DiamondUpTo, DiamondAt}
 use Rattle.product_pairs.specs.Sound.{Sound}
 
 -- ---- between two elements that lie two ranks apart
@@ -20,10 +20,10 @@ module _ (L : Listing) (s : Sound (layers L)) (x z : ℕ × ℕ) (ex : x .1 < co
     (apart : z .0 ≡ suc (suc (x .0))) where
   -- what lies between them by its index, and as an element
   abbrev ByIndex : ℕ → Type 0
-  ByIndex = Between L (z .0) (z .1) (x .1)
+  ByIndex = LiesBetween L (z .0) (z .1) (x .1)
 
   abbrev ByElement : ℕ × ℕ → Type 0
-  ByElement = OrderBetween (order (layers L)) x z
+  ByElement = Between (order (layers L)) x z
 
   index-element : (w : ℕ) → ByIndex w → ByElement (suc (x .0), w)
   unfolding Sound
@@ -53,8 +53,8 @@ module _ (L : Listing) (s : Sound (layers L)) (x z : ℕ × ℕ) (ex : x .1 < co
 -- ---- the two rules
 
 module _ (L : Listing) (s : Sound (layers L)) where
-  index-diamond : Diamond L (rank L) → OrderDiamond (order (layers L))
-  unfolding OrderDiamond Diamond DiamondAt
+  index-diamond : DiamondUpTo L (rank L) → Diamond (order (layers L))
+  unfolding Diamond DiamondUpTo DiamondAt
   index-diamond d x y z u v =
       let e : z .0 ≡ suc (suc (x .0)) = omega (arith, u .2, v .2) in
       let h = in-range (layers L) (layers-topped L) (z .0) (z .1) (v .1) in
@@ -62,8 +62,8 @@ module _ (L : Listing) (s : Sound (layers L)) where
       index-other L s x z (u .0) (v .1) e y (u, v)
       (d (z .0) (omega arith) h (z .1) (x .1) (y .1) (v .1) b)
 
-  element-diamond : OrderDiamond (order (layers L)) → Diamond L (rank L)
-  unfolding OrderDiamond Diamond DiamondAt Sound
+  element-diamond : Diamond (order (layers L)) → DiamondUpTo L (rank L)
+  unfolding Diamond DiamondUpTo DiamondAt Sound
   element-diamond d r low high i x j h b =
       let e : r ≡ suc (suc (r - 2)) = omega arith in
       let f : pred (r - 1) ≡ r - 2 = omega arith in
@@ -73,5 +73,5 @@ module _ (L : Listing) (s : Sound (layers L)) where
       element-other L s (r - 2, x) (r, i) l h e j b (d (r - 2, x) (suc (r - 2), j) (r, i) (c .0) (c .1))
 
 -- A listing whose lists are sound has the diamond up to its maximal element exactly if its order has it.
-pub diamond-same : (L : Listing) → Sound (layers L) → Diamond L (rank L) ↔ OrderDiamond (order (layers L))
+pub diamond-same : (L : Listing) → Sound (layers L) → DiamondUpTo L (rank L) ↔ Diamond (order (layers L))
 diamond-same L s = (index-diamond L s, element-diamond L s)

@@ -13,7 +13,8 @@ use Rattle.listing.specs.Answers.{_orElse_, firstIn, firstFor, firstOf}
 use Rattle.listing.specs.Listing.{Listing, limits, rank, before, entries}
 use Rattle.listing.specs.Shape.{fills, shapeTest}
 use Rattle.listing.specs.Cells.{nullitope}
-use Rattle.valid_incidence.specs.Incidence.{alongTest, elementTest, incidencesTest}
+use Rattle.valid_incidence.specs.Ways.{alongTest, listTest}
+use Rattle.valid_incidence.specs.Incidence.{elementTest, incidencesTest}
 use Rattle.order.proofs.Tests.{or-none}
 use Rattle.valid_diamond.specs.Dyadic.{dyadicTest}
 use Rattle.valid.specs.Bounds.{boundedTest}
@@ -38,8 +39,8 @@ module _ (min max : Bool) (A B : Listing) where
 
 -- the nullitope is closed, by computing
 pub nullitope-closed : Closed limits nullitope
-unfolding sum before entries fills shapeTest _orElse_ firstIn firstFor firstOf boundedTest alongTest elementTest
-    incidencesTest climbs elementAscent ascentTest dyadicTest closed
+unfolding sum before entries fills shapeTest _orElse_ firstIn firstFor firstOf boundedTest alongTest listTest
+    elementTest incidencesTest climbs elementAscent ascentTest dyadicTest closed
 nullitope-closed = closed-exact limits nullitope .0 refl
 
 -- ---- ranks

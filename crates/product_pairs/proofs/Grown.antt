@@ -11,7 +11,7 @@ use native.Mathlib.Numerals.{add-one}
 use native.Mathlib.Omega.{arith}
 use Rattle.order.specs.Lists.{In}
 use Rattle.order.specs.Structure.{Renumbering}
-use Rattle.order.specs.Ends.{end, grow, inside, addedMin, addedMax}
+use Rattle.order.specs.Ends.{end, grow, asGrown, addedMin, addedMax}
 use Rattle.order.proofs.Renumbering.{Renumbering·same, Renumbering·then}
 use Rattle.order.proofs.Added.{withMin·renumbered}
 use Rattle.order.proofs.Pairs.{pair-path}
@@ -59,7 +59,7 @@ grown-order false false M t = Renumbering·same (order M)
 
 -- its map: what was there keeps its index, the added elements have the index 0
 pub grown-inside : (min max : Bool) (M : Layers) (t : Topped M) (x : ℕ × ℕ)
-    → grown-order min max M t .to (inside min max (order M) x) ≡ raised min x
+    → grown-order min max M t .to (asGrown min max (order M) x) ≡ raised min x
 unfolding grown-order Renumbering·same Renumbering·then withMin·renumbered
 grown-inside true true M t x = rw (addMax-order-to, addMin-order-to) (pair-path (omega arith) refl)
 grown-inside true false M t x = rw addMin-order-to (pair-path (omega arith) refl)

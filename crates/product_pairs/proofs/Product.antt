@@ -7,7 +7,7 @@ use Prim.Native.Nat.{ℕ, _+_, _-_, _≤_}
 use native.Mathlib.Omega.{arith}
 use Rattle.order.specs.Structure.{Ranked, Renumbering}
 use Rattle.order.specs.Diamond.{Frame, Cell}
-use Rattle.order.specs.Ends.{InUse, Product, need, together, kept, inside, addedMin, addedMax}
+use Rattle.order.specs.Ends.{InUse, Product, need, together, asTrimmed, asGrown, addedMin, addedMax}
 use Rattle.order.proofs.Renumbering.{Renumbering·then, Renumbering·frame, Renumbering·cell}
 use Rattle.order.proofs.Pairs.{pair-path, Pairs·renumbered}
 use Rattle.order.proofs.Trim.{grow·renumbered, grow·inside, grow·addedMin, grow·addedMax}
@@ -28,7 +28,7 @@ use Rattle.product_pairs.proofs.Grown.{grown-addedMin, grown-addedMax}
 
 -- A pair of elements, as one of what is left of the factors.
 abbrev pub keptPair : (min max : Bool) (A B : Layers) → El × El → InUse min max (order A) (order B) .Elem
-keptPair min max A B x = (kept min max (order A) (x .0), kept min max (order B) (x .1))
+keptPair min max A B x = (asTrimmed min max (order A) (x .0), asTrimmed min max (order B) (x .1))
 
 module _ (min max : Bool) (A B : Layers) where
   pub usedPairs-topped : Topped (usedPairs min max A B)
@@ -90,7 +90,7 @@ module _ (min max : Bool) (A B : Layers) (tA : Topped A) (tB : Topped B) (sA : S
 
   -- a pair goes where `at` says
   pub product-order-to : (x : El × El)
-      → product-order .to (inside min max (InUse min max (order A) (order B)) (keptPair min max A B x))
+      → product-order .to (asGrown min max (InUse min max (order A) (order B)) (keptPair min max A B x))
       ≡ at min max A B x
   unfolding product-order Renumbering·then at layerProduct
   product-order-to x = rw (grow·inside usedPairs-order min max, grown-inside) (ap (raised min) (usedPairs-order-to x))

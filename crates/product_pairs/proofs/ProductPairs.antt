@@ -6,7 +6,7 @@ use mathlib.Core.Logic.{_↔_, Iff·trans, Iff·symm, Iff·and}
 use mathlib.Core.Bool.{Bool}
 use Rattle.order.specs.Structure.{Renumbering}
 use Rattle.order.specs.Pairs.{Step, left, right}
-use Rattle.order.specs.Ends.{trim, InUse, kept}
+use Rattle.order.specs.Ends.{trim, InUse, asTrimmed}
 use Rattle.order.proofs.Renumbering.{Renumbering·then}
 use Rattle.order.proofs.Pairs.{pair-path}
 use Rattle.order.proofs.Trim.{trim·renumbered}
@@ -23,7 +23,7 @@ use Rattle.product_pairs.proofs.Product.{keptPair, product-topped, prod
 
 -- Where a pair stands, as an element of what is left of the product.
 abbrev placed : (min max : Bool) (A B : Layers) → El × El → trim min max (order (layerProduct min max A B)) .Elem
-placed min max A B x = kept min max (order (layerProduct min max A B)) (at min max A B x)
+placed min max A B x = asTrimmed min max (order (layerProduct min max A B)) (at min max A B x)
 
 -- A step between two pairs, as pairs of what is left.
 abbrev KeptStep : Bool → Bool → Layers → Layers → El × El → El × El → Type 0
@@ -32,7 +32,8 @@ KeptStep min max A B x y =
     let S = trim min max (order B) .Under in
     Step R S (keptPair min max A B x) (keptPair min max A B y)
 
-kept-same : (min max : Bool) (M : Layers) (x y : El) → kept min max (order M) x ≡ kept min max (order M) y → x ≡ y
+kept-same : (min max : Bool) (M : Layers) (x y : El)
+    → asTrimmed min max (order M) x ≡ asTrimmed min max (order M) y → x ≡ y
 kept-same min max M x y e =
     sym (whole-kept min max (order M) x) ∙ ap (whole min max (order M)) e ∙ whole-kept min max (order M) y
 
@@ -64,7 +65,7 @@ module _ (min max : Bool) (A B : Layers) (tA : Topped A) (tB : Topped B) (sA : S
 
   -- the pair that stands at an element, as one of what is left of the factors
   abbrev back : El → InUse min max (order A) (order B) .Elem
-  back y = product-pairs .from (kept min max (order (layerProduct min max A B)) y)
+  back y = product-pairs .from (asTrimmed min max (order (layerProduct min max A B)) y)
 
   at-back : (x : El × El) → UsedPair min max A B x → back (at min max A B x) ≡ keptPair min max A B x
   at-back x u = ap (product-pairs .from) (sym (product-pairs-to x)) ∙ product-pairs .from-to _ (keptPair-exists x .1 u)
@@ -99,9 +100,9 @@ module _ (min max : Bool) (A B : Layers) (tA : Topped A) (tB : Topped B) (sA : S
   step-kept : (x y : El × El) → UsedPair min max A B x → UsedPair min max A B y
       → Step (Listed A) (Listed B) x y → KeptStep min max A B x y
   step-kept x y p q (left l e) =
-      left (used-under min max A tA _ _ (p .0) (q .0) .1 l) (ap (kept min max (order B)) e)
+      left (used-under min max A tA _ _ (p .0) (q .0) .1 l) (ap (asTrimmed min max (order B)) e)
   step-kept x y p q (right e l) =
-      right (ap (kept min max (order A)) e) (used-under min max B tB _ _ (p .1) (q .1) .1 l)
+      right (ap (asTrimmed min max (order A)) e) (used-under min max B tB _ _ (p .1) (q .1) .1 l)
 
   step-listed : (x y : El × El) → UsedPair min max A B x → UsedPair min max A B y
       → KeptStep min max A B x y → Step (Listed A) (Listed B) x y

@@ -4,7 +4,7 @@ use mathlib.Core.Path.{_≡_, sym, ap, _∙_}
 use mathlib.Core.Bool.{Bool, true, false}
 use Rattle.order.specs.Structure.{Order, Renumbering}
 use Rattle.order.specs.Pairs.{swap}
-use Rattle.order.specs.Ends.{InUse, Product, grow, inside, addedMin, addedMax}
+use Rattle.order.specs.Ends.{InUse, Product, grow, asGrown, addedMin, addedMax}
 use Rattle.order.proofs.Renumbering.{Renumbering·back, Renumbering·then}
 use Rattle.order.proofs.Product.{Product·swap, Product·swap-pair, Product·swap-min, Product·swap-max}
 use Rattle.listing.specs.Layers.{Layers, Topped, order}
@@ -17,7 +17,7 @@ use Rattle.product_pairs.proofs.ProductPairs.{keptPair-exists}
 
 -- what was there is there in the grown structure, and so is the added maximal element
 inside-exists : (min max : Bool) (W : Order) (x : W .Elem) → W .Exists x
-    → grow min max W .Exists (inside min max W x)
+    → grow min max W .Exists (asGrown min max W x)
 inside-exists true true W x e = e
 inside-exists true false W x e = e
 inside-exists false true W x e = e
@@ -46,7 +46,7 @@ module _ (min max : Bool) (A B : Layers) (tA : Topped A) (tB : Topped B) (sA : S
       → product-swap .to (at min max A B x) ≡ at min max B A (swap x)
   product-swap-pair x u =
       let k = keptPair-exists min max A B tA tB sA sB x .1 u in
-      let z = inside min max (InUse min max (order A) (order B)) (keptPair min max A B x) in
+      let z = asGrown min max (InUse min max (order A) (order B)) (keptPair min max A B x) in
       ap (product-swap .to) (sym (product-order-to min max A B tA tB sA sB x))
       ∙ swap-of z (inside-exists min max (InUse min max (order A) (order B)) (keptPair min max A B x) k)
       ∙ ap (product-order min max B A tB tA sB sA .to)

@@ -17,7 +17,7 @@ use mathlib.Core.Logic.{_⊎_}
 use mathlib.Core.List.{List, _++_, map}
 use Prim.Native.Nat.{ℕ, suc, pred, _+_, _-_, _*_, _/_, _%_, _<_}
 use Rattle.order.specs.Lists.{Earlier}
-use Rattle.order.specs.Sums.{sum, place}
+use Rattle.order.specs.Sums.{sum, partAt}
 use Rattle.listing.specs.Layers.{Layers}
 
 abbrev pub El : Type 0
@@ -40,7 +40,7 @@ unfoldable pub pairOf : Layers → ℕ → ℕ × ℕ → El × El
 pairOf B R p = ((p .0, p .1 / B .size (R - p .0)), (R - p .0, p .1 % B .size (R - p .0)))
 
 unfoldable pub pairAt : Layers → Layers → El → El × El
-pairAt A B y = pairOf B (y .0) (place (block A B (y .0)) (suc (y .0)) (y .1))
+pairAt A B y = pairOf B (y .0) (partAt (block A B (y .0)) (suc (y .0)) (y .1))
 
 unfoldable pub leftSubs : Layers → Layers → El × El → List ℕ
 leftSubs A B x = map (λ a. position A B ((pred (x .0 .0), a), x .1) .1) (A .under (x .0 .0) (x .0 .1))

@@ -69,7 +69,7 @@ pub fn count_used(min: bool, max: bool, counts: &[Index], ends: &[Index], inc: &
 {
     let p = range(min, max, counts);
     let base = block::bit_of(min);
-    let elements = inner::elements_to(p, limit::ELEMENTS);
+    let elements = inner::elements_before(p, p.len());
     let lowest = inner::wide(p[0]);
     let highest = inner::wide(p[p.len() - 1]);
     let subs = subs_listed(ends, inc, base + lowest, base + elements);

@@ -5,7 +5,7 @@ use native.Mathlib.Omega.{arith}
 use borrow.Author.Needs.{needs}
 use Rattle.listing.specs.Listing.{Listing, listing}
 use Rattle.listing.proofs.ShapeExact.{shaped-ends}
-use Rattle.valid_incidence.proofs.Places.{side-fits, side-at}
+use Rattle.listing.proofs.Places.{side-fits, side-at}
 use Rattle.valid.specs.Ascent.{Ascends}
 use Rattle.flag_change.specs.Change.{between, Flanked}
 use Rattle.flag_change.proofs.chain.change_index.Statement.{statement}
@@ -66,8 +66,8 @@ other-between-requires c κs =
     let s = begun d in
     let l = d .side-of .ensures ∙ side-at (L s) _ _ _ _ (s .pre .1 .1 .0 .0) in
     let h = c .before .side-of2 .ensures ∙ side-at (L s) _ _ _ _ (s .pre .1 .1 .0 .1) in (
-      rw l (s .pre .1 .0 1 _ _ (omega arith) (near s .lower)),
-      rw h (s .pre .1 .0 0 _ _ (omega arith) (near s .upper)),
+      rw l (s .pre .1 .0 _ _ (near s .lower) 1 (omega arith)),
+      rw h (s .pre .1 .0 _ _ (near s .upper) 0 (omega arith)),
     )
 
 returns : tie.Need-returns

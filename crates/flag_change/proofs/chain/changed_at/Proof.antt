@@ -1,10 +1,8 @@
 -- `changed_at`: the flag as a record, with the number that change_index gives at rank r.
 -- Assumes nothing.
-use Prim.Native.Nat.{_+_, _-_}
 use native.Mathlib.Omega.{arith}
 use borrow.Author.Needs.{needs}
 use Rattle.listing.specs.Listing.{Listing, listing, limits}
-use Rattle.valid_incidence.proofs.Places.{few-before}
 use Rattle.valid.specs.Closed.{Closed}
 use Rattle.flag_change.specs.Flags.{IsFlag}
 use Rattle.flag_change.specs.Change.{changeAt}
@@ -23,30 +21,30 @@ chain : (s : tie.Start) → IsFlag (L s) (s .args .flag .now)
 chain s = s .pre .1 .0
 
 -- where the function began, seen from the two places
-abbrev begun : tie.After-place-of2 → tie.Start
+abbrev begun : tie.After-elements-before2 → tie.Start
 begun c = c .before .before .before .before .before .before
 
-sub-place-of : tie.Need-sub-place-of
-sub-place-of c = search needs
+sub-elements-before : tie.Need-sub-elements-before
+sub-elements-before c = search needs
 
-place-of-requires : tie.Need-place-of-requires
-place-of-requires c κs =
+elements-before-requires : tie.Need-elements-before-requires
+elements-before-requires c κs =
     let s = c .before .before .before .before in
-    (omega arith, omega (arith, few-before (L s) (cell s .shaped) (s .args .r - 1)))
+    omega (arith, cell s .shaped)
 
-add-place-of : tie.Need-add-place-of
-add-place-of c = search needs
+add-elements-before : tie.Need-add-elements-before
+add-elements-before c = search needs
 
-place-of-requires-2 : tie.Need-place-of-requires-2
-place-of-requires-2 c κs =
+elements-before-requires-2 : tie.Need-elements-before-requires-2
+elements-before-requires-2 c κs =
     let s = c .before .before .before .before .before in
-    (omega arith, omega (arith, few-before (L s) (cell s .shaped) (s .args .r + 1)))
+    omega (arith, cell s .shaped)
 
 change-index-requires : tie.Need-change-index-requires
 change-index-requires c κs =
     let s = begun c in
     let n = flag-flanked (L s) _ _ (s .pre .1 .1 .0) (s .pre .1 .1 .1) (chain s) in
-    (cell s .shaped, (cell s .ascends, ((c .before .place-of .ensures, c .place-of2 .ensures), n)))
+    (cell s .shaped, (cell s .ascends, ((c .before .elements-before .ensures, c .elements-before2 .ensures), n)))
 
 pad-requires : tie.Need-pad-requires
 pad-requires c κs =
@@ -70,10 +68,10 @@ pub changed-at-spec : {M : Type 1} → statement M
 changed-at-spec =
     tie.close
     (tie.spec
-    sub-place-of
-    place-of-requires
-    add-place-of
-    place-of-requires-2
+    sub-elements-before
+    elements-before-requires
+    add-elements-before
+    elements-before-requires-2
     change-index-requires
     pad-requires
     mul-new

@@ -10,7 +10,7 @@ use borrow.Author.Tests.{not-true, not-false}
 use lib.ListN.{length}
 use Rattle.listing.specs.Listing.{Listing, listing, before}
 use Rattle.listing.proofs.Listing.{before-zero, before-next}
-use Rattle.valid_incidence.proofs.Places.{few-before}
+use Rattle.listing.proofs.Places.{few-before}
 use Rattle.order.specs.Tests.{every}
 use Rattle.flag_change.specs.Flags.{flagAt}
 use Rattle.order.proofs.Tests.{every-next, every-stop}

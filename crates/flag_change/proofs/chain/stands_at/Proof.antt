@@ -9,7 +9,7 @@ use lib.ListN.{getD}
 use Rattle.order.specs.Lists.{has}
 use Rattle.listing.specs.Listing.{Listing, listing}
 use Rattle.listing.proofs.ShapeExact.{shaped-ends}
-use Rattle.valid_incidence.proofs.Places.{side-fits, side-at}
+use Rattle.listing.proofs.Places.{side-fits, side-at}
 use Rattle.flag_change.proofs.FlagExact.{missing-at, lowest-at, higher-at}
 use Rattle.flag_change.proofs.chain.stands_at.Statement.{statement}
 use Rattle.flag_change.proofs.chain.stands_at.Tie as tie

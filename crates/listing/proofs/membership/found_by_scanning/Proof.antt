@@ -6,9 +6,9 @@ use borrow.Author.Needs.{needs}
 use borrow.Author.Tests.{eq-eqb, ne-eqb}
 use lib.ListN.{length, drop}
 use Rattle.order.specs.Lists.{has}
-use Rattle.valid_incidence.proofs.Sequences.{has-step, has-end}
-use Rattle.valid_incidence.proofs.incidence.found_by_scanning.Statement.{statement}
-use Rattle.valid_incidence.proofs.incidence.found_by_scanning.Tie as tie
+use Rattle.order.proofs.Positions.{has-step, has-end}
+use Rattle.listing.proofs.membership.found_by_scanning.Statement.{statement}
+use Rattle.listing.proofs.membership.found_by_scanning.Tie as tie
 
 abbrev Inv-loop : tie.InvT-loop
 Inv-loop list x j₀ j = has list x ≡ has (drop j list) x

@@ -2,8 +2,8 @@
 -- Assumes nothing.
 use mathlib.Core.Path.{sym}
 use borrow.Author.Needs.{needs}
-use Rattle.valid_incidence.proofs.incidence.contains.Statement.{statement}
-use Rattle.valid_incidence.proofs.incidence.contains.Tie as tie
+use Rattle.listing.proofs.membership.contains.Statement.{statement}
+use Rattle.listing.proofs.membership.contains.Tie as tie
 
 stands-at-own-place-requires : tie.Need-stands-at-own-place-requires
 stands-at-own-place-requires c κs = search needs
@@ -21,7 +21,7 @@ found-by-halving-requires : tie.Need-found-by-halving-requires
 found-by-halving-requires c κs = search needs
 
 returns-3 : tie.Need-returns-3
-returns-3 c = sym (c .before .found-by-halving .ensures (c .if3 .taken))
+returns-3 c = sym (c .before .found-by-halving .ensures .0 (c .if3 .taken))
 
 found-by-scanning-requires-2 : tie.Need-found-by-scanning-requires-2
 found-by-scanning-requires-2 c κs = search needs

@@ -1,20 +1,20 @@
--- `elements_before`. Invariant: n is the number of elements of the ranks below k, and k is at most the rank. Measure:
+-- `elements_before`. Invariant: n is the number of elements of the ranks below q, and q is at most r. Measure:
 -- the ranks left.
 -- Assumes nothing.
 use mathlib.Core.Path.{_≡_, sym, ap, _∙_}
 use Prim.Native.Nat.{_-_, _*_, _≤_}
 use native.Mathlib.Omega.{arith}
 use borrow.Author.Needs.{needs}
 use Rattle.listing.specs.Listing.{width, before}
 use Rattle.listing.proofs.Listing.{before-zero, before-next}
-use Rattle.product_places.proofs.block.elements_before.Statement.{statement}
-use Rattle.product_places.proofs.block.elements_before.Tie as tie
+use Rattle.listing.proofs.inner.elements_before.Statement.{statement}
+use Rattle.listing.proofs.inner.elements_before.Tie as tie
 
 abbrev Inv-loop : tie.InvT-loop
-Inv-loop counts rank n₀ k₀ n k = (k ≤ rank) × (n ≤ width * k) × (n ≡ before counts k)
+Inv-loop counts r n₀ q₀ n q = (q ≤ r) × (n ≤ width * q) × (n ≡ before counts q)
 
 abbrev μ-loop : tie.MeasureT-loop
-μ-loop counts rank n₀ k₀ n k = rank - k
+μ-loop counts r n₀ q₀ n q = r - q
 
 loop-holds : tie.Need-loop-holds Inv-loop μ-loop
 loop-holds c = (omega arith, omega arith, sym (before-zero (c .before .args .counts .now)))
@@ -28,8 +28,8 @@ wide-requires c κs = search needs
 add-n : tie.Need-add-n Inv-loop μ-loop
 add-n c = search needs
 
-add-k : tie.Need-add-k Inv-loop μ-loop
-add-k c = search needs
+add-q : tie.Need-add-q Inv-loop μ-loop
+add-q c = search needs
 
 loop-less : tie.Need-loop-less Inv-loop μ-loop
 loop-less c = search needs
@@ -39,12 +39,12 @@ loop-again c =
     omega (
       arith,
       before-next (c .before .before .before .before .before .args .counts .now)
-          (c .before .before .before .loop .k),
+          (c .before .before .before .loop .q),
     )
 
 returns : tie.Need-returns Inv-loop μ-loop
 returns c =
-    let e : c .before .loop .k ≡ c .before .before .before .args .rank = omega arith in
+    let e : c .before .loop .q ≡ c .before .before .before .args .r = omega arith in
     c .before .loop .inv .2 ∙ ap (before (c .before .before .before .args .counts .now)) e
 
 pub elements-before-spec : {M : Type 1} → statement M
@@ -57,7 +57,7 @@ elements-before-spec =
     count-at-requires
     wide-requires
     add-n
-    add-k
+    add-q
     loop-less
     loop-again
     returns)

@@ -4,9 +4,9 @@ use mathlib.Core.Path.{sym}
 use mathlib.Core.Bool.{true≢false}
 use borrow.Author.Needs.{needs}
 use borrow.Author.Tests.{eqb-true}
-use Rattle.valid_incidence.proofs.Sequences.{has-at}
-use Rattle.valid_incidence.proofs.incidence.stands_at_own_place.Statement.{statement}
-use Rattle.valid_incidence.proofs.incidence.stands_at_own_place.Tie as tie
+use Rattle.order.proofs.Positions.{has-at}
+use Rattle.listing.proofs.membership.stands_at_own_place.Statement.{statement}
+use Rattle.listing.proofs.membership.stands_at_own_place.Tie as tie
 
 wide-requires : tie.Need-wide-requires
 wide-requires c κs = search needs
