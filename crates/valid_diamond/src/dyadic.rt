@@ -37,7 +37,8 @@ fn tally_list(tally: &mut [u8; limit::ELEMENTS], subs: &[Index], once: Index, of
     requires { ⌜ ((x : ℕ) → In x (now subs) → x < limits .elements) ⌝ }
     requires { ⌜ (2 ≤ of .rank) × LoneCount (limits .elements) (now tally) once ⌝ }
     ensures { λ m. ⌜ ((seen : List ℕ) → Tally (limits .elements) (now (tally .entry)) seen
-        → Tallied (limits .elements) (now (tally .exit)) (third (of .rank) (of .index)) seen (now (subs .entry)) (m .answer)) ⌝ }
+        → Tallied (limits .elements) (now (tally .exit)) (third (of .rank) (of .index)) seen
+        (now (subs .entry)) (m .answer)) ⌝ }
     ensures { λ m. ⌜ LoneCount (limits .elements) (now (tally .exit)) (m .once) ⌝ }
 {
     let mut n = once;

@@ -66,7 +66,8 @@ module _ (ends inc : List ℕ) (w : Way) (R : Refuses w) (r i : ℕ) where
     pub entry-exact : entry .no ≡ 0 ↔ LeadsBack x
     entry-exact = (there (ltb x (w .size)) refl (has (back ends inc w x) i) refl, back-again)
       where
-        there : (b : Bool) → ltb x (w .size) ≡ b → (c : Bool) → has (back ends inc w x) i ≡ c → entry .no ≡ 0 → LeadsBack x
+        there : (b : Bool) → ltb x (w .size) ≡ b → (c : Bool) → has (back ends inc w x) i ≡ c → entry .no ≡ 0
+            → LeadsBack x
         there true p true q e = (ltb-true x (w .size) p, has-yes i (back ends inc w x) .0 q)
         there true p false q e =
             let o = entry-oneway ends inc w r i x (ltb-true x (w .size) p) q in

@@ -41,8 +41,8 @@ returns c =
     let d = o .before .before .before in
     let a = d .before .before .args in
     let x = d .before .loop .x in
-    lone-stop _ (lone (a .of .rank) (a .of .index)) (a .tally .now) x (a .n) (d .before .loop .inv) (d .loop-test .taken)
-    _ (o .before .before .wide .ensures .0) (o .if1 .taken) (λ z. omega arith)
+    lone-stop _ (lone (a .of .rank) (a .of .index)) (a .tally .now) x (a .n) (d .before .loop .inv)
+    (d .loop-test .taken) _ (o .before .before .wide .ensures .0) (o .if1 .taken) (λ z. omega arith)
 
 add-x : tie.Need-add-x Inv-loop μ-loop
 add-x c = search needs
@@ -55,8 +55,8 @@ loop-again c =
     let d = c .before .before .before in
     let a = d .before .before .args in
     let x = d .before .loop .x in
-    lone-next _ (lone (a .of .rank) (a .of .index)) (a .tally .now) x (a .n) (d .before .loop .inv) (d .loop-test .taken)
-    _ (c .before .before .wide .ensures .0) (c .if1 .left)
+    lone-next _ (lone (a .of .rank) (a .of .index)) (a .tally .now) x (a .n) (d .before .loop .inv)
+    (d .loop-test .taken) _ (c .before .before .wide .ensures .0) (c .if1 .left)
 
 plain-requires : tie.Need-plain-requires Inv-loop μ-loop
 plain-requires c κs = search needs

@@ -9,7 +9,8 @@ use Rattle.listing.specs.Listing.{limits}
 use Rattle.order.proofs.Positions.{in-at}
 use Rattle.valid_diamond.specs.Dyadic.{subsOfAll, seenAfter, third}
 use Rattle.valid_diamond.specs.Tally.{LoneCount, Tally, Tallied}
-use Rattle.valid_diamond.proofs.Walks.{subsOf, Walked, walked-none, walk-more, walk-stop, walk-all, tallied-walked}
+use Rattle.valid_diamond.proofs.Walks.{subsOf, Walked, walked-none, walk-more, walk-stop, walk-all}
+use Rattle.valid_diamond.proofs.Walks.{tallied-walked}
 use Rattle.valid_diamond.proofs.dyadic.tally_all.Statement.{statement}
 use Rattle.valid_diamond.proofs.dyadic.tally_all.Tie as tie
 
