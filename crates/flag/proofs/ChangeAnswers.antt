@@ -12,7 +12,7 @@ use lib.ListN.{replicate}
 use Rattle.listing.specs.declared.Answer.{Answer}
 use Rattle.listing.specs.Refusals.{outsideRanks}
 use Rattle.listing.specs.Answers.{plain, fine, ifZero}
-use Rattle.listing.specs.Listing.{Listing, Limits, rank}
+use Rattle.listing.specs.Listing.{Listing, Limits, limits, rank}
 use Rattle.listing.proofs.Answers.{or-no, no-or, on-no, on-off, then-go}
 use Rattle.order.proofs.Tests.{and-true, and-off}
 use Rattle.valid.specs.Closed.{Closed}
@@ -63,12 +63,16 @@ abbrev answered : Answer → List ℕ → Changed
 answered a l = record { answer = a; flag = l }
 
 module _ (m : Limits) (L : Listing) (f : List ℕ) (r : ℕ) where
+  -- the numbers that go with the number of the answer
+  abbrev numbers : ℕ → List ℕ
+  numbers n = ifZero n (padded (changeAt L r f)) (replicate (limits .ranks) 0)
+
   module _ {a : Answer} {l : List ℕ} (e : a ≡ changeTest m L f r) where
-    pub changed-none : (a .no ≡ 0 → ⊥) → l ≡ replicate 16 0 → answered a l ≡ changedOf m L f r
+    pub changed-none : (a .no ≡ 0 → ⊥) → l ≡ replicate (limits .ranks) 0 → answered a l ≡ changedOf m L f r
     unfolding changedOf
     changed-none h k = rw (← e) (go (a .no) h)
       where
-        go : (n : ℕ) → (n ≡ 0 → ⊥) → answered a l ≡ answered a (ifZero n (padded (changeAt L r f)) (replicate 16 0))
+        go : (n : ℕ) → (n ≡ 0 → ⊥) → answered a l ≡ answered a (numbers n)
         go zero g = absurd (g refl)
         go (suc n) g = ap (answered a) k
 
@@ -76,7 +80,7 @@ module _ (m : Limits) (L : Listing) (f : List ℕ) (r : ℕ) where
     unfolding changedOf
     changed-some h k = rw (← e) (go (a .no) h)
       where
-        go : (n : ℕ) → n ≡ 0 → answered a l ≡ answered a (ifZero n (padded (changeAt L r f)) (replicate 16 0))
+        go : (n : ℕ) → n ≡ 0 → answered a l ≡ answered a (numbers n)
         go zero g = ap (answered a) k
         go (suc n) g = absurd (omega arith)
 
@@ -86,4 +90,4 @@ module _ (m : Limits) (L : Listing) (f : List ℕ) (r : ℕ) where
   unfolding changedOf
   change-changes e =
       let p = change-exact m L f r .0 e in
-      (changes L (p .0) r (p .2) (p .3) f (p .1), ap (λ (n : ℕ). ifZero n (padded (changeAt L r f)) (replicate 16 0)) e)
+      (changes L (p .0) r (p .2) (p .3) f (p .1), ap numbers e)

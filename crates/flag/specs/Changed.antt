@@ -10,7 +10,7 @@ use lib.ListN.{replicate}
 use Rattle.listing.specs.declared.Answer.{Answer}
 use Rattle.listing.specs.Refusals.{outsideRanks}
 use Rattle.listing.specs.Answers.{plain, on, _orElse_, ifZero}
-use Rattle.listing.specs.Listing.{Listing, Limits, rank}
+use Rattle.listing.specs.Listing.{Listing, Limits, limits, rank}
 use Rattle.flag_change.specs.Flags.{startTest}
 use Rattle.flag_change.specs.Change.{changeAt, padded}
 use Rattle.flag.specs.declared.Changed.{Changed}
@@ -21,4 +21,4 @@ changeTest m L f r = startTest m L f orElse on (not (ltb 0 r && ltb r (rank L)))
 unfoldable pub changedOf : Limits → Listing → List ℕ → ℕ → Changed
 changedOf m L f r =
     let a = changeTest m L f r in
-    record { answer = a; flag = ifZero (a .no) (padded (changeAt L r f)) (replicate 16 0) }
+    record { answer = a; flag = ifZero (a .no) (padded (changeAt L r f)) (replicate (limits .ranks) 0) }

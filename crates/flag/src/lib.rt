@@ -3,6 +3,7 @@ use flag_change::chain;
 use listing::Answer;
 use listing::Index;
 use listing::inner;
+use listing::limit;
 use listing::refusal;
 ghost use mathlib.Core.Path.{_≡_};
 ghost use Rattle.listing.specs.Listing.{held, limits};
@@ -13,7 +14,7 @@ ghost use Rattle.flag.specs.Orientations.{byteOf, ofByte, flipOf, signOf
 #[repr(C)]
 pub struct Changed {
     pub answer: Answer,
-    pub flag: [Index; 16],
+    pub flag: [Index; limit::RANKS],
 }
 
 // The refusals of a change: those of the closed test, 20, 21.
@@ -36,14 +37,14 @@ fn check_change(counts: &[Index], ends: &[Index], inc: &[Index], flag: &[Index],
 }
 
 // The change of a flag at rank r: of the two elements between those at the ranks r - 1 and r + 1, the other one is put
-// in. The new flag is a record of 16 numbers, 0 above the top; on a refusal all of them are 0.
+// in. The new flag has room for the most ranks, 0 above the top; on a refusal all of it is 0.
 pub fn change(counts: &[Index], ends: &[Index], inc: &[Index], flag: &[Index], r: u16) -> Changed
     ensures { λ a. ⌜ a ≡ changedOf limits (held (counts .entry) (ends .entry) (inc .entry))
         (now (flag .entry)) r ⌝ }
 {
     let answer = check_change(counts, ends, inc, flag, r);
     if answer.no != 0 {
-        let none: [Index; 16] = [0; 16];
+        let none: [Index; limit::RANKS] = [0; limit::RANKS];
         return Changed { answer, flag: none };
     }
     let new = chain::changed_at(counts, ends, inc, flag, inner::wide(r));

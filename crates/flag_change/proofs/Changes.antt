@@ -3,7 +3,7 @@
 -- Assumes nothing.
 use mathlib.Core.Path.{_≡_, refl, sym, ap, _∙_}
 use mathlib.Core.List.{List, [], _∷_}
-use mathlib.Core.Logic.{_↔_, _≢_, _⊎_, inl, inr}
+use mathlib.Core.Logic.{_↔_, Iff·symm, _≢_, _⊎_, inl, inr}
 use Prim.Native.Nat.{ℕ, _+_, _-_, _<_}
 use native.Mathlib.Omega.{arith}
 use native.Mathlib.Decide.{ℕ-discrete}
@@ -12,8 +12,9 @@ use lib.Seq.{getD-set-same, set-set, set-getD}
 use Rattle.order.specs.Lists.{In}
 use Rattle.order.specs.Steps.{ChangedAt}
 use Rattle.order.specs.Diamond.{OneOther}
+use Rattle.order.proofs.Renumbering.{OneOther·same}
 use Rattle.listing.specs.Listing.{Listing, Limits, count, rank, subs}
-use Rattle.valid_diamond.specs.Dyadic.{Between, Two, DiamondAt, Diamond}
+use Rattle.valid_diamond.specs.Dyadic.{LiesBetween, DiamondAt, DiamondUpTo}
 use Rattle.valid.specs.Closed.{Closed}
 use Rattle.flag_change.specs.Flags.{IsFlag}
 use Rattle.flag_change.specs.Change.{other, between, changeAt, Changes}
@@ -35,28 +36,6 @@ other-is e o (x ∷ l) h d only =
     go ih k (no z) (inl w) = absurd (z w)
     go ih k (no z) (inr w) = other-found e x l z ∙ w
 
--- of two, the one that is not y
-one-other : {P : ℕ → Type 0} → Two P → (y : ℕ) → P y → OneOther P y
-one-other {P} t y h = go (t .no-third y h)
-  where
-    go : (y ≡ t .one) ⊎ (y ≡ t .two) → OneOther P y
-    go (inl e) = record {
-      other = t .two;
-      differs = λ w. t .apart (sym (w ∙ e));
-      holds = t .second;
-      only = λ w k. rw e (t .no-third w k);
-    }
-    go (inr e) = record {
-      other = t .one;
-      differs = λ w. t .apart (w ∙ e);
-      holds = t .first;
-      only = λ w k. swap (t .no-third w k);
-    }
-      where
-        swap : {w : ℕ} → (w ≡ t .one) ⊎ (w ≡ t .two) → (w ≡ y) ⊎ (w ≡ t .one)
-        swap (inl u) = inr u
-        swap (inr u) = inl (u ∙ sym e)
-
 -- ---- what lies between
 
 module _ {m : Limits} (L : Listing) (C : Closed m L) (r : ℕ) (p : 0 < r) (q : r < rank L) where
@@ -69,21 +48,23 @@ module _ {m : Limits} (L : Listing) (C : Closed m L) (r : ℕ) (p : 0 < r) (q : 
 
     -- an element under the upper neighbour exists
     mid-exists : (x : ℕ) → In x (subs L (r + 1) (getD f (r + 1) 0)) → x < count L r
+    unfolding Incident
     mid-exists x h =
         let e : r + 1 - 1 ≡ r = omega arith in
-        rw e at (C .incident .sub-back (r + 1) (getD f (r + 1) 0) x high-exists h .1)
+        rw e at (C .incident (r + 1) (getD f (r + 1) 0) high-exists .lower .each x h .1)
 
     -- the elements between the neighbours, as the diamond has them
-    between-is : (x : ℕ) → In x (between L r f) ↔ Between L (r + 1) (getD f (r + 1) 0) (getD f (r - 1) 0) x
-    unfolding between
+    between-is : (x : ℕ) → In x (between L r f) ↔ LiesBetween L (r + 1) (getD f (r + 1) 0) (getD f (r - 1) 0) x
+    unfolding between Incident
     between-is x =
         let e : r + 1 - 1 ≡ r = omega arith in
         let d : r - 1 + 1 ≡ r = omega arith in
+        let up = C .incident (r - 1) (getD f (r - 1) 0) low-exists .upper in
         rw e (
+          λ h. let k = common-in x _ _ .0 h in (k .1, rw d at (up .each x (k .0) .1)),
           λ h.
-              let k = common-in x _ _ .0 h in
-              (k .1, rw d at (C .incident .sup-back (r - 1) (getD f (r - 1) 0) x low-exists (k .0) .1)),
-          λ h. common-in x _ _ .1 (C .incident .sub-back r x (getD f (r - 1) 0) (mid-exists x (h .0)) (h .1) .2, h .0),
+              let b = C .incident r x (mid-exists x (h .0)) .lower .each (getD f (r - 1) 0) (h .1) in
+              common-in x _ _ .1 (b .2, h .0),
         )
 
     -- the flag's own element is one of them
@@ -95,22 +76,14 @@ module _ {m : Limits} (L : Listing) (C : Closed m L) (r : ℕ) (p : 0 < r) (q : 
         = rw d at (F .under (r - 1) (omega (arith, F .one-each))) in
         between-is (getD f r 0) .1 (rw e (F .under r (omega (arith, F .one-each)), u))
 
-    two : Two (λ x. In x (between L r f))
-    unfolding Diamond DiamondAt
-    two =
-        let t = C .diamond (r + 1) (omega arith) (omega arith) (getD f (r + 1) 0) (getD f (r - 1) 0) (getD f r 0)
-        high-exists (between-is (getD f r 0) .0 stands) in
-        record {
-          one = t .one;
-          two = t .two;
-          apart = t .apart;
-          first = between-is (t .one) .1 (t .first);
-          second = between-is (t .two) .1 (t .second);
-          no-third = λ w h. t .no-third w (between-is w .0 h);
-        }
-
     the-other : OneOther (λ x. In x (between L r f)) (getD f r 0)
-    the-other = one-other two (getD f r 0) stands
+    unfolding DiamondUpTo DiamondAt
+    the-other =
+        let here = between-is (getD f r 0) .0 stands in
+        OneOther·same (LiesBetween L (r + 1) (getD f (r + 1) 0) (getD f (r - 1) 0)) (λ x. In x (between L r f)) (getD f r 0)
+        (λ w. between-is w .1) (λ w. between-is w .0)
+        (C .diamond (r + 1) (omega arith) (omega arith) (getD f (r + 1) 0) (getD f (r - 1) 0) (getD f r 0)
+        high-exists here)
 
     -- the number that the change puts in
     abbrev new : ℕ
@@ -168,8 +141,8 @@ module _ {m : Limits} (L : Listing) (C : Closed m L) (r : ℕ) (p : 0 < r) (q : 
     -- A flag of a closed listing has exactly one change at each rank between the ends, and making it twice leads back.
     pub changes : Changes L f r
     changes = record {
-      two-between = two f F;
-      one-stands = stands f F;
+      stands = stands f F;
+      one-other = the-other f F;
       is-flag = changed-flag f F;
       changed = changed-at f F;
       back = changed-back f F;

@@ -1,7 +1,6 @@
 pub mod FlagExact
 pub mod StartExact
 pub mod Common
-pub mod Halving
 pub mod Padding
 pub mod Replaced
 pub mod Changes

@@ -13,7 +13,7 @@ use Rattle.order.specs.Lists.{In}
 use Rattle.order.specs.Steps.{ChangedAt, here, there}
 use Rattle.listing.specs.Listing.{Listing, count, rank, subs}
 use Rattle.flag_change.specs.Flags.{IsFlag}
-use Rattle.flag_change.specs.Change.{between, Neighbours}
+use Rattle.flag_change.specs.Change.{between, Flanked}
 
 -- ---- lists that differ at one place are one list with another number there
 
@@ -39,8 +39,8 @@ module _ (L : Listing) (f : List ℕ) (r : ℕ) (p : 0 < r) (q : r < rank L) whe
       rw (getD-set-other f r (r - 1) x 0 (λ e. omega arith), getD-set-other f r (r + 1) x 0 (λ e. omega arith))
 
   module _ (F : IsFlag L f) where
-    pub flag-neighbours : Neighbours L f r
-    flag-neighbours = record {
+    pub flag-flanked : Flanked L f r
+    flag-flanked = record {
       over-lowest = p;
       under-highest = omega (arith, F .one-each);
       lower = F .exists (r - 1) (omega (arith, F .one-each));

@@ -4,10 +4,11 @@
 -- other       the first number of a list that is not e; 0 where there is none
 -- between     the elements between those of a flag at the ranks r - 1 and r + 1
 -- changeAt    the flag with the other of those at rank r
--- Neighbours  the numbers at the ranks r - 1 and r + 1 are elements that exist
--- Changes     of exactly two elements between, one stands in the flag; the change is a flag again, differs from it at
---             rank r exactly, leads back when it is made again, and is the only flag that differs so
--- padded      a flag as a record of 16 numbers, 0 above the top
+-- Flanked  the numbers at the ranks r - 1 and r + 1 are elements that exist
+-- Changes     the flag's element at rank r is one of those between, and there is exactly one other; the change is a
+--             flag again, differs from it at rank r exactly, leads back when it is made again, and is the only flag
+--             that differs so
+-- padded      a flag in room for the most ranks, 0 above the top
 use mathlib.Core.Path.{_≡_}
 use mathlib.Core.Bool.{cond}
 use mathlib.Core.List.{List, [], _∷_, _++_}
@@ -16,8 +17,8 @@ use lib.Dec.{eqb}
 use lib.ListN.{length, getD, set, replicate}
 use Rattle.order.specs.Lists.{In, has}
 use Rattle.order.specs.Steps.{ChangedAt}
-use Rattle.listing.specs.Listing.{Listing, count, subs, sups}
-use Rattle.valid_diamond.specs.Dyadic.{Two}
+use Rattle.order.specs.Diamond.{OneOther}
+use Rattle.listing.specs.Listing.{Listing, limits, count, subs, sups}
 use Rattle.flag_change.specs.Flags.{IsFlag}
 
 unfoldable pub common : List ℕ → List ℕ → List ℕ
@@ -34,19 +35,19 @@ between L r f = common (sups L (r - 1) (getD f (r - 1) 0)) (subs L (r + 1) (getD
 unfoldable pub changeAt : Listing → ℕ → List ℕ → List ℕ
 changeAt L r f = set f r (other (getD f r 0) (between L r f))
 
-pub record Neighbours (L : Listing) (f : List ℕ) (r : ℕ) : Type 0 where
+pub record Flanked (L : Listing) (f : List ℕ) (r : ℕ) : Type 0 where
   pub over-lowest : 0 < r
   pub under-highest : r + 1 < length f
   pub lower : getD f (r - 1) 0 < count L (r - 1)
   pub upper : getD f (r + 1) 0 < count L (r + 1)
 
 pub record Changes (L : Listing) (f : List ℕ) (r : ℕ) : Type 0 where
-  pub two-between : Two (λ x. In x (between L r f))
-  pub one-stands : In (getD f r 0) (between L r f)
+  pub stands : In (getD f r 0) (between L r f)
+  pub one-other : OneOther (λ x. In x (between L r f)) (getD f r 0)
   pub is-flag : IsFlag L (changeAt L r f)
   pub changed : ChangedAt r f (changeAt L r f)
   pub back : changeAt L r (changeAt L r f) ≡ f
   pub only : (g : List ℕ) → IsFlag L g → ChangedAt r f g → g ≡ changeAt L r f
 
 unfoldable pub padded : List ℕ → List ℕ
-padded f = f ++ replicate (16 - length f) 0
+padded f = f ++ replicate (limits .ranks - length f) 0

@@ -3,18 +3,19 @@
 use listing::Answer;
 use listing::Index;
 use listing::inner;
+use listing::limit;
+use listing::membership;
 use listing::refusal;
-use valid_incidence::incidence;
 ghost use mathlib.Core.Path.{_≡_};
 ghost use Prim.Native.Nat.{_+_, _-_, _≤_, _<_};
 ghost use lib.ListN.{length, getD};
-ghost use Rattle.order.specs.Lists.{has, Ascending};
-ghost use Rattle.listing.specs.Listing.{width, held, limits, before};
+ghost use Rattle.order.specs.Lists.{Ascending};
+ghost use Rattle.listing.specs.Listing.{held, limits, before};
 ghost use Rattle.listing.specs.Shape.{Shaped};
 ghost use Rattle.valid.specs.Ascent.{Ascends};
 ghost use Rattle.valid.specs.Closed.{Closed};
 ghost use Rattle.flag_change.specs.Flags.{flagAt, flagTest, startTest, IsFlag};
-ghost use Rattle.flag_change.specs.Change.{common, other, between, changeAt, padded, Neighbours};
+ghost use Rattle.flag_change.specs.Change.{common, other, between, changeAt, padded, Flanked};
 
 // Whether an index that exists stands in the flag at rank r, which begins at place here, and over what stands below it.
 fn stands_at(
@@ -38,7 +39,7 @@ fn stands_at(
     if r == 0 {
         return true;
     }
-    incidence::contains(inner::side_of(ends, inc, here, x, 0), flag[r - 1])
+    membership::contains(inner::side_of(ends, inc, here, x, 0), flag[r - 1])
 }
 
 // Whether the numbers are a flag: one existing index per rank, each a sub of the next.
@@ -77,57 +78,6 @@ pub fn check_flag(counts: &[Index], ends: &[Index], inc: &[Index], flag: &[Index
     inner::plain(refusal::NOT_A_FLAG)
 }
 
-// The place where rank r begins.
-pub fn place_of(counts: &[Index], r: usize) -> usize
-    requires { ⌜ (r ≤ length (now counts)) × (before (now counts) r < width) ⌝ }
-    ensures { λ p. ⌜ p ≡ before (now (counts .entry)) r ⌝ }
-{
-    let mut p: usize = 0;
-    let mut k: usize = 0;
-    while k < r {
-        p += inner::wide(counts[k]);
-        k += 1;
-    }
-    p
-}
-
-// Whether x is one of the numbers of an ascending list, by halving: if it is, it stands
-// from lo up to, not including, hi.
-fn is_found(list: &[Index], x: u16) -> bool
-    requires { ⌜ Ascending (now list) ⌝ }
-    ensures { λ t. ⌜ t ≡ has (now (list .entry)) x ⌝ }
-{
-    let mut lo: usize = 0;
-    let mut hi = list.len();
-    while lo < hi {
-        let mid = lo + (hi - lo) / 2;
-        let y = list[mid];
-        if y < x {
-            lo = mid + 1;
-        } else if x < y {
-            hi = mid;
-        } else {
-            return true;
-        }
-    }
-    false
-}
-
-// The same. An end's list is mostly that of all indices: there x stands at the place x.
-fn holds(list: &[Index], x: u16) -> bool
-    requires { ⌜ Ascending (now list) ⌝ }
-    ensures { λ t. ⌜ t ≡ has (now (list .entry)) x ⌝ }
-{
-    let p = inner::wide(x);
-    if list.len() <= p {
-        return is_found(list, x);
-    }
-    if list[p] != x {
-        return is_found(list, x);
-    }
-    true
-}
-
 // The first number of one list that another, ascending one holds too and that is not e; 0 where there is none.
 fn other_among(short: &[Index], long: &[Index], e: u16) -> u16
     requires { ⌜ Ascending (now long) ⌝ }
@@ -138,7 +88,7 @@ fn other_among(short: &[Index], long: &[Index], e: u16) -> u16
         let x = short[i];
         if x == e {
             i += 1;
-        } else if holds(long, x) {
+        } else if membership::ascending_contains(long, x) {
             return x;
         } else {
             i += 1;
@@ -174,7 +124,7 @@ pub fn change_index(
     requires { ⌜ Shaped limits (held counts ends inc) ⌝ }
     requires { ⌜ Ascends (held counts ends inc) ⌝ }
     requires { ⌜ (low ≡ before (now counts) (r - 1)) × (high ≡ before (now counts) (r + 1)) ⌝ }
-    requires { ⌜ Neighbours (held counts ends inc) (now flag) r ⌝ }
+    requires { ⌜ Flanked (held counts ends inc) (now flag) r ⌝ }
     ensures { λ x. ⌜ x ≡ other (getD (now (flag .entry)) r 0)
         (between (held (counts .entry) (ends .entry) (inc .entry)) r (now (flag .entry))) ⌝ }
 {
@@ -183,12 +133,12 @@ pub fn change_index(
     other_between(below, above, flag[r])
 }
 
-// A flag as a record of 16 numbers, 0 above the top.
-pub fn pad(flag: &[Index]) -> [Index; 16]
-    requires { ⌜ length (now flag) ≤ 16 ⌝ }
+// A flag in room for the most ranks, 0 above the top.
+pub fn pad(flag: &[Index]) -> [Index; limit::RANKS]
+    requires { ⌜ length (now flag) ≤ limits .ranks ⌝ }
     ensures { λ a. ⌜ a ≡ padded (now (flag .entry)) ⌝ }
 {
-    let mut a: [Index; 16] = [0; 16];
+    let mut a: [Index; limit::RANKS] = [0; limit::RANKS];
     let mut k: usize = 0;
     while k < flag.len() {
         a[k] = flag[k];
@@ -197,22 +147,22 @@ pub fn pad(flag: &[Index]) -> [Index; 16]
     a
 }
 
-// The flag after the change at rank r, as a record of 16 numbers.
+// The flag after the change at rank r, in room for the most ranks.
 pub fn changed_at(
     counts: &[Index],
     ends: &[Index],
     inc: &[Index],
     flag: &[Index],
     r: usize,
-) -> [Index; 16]
+) -> [Index; limit::RANKS]
     requires { ⌜ Closed limits (held counts ends inc) ⌝ }
     requires { ⌜ IsFlag (held counts ends inc) (now flag) ⌝ }
     requires { ⌜ (0 < r) × (r < length (now counts) - 1) ⌝ }
     ensures { λ a. ⌜ a ≡ padded (changeAt (held (counts .entry) (ends .entry) (inc .entry)) r
         (now (flag .entry))) ⌝ }
 {
-    let low = place_of(counts, r - 1);
-    let high = place_of(counts, r + 1);
+    let low = inner::elements_before(counts, r - 1);
+    let high = inner::elements_before(counts, r + 1);
     let x = change_index(counts, ends, inc, flag, r, low, high);
     let mut new = pad(flag);
     new[r] = x;

@@ -2,9 +2,9 @@
 // sign and the next event, which cross as numbers. A slice crosses as a pointer and a length. Nothing is decided here.
 use flag::Changed;
 use listing::Answer;
+use listing::Built;
 use listing::Index;
 use listing::Number;
-use product::Built;
 use search::Searched;
 use search_events::Cursor;
 use search_events::Said;
@@ -162,8 +162,7 @@ pub extern "C" fn fd_duopyramid(
     ensures { λ a. ⌜ Outcome limits false false
         (held (pcounts .entry) (pends .entry) (pinc .entry))
         (held (qcounts .entry) (qends .entry) (qinc .entry))
-        (now (counts .entry)) (now (ends .entry)) (now (inc .entry)) (now (counts .exit)) (now (ends .exit))
-        (now (inc .exit)) a ⌝ }
+        (held (counts .entry) (ends .entry) (inc .entry)) (held (counts .exit) (ends .exit) (inc .exit)) a ⌝ }
 {
     product::duopyramid(
         pcounts,
@@ -193,8 +192,7 @@ pub extern "C" fn fd_duoprism(
     ensures { λ a. ⌜ Outcome limits true false
         (held (pcounts .entry) (pends .entry) (pinc .entry))
         (held (qcounts .entry) (qends .entry) (qinc .entry))
-        (now (counts .entry)) (now (ends .entry)) (now (inc .entry)) (now (counts .exit)) (now (ends .exit))
-        (now (inc .exit)) a ⌝ }
+        (held (counts .entry) (ends .entry) (inc .entry)) (held (counts .exit) (ends .exit) (inc .exit)) a ⌝ }
 {
     product::duoprism(
         pcounts,
@@ -224,8 +222,7 @@ pub extern "C" fn fd_duotegum(
     ensures { λ a. ⌜ Outcome limits false true
         (held (pcounts .entry) (pends .entry) (pinc .entry))
         (held (qcounts .entry) (qends .entry) (qinc .entry))
-        (now (counts .entry)) (now (ends .entry)) (now (inc .entry)) (now (counts .exit)) (now (ends .exit))
-        (now (inc .exit)) a ⌝ }
+        (held (counts .entry) (ends .entry) (inc .entry)) (held (counts .exit) (ends .exit) (inc .exit)) a ⌝ }
 {
     product::duotegum(
         pcounts,
@@ -255,8 +252,7 @@ pub extern "C" fn fd_duocomb(
     ensures { λ a. ⌜ Outcome limits true true
         (held (pcounts .entry) (pends .entry) (pinc .entry))
         (held (qcounts .entry) (qends .entry) (qinc .entry))
-        (now (counts .entry)) (now (ends .entry)) (now (inc .entry)) (now (counts .exit)) (now (ends .exit))
-        (now (inc .exit)) a ⌝ }
+        (held (counts .entry) (ends .entry) (inc .entry)) (held (counts .exit) (ends .exit) (inc .exit)) a ⌝ }
 {
     product::duocomb(
         pcounts,

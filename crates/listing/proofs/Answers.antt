@@ -24,13 +24,13 @@ pub or-fine : (x y : Answer) → x .no ≡ 0 → x orElse y ≡ y
 unfolding _orElse_
 or-fine x y e = rw e
 
-other : {A : Type 0} (n : ℕ) (x y : A) → (n ≡ 0 → ⊥) → ifZero n x y ≡ y
-other zero x y h = absurd (h refl)
-other (suc n) x y h = refl
+pub if-not : {A : Type 0} (n : ℕ) (x y : A) → (n ≡ 0 → ⊥) → ifZero n x y ≡ y
+if-not zero x y h = absurd (h refl)
+if-not (suc n) x y h = refl
 
 pub or-stop : (x y : Answer) → (x .no ≡ 0 → ⊥) → x orElse y ≡ x
 unfolding _orElse_
-or-stop x y h = other (x .no) y x h
+or-stop x y h = if-not (x .no) y x h
 
 pub or-no : (x y : Answer) → (x orElse y) .no ≡ 0 → (x .no ≡ 0) × (y .no ≡ 0)
 or-no x y e = go (x .no) refl
@@ -44,8 +44,6 @@ or-no x y e = go (x .no) refl
 pub no-or : (x y : Answer) → x .no ≡ 0 → y .no ≡ 0 → (x orElse y) .no ≡ 0
 no-or x y e f = ap number (or-fine x y e) ∙ f
 
--- ---- a refusal where a test says so
-
 pub or-assoc : (x y z : Answer) → x orElse (y orElse z) ≡ (x orElse y) orElse z
 unfolding _orElse_
 or-assoc x y z = go (x .no) refl
@@ -53,6 +51,8 @@ or-assoc x y z = go (x .no) refl
     go : (n : ℕ) → x .no ≡ n → ifZero n (ifZero (y .no) z y) x ≡ ifZero (ifZero n y x .no) z (ifZero n y x)
     go zero e = refl
     go (suc n) e = rw e
+
+-- ---- a refusal where a test says so
 
 pub on-no : (b : Bool) (x : Answer) → (x .no ≡ 0 → ⊥) → on b x .no ≡ 0 → b ≡ false
 on-no true x h e = absurd (h e)
@@ -128,6 +128,20 @@ module _ (a W : Answer) (f : ℕ → Answer) (i n : ℕ) where
   pub of-done : W ≡ firstOf f i n → a ≡ fine → n ≤ i → a ≡ W
   of-done e k h = k ∙ sym (of-end W f i n e h)
 
+-- tests that answer alike on the way answer alike as a whole
+module _ (f g : ℕ → Answer) where
+  for-same : (d i : ℕ) → ((k : ℕ) → i ≤ k → k < i + d → f k ≡ g k) → firstFor f i d ≡ firstFor g i d
+  unfolding firstFor
+  for-same zero i e = refl
+  for-same (suc d) i e =
+      let p = e i (omega arith) (omega arith) in
+      let q = for-same d (suc i) (λ k l h. e k (omega arith) (omega arith)) in
+      λ j. p j orElse q j
+
+  pub of-same : (i n : ℕ) → ((k : ℕ) → i ≤ k → k < n → f k ≡ g k) → firstOf f i n ≡ firstOf g i n
+  unfolding firstOf
+  of-same i n e = for-same (n - i) i (λ k l h. e k l (omega arith))
+
 -- ---- no refusal along the way means none anywhere, and back
 
 module _ (f : ℕ → Answer) where
@@ -168,3 +182,12 @@ module _ (f : ℕ → Answer) where
   pub of-all : (i n : ℕ) → ((k : ℕ) → i ≤ k → k < n → f k .no ≡ 0) → firstOf f i n .no ≡ 0
   unfolding firstOf
   of-all i n a = for-all (n - i) i (λ k l h. a k l (omega arith))
+
+  for-fine : ((k : ℕ) → f k ≡ fine) → (d i : ℕ) → firstFor f i d ≡ fine
+  unfolding firstFor
+  for-fine e zero i = refl
+  for-fine e (suc d) i = or-fine (f i) _ (ap number (e i)) ∙ for-fine e d (suc i)
+
+  pub of-fine : ((k : ℕ) → f k ≡ fine) → (i n : ℕ) → firstOf f i n ≡ fine
+  unfolding firstOf
+  of-fine e i n = for-fine e (n - i) i

@@ -21,9 +21,13 @@ module _ (counts : List ℕ) (n : ℕ) where
   unfolding counted
   counted-some h = rw (ne-eqb _ _ h)
 
+-- how many values a usize can have
+abbrev word : ℕ
+word = 2 ^ 64
+
 -- the rank less one, wrapped, counts the facets
-wrapped : (counts : List ℕ) (v r : ℕ) → rankOf counts .value ≡ v → length counts < 2 ^ 64 → r < 2 ^ 64
-    → (r + 1) % 2 ^ 64 ≡ v → (length counts ≡ 0 → ⊥) → getD counts r 0 ≡ facets counts
+wrapped : (counts : List ℕ) (v r : ℕ) → rankOf counts .value ≡ v → length counts < word → r < word
+    → (r + 1) % word ≡ v → (length counts ≡ 0 → ⊥) → getD counts r 0 ≡ facets counts
 unfolding facets rankOf
 wrapped counts v r e f g h some = go (leb 2 (length counts)) refl
   where
@@ -36,8 +40,8 @@ wrapped counts v r e f g h some = go (leb 2 (length counts)) refl
         ap (λ (k : ℕ). getD counts k 0) i
     go false t = List·getD-eq-default counts 0 (omega (arith, leb-false 2 (length counts) t, at))
 
-pub facets-wrapped : (counts : List ℕ) (v r : ℕ) → rankOf counts .value ≡ v → length counts < 2 ^ 64 → r < 2 ^ 64
-    → (r + 1) % 2 ^ 64 ≡ v → elCountOf counts r ≡ facetCountOf counts
+pub facets-wrapped : (counts : List ℕ) (v r : ℕ) → rankOf counts .value ≡ v → length counts < word → r < word
+    → (r + 1) % word ≡ v → elCountOf counts r ≡ facetCountOf counts
 unfolding elCountOf facetCountOf
 facets-wrapped counts v r e f g h = go (eqb (length counts) 0) refl
   where

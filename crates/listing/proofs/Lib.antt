@@ -2,6 +2,8 @@ pub mod Answers
 pub mod Bands
 pub mod Counts
 pub mod Listing
+pub mod Elements
+pub mod Places
 pub mod ShapeExact
 pub mod Sequences
 pub mod Layers
@@ -10,3 +12,4 @@ pub mod Broken
 pub mod Among
 pub mod ShapeBroken
 pub mod Clear
+pub mod Output

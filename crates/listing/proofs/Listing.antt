@@ -43,6 +43,16 @@ before-all counts (suc r) = go (before-all counts r) (decLt r (length counts))
     go ih (yes l) = before-le counts (suc r) (length counts) l
     go ih (no l) = omega (arith, List·getD-eq-default counts 0 {n = r} (omega arith))
 
+-- a rank begins where the one below it ends
+pub before-step : (counts : List ℕ) (r : ℕ) → 0 < r → before counts r ≡ before counts (r - 1) + getD counts (r - 1) 0
+before-step counts r h =
+    let e : r - 1 + 1 ≡ r = omega arith in
+    rw e at (before-next counts (r - 1))
+
+-- a rank has no more elements than all have
+pub count-le : (counts : List ℕ) (r : ℕ) → getD counts r 0 ≤ before counts (length counts)
+count-le counts r = omega (arith, before-next counts r, before-all counts (r + 1))
+
 -- ---- where a list begins
 
 -- the end before it; also the count of the rank below

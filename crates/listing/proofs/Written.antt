@@ -8,12 +8,12 @@ use native.Mathlib.Decide.{decLt}
 use native.Mathlib.Omega.{arith}
 use lib.ListN.{length, getD, take, drop, length-append, List·getD-eq-default}
 use lib.Seq.{take-at, drop-at, getD-at}
-use Rattle.order.specs.Sums.{sum, place}
-use Rattle.order.proofs.Sums.{sum-lt, sum-same, place-ok, place-at}
+use Rattle.order.specs.Sums.{sum, partAt}
+use Rattle.order.proofs.Sums.{sum-lt, sum-same, part-ok, part-at}
 use Rattle.listing.specs.Listing.{Limits, rank, count, before, start, entries, side, subs, sups}
 use Rattle.listing.specs.Shape.{elements, Shaped}
 use Rattle.listing.specs.Layers.{Layers, Topped}
-use Rattle.listing.specs.Written.{joined, table, lengths, listAt, nth, written}
+use Rattle.listing.specs.Written.{joined, tabulated, lengths, listAt, nth, written}
 use Rattle.listing.proofs.Sequences.{sum-parts, sum-twos}
 use Rattle.listing.proofs.Layers.{in-range}
 
@@ -52,20 +52,20 @@ joined-same f g (suc n) h = rw (joined-same f g n (λ i l. h i (omega arith)), h
 -- ---- numbers one after another
 
 module _ (f : ℕ → ℕ) where
-  pub table-length : (n : ℕ) → length (table f n) ≡ n
-  unfolding table joined
-  table-length zero = refl
-  table-length (suc n) = omega (arith, length-append (table f n) (f n ∷ []), table-length n)
+  pub tabulated-length : (n : ℕ) → length (tabulated f n) ≡ n
+  unfolding tabulated joined
+  tabulated-length zero = refl
+  tabulated-length (suc n) = omega (arith, length-append (tabulated f n) (f n ∷ []), tabulated-length n)
 
-  pub table-at : (n i : ℕ) → i < n → getD (table f n) i 0 ≡ f i
-  unfolding table
-  table-at n i h =
+  pub tabulated-at : (n i : ℕ) → i < n → getD (tabulated f n) i 0 ≡ f i
+  unfolding tabulated
+  tabulated-at n i h =
       let s = joined-split (λ k. f k ∷ []) n i h in
-      rw (s .1) (getD-at (table f i) (f i) (s .0) 0 i (table-length i))
+      rw (s .1) (getD-at (tabulated f i) (f i) (s .0) 0 i (tabulated-length i))
 
-pub table-same : (f g : ℕ → ℕ) (n : ℕ) → ((i : ℕ) → i < n → f i ≡ g i) → table f n ≡ table g n
-unfolding table
-table-same f g n h = joined-same _ _ n (λ i l. ap (λ x. x ∷ []) (h i l))
+pub tabulated-same : (f g : ℕ → ℕ) (n : ℕ) → ((i : ℕ) → i < n → f i ≡ g i) → tabulated f n ≡ tabulated g n
+unfolding tabulated
+tabulated-same f g n h = joined-same _ _ n (λ i l. ap (λ x. x ∷ []) (h i l))
 
 -- ---- the three lists
 
@@ -80,11 +80,11 @@ total M above = sum (λ r. sum (λ i. length (M .under r i) + length (above r i)
 module _ (M : Layers) (above : ℕ → ℕ → List ℕ) where
   pub written-counts-length : length (written M above .counts) ≡ suc (M .top)
   unfolding written
-  written-counts-length = table-length (M .size) (suc (M .top))
+  written-counts-length = tabulated-length (M .size) (suc (M .top))
 
   pub written-ends-length : length (written M above .ends) ≡ lists M
   unfolding written
-  written-ends-length = table-length _ (lists M)
+  written-ends-length = tabulated-length _ (lists M)
 
   pub written-rank : rank (written M above) ≡ M .top
   written-rank = omega (arith, written-counts-length)
@@ -93,7 +93,7 @@ module _ (M : Layers) (above : ℕ → ℕ → List ℕ) where
   written-start : (k : ℕ) → k ≤ lists M → start (written M above .ends) k ≡ sum (lengths (nth M above)) k
   unfolding written sum
   written-start zero h = refl
-  written-start (suc k) h = table-at (λ n. sum (lengths (nth M above)) (suc n)) (lists M) k h
+  written-start (suc k) h = tabulated-at (λ n. sum (lengths (nth M above)) (suc n)) (lists M) k h
 
   written-entries : (k : ℕ) → k < lists M → entries (written M above .ends) (written M above .inc) k ≡ nth M above k
   unfolding entries written sum
@@ -109,7 +109,7 @@ module _ (M : Layers) (above : ℕ → ℕ → List ℕ) where
   nth-at s r i hs hr hi =
       let d : (2 * (sum (M .size) r + i) + s) / 2 ≡ sum (M .size) r + i = omega arith in
       let e : (2 * (sum (M .size) r + i) + s) % 2 ≡ s = omega arith in
-      rw (d, e, place-at (M .size) (suc (M .top)) r i (omega arith) hi)
+      rw (d, e, part-at (M .size) (suc (M .top)) r i (omega arith) hi)
 
   -- the lengths of all lists together, in the order of the lists and by elements
   lengths-total : sum (lengths (nth M above)) (lists M) ≡ total M above
@@ -144,11 +144,11 @@ module _ (M : Layers) (above : ℕ → ℕ → List ℕ) (t : Topped M) where
   unfolding written Topped
   written-count r = go (decLt (M .top) r)
     where
-      go : Dec (M .top < r) → getD (table (M .size) (suc (M .top))) r 0 ≡ M .size r
+      go : Dec (M .top < r) → getD (tabulated (M .size) (suc (M .top))) r 0 ≡ M .size r
       go (yes l) =
-          let n = table-length (M .size) (suc (M .top)) in
-          List·getD-eq-default (table (M .size) (suc (M .top))) 0 (omega arith) ∙ sym (t r l)
-      go (no l) = table-at (M .size) (suc (M .top)) r (omega arith)
+          let n = tabulated-length (M .size) (suc (M .top)) in
+          List·getD-eq-default (tabulated (M .size) (suc (M .top))) 0 (omega arith) ∙ sym (t r l)
+      go (no l) = tabulated-at (M .size) (suc (M .top)) r (omega arith)
 
   pub written-before : (r : ℕ) → before (written M above .counts) r ≡ sum (M .size) r
   unfolding before
@@ -196,20 +196,20 @@ module _ (M N : Layers) (a b : ℕ → ℕ → List ℕ) (p : M .top ≡ N .top)
   same-nth : (n : ℕ) → n < lists M → nth M a n ≡ nth N b n
   unfolding nth
   same-nth n h =
-      same-list (n % 2) _ (place-ok (M .size) (suc (M .top)) (n / 2) (omega arith) .1)
-      ∙ (λ t. listAt N b (n % 2) (place (λ r. q r t) (suc (p t)) (n / 2)))
+      same-list (n % 2) _ (part-ok (M .size) (suc (M .top)) (n / 2) (omega arith) .1)
+      ∙ (λ t. listAt N b (n % 2) (partAt (λ r. q r t) (suc (p t)) (n / 2)))
 
   same-lists : lists M ≡ lists N
   same-lists = λ t. 2 * sum (λ r. q r t) (suc (p t))
 
   pub written-same : written M a ≡ written N b
   unfolding written
-  written-same = λ t. record { counts = table (λ r. q r t) (suc (p t)); ends = ends t; inc = inc t }
+  written-same = λ t. record { counts = tabulated (λ r. q r t) (suc (p t)); ends = ends t; inc = inc t }
     where
       ends : written M a .ends ≡ written N b .ends
       ends =
-          table-same _ _ (lists M) (λ i h. sum-same _ _ (suc i) (λ k l. ap length (same-nth k (omega arith))))
-          ∙ ap (table (λ n. sum (lengths (nth N b)) (suc n))) same-lists
+          tabulated-same _ _ (lists M) (λ i h. sum-same _ _ (suc i) (λ k l. ap length (same-nth k (omega arith))))
+          ∙ ap (tabulated (λ n. sum (lengths (nth N b)) (suc n))) same-lists
 
       inc : written M a .inc ≡ written N b .inc
       inc = joined-same _ _ _ same-nth ∙ ap (joined (nth N b)) same-lists

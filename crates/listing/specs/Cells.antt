@@ -1,7 +1,7 @@
 -- Small listings.
 --
 -- nullitope, point, dyad, triangle   closed cells of ranks 0 to 3; the triangle's edges are {0,1}, {0,2}, {1,2}
--- nothing       no counts at all
+-- rankless      no counts at all
 -- twoMinimal    counts 2, 1, with no incidences
 -- threeOnTop    three vertices under the top
 -- oneOnTop      one vertex under the top
@@ -24,8 +24,8 @@ triangle =
     (0 ∷ 3 ∷ 4 ∷ 6 ∷ 7 ∷ 9 ∷ 10 ∷ 12 ∷ 14 ∷ 15 ∷ 17 ∷ 18 ∷ 20 ∷ 21 ∷ 24 ∷ 24 ∷ [])
     (0 ∷ 1 ∷ 2 ∷ 0 ∷ 0 ∷ 1 ∷ 0 ∷ 0 ∷ 2 ∷ 0 ∷ 1 ∷ 2 ∷ 0 ∷ 1 ∷ 0 ∷ 0 ∷ 2 ∷ 0 ∷ 1 ∷ 2 ∷ 0 ∷ 0 ∷ 1 ∷ 2 ∷ [])
 
-abbrev pub nothing : Listing
-nothing = listing [] [] []
+abbrev pub rankless : Listing
+rankless = listing [] [] []
 
 abbrev pub twoMinimal : Listing
 twoMinimal = listing (2 ∷ 1 ∷ []) (0 ∷ 0 ∷ 0 ∷ 0 ∷ 0 ∷ 0 ∷ []) []

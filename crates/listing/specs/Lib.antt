@@ -6,4 +6,5 @@ pub mod Counts
 pub mod Layers
 pub mod Written
 pub mod Cells
+pub mod Output
 pub mod Rules

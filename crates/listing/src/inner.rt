@@ -3,7 +3,7 @@
 use crate::Answer;
 use crate::Index;
 ghost use mathlib.Core.Path.{_≡_};
-ghost use Prim.Native.Nat.{_+_, _*_, _≤_, _<_, min};
+ghost use Prim.Native.Nat.{_+_, _*_, _≤_, _<_};
 ghost use lib.ListN.{length, getD};
 ghost use Rattle.listing.specs.Answers.{refusal};
 ghost use Rattle.listing.specs.Listing.{width, before, start, entries, Ends};
@@ -36,19 +36,16 @@ pub fn count_at(counts: &[Index], r: usize) -> Index
     if r < counts.len() { counts[r] } else { 0 }
 }
 
-// The number of elements of all ranks, or one more than `most` where it is over.
-pub fn elements_to(counts: &[Index], most: usize) -> usize
-    requires { ⌜ most < width ⌝ }
-    ensures { λ n. ⌜ n ≡ min (before (now (counts .entry)) (length (now (counts .entry)))) (most + 1) ⌝ }
+// The number of elements of all ranks below rank r: where rank r begins.
+pub fn elements_before(counts: &[Index], r: usize) -> usize
+    requires { ⌜ r < width ⌝ }
+    ensures { λ n. ⌜ n ≡ before (now (counts .entry)) r ⌝ }
 {
     let mut n: usize = 0;
-    let mut r: usize = 0;
-    while r < counts.len() {
-        n += wide(counts[r]);
-        if most < n {
-            return most + 1;
-        }
-        r += 1;
+    let mut q: usize = 0;
+    while q < r {
+        n += wide(count_at(counts, q));
+        q += 1;
     }
     n
 }

@@ -1,6 +1,8 @@
 // Listings: cells in three lent slices. Here are their answers and refusals, the shape test and the four counts.
 pub mod inner;
 pub mod limit;
+pub mod outputs;
+pub mod membership;
 pub mod refusal;
 
 ghost use mathlib.Core.Path.{_≡_};
@@ -27,6 +29,21 @@ pub struct Answer {
 pub struct Number {
     pub no: u16,
     pub value: usize,
+}
+
+// What a function that writes a listing answers: a refusal or 0, and how many numbers it wrote into each output slice.
+#[repr(C)]
+pub struct Built {
+    pub answer: Answer,
+    pub counts: u16,
+    pub ends: u16,
+    pub inc: u16,
+}
+
+// An element: its rank, and its index there.
+pub struct Element {
+    pub rank: Index,
+    pub index: Index,
 }
 
 // The class of a refusal.
@@ -122,7 +139,7 @@ pub fn shape(counts: &[Index], ends: &[Index], inc: &[Index]) -> Answer
     if limit::RANKS < counts.len() {
         return inner::plain(refusal::OVER_RANKS);
     }
-    let n = inner::elements_to(counts, limit::ELEMENTS);
+    let n = inner::elements_before(counts, counts.len());
     if limit::ELEMENTS < n {
         return inner::plain(refusal::OVER_ELEMENTS);
     }

@@ -11,13 +11,13 @@ use lib.ListN.{replicate-append-replicate}
 use lib.Seq.{ext-getD, getD-take, getD-drop}
 use Rattle.order.specs.Lists.{occurs}
 use Rattle.order.specs.Sums.{sum}
-use Rattle.order.proofs.Lists.{occurs-append}
+use Rattle.order.proofs.Lists.{occurs-append, occurs-own}
 use Rattle.order.proofs.Sums.{sum-le}
 use Rattle.listing.specs.Listing.{start, entries, Ends}
 use Rattle.listing.specs.Layers.{gather}
 use Rattle.listing.proofs.Layers.{gather-length}
 use Rattle.listing_sups.specs.Sups.{Raised, Strewn, Apart, between}
-use Rattle.listing_sups.proofs.Raising.{occurs-take, occurs-this, raised-then}
+use Rattle.listing_sups.proofs.Raising.{occurs-take, raised-then}
 use Rattle.listing_sups.proofs.Strewing.{strewn-then}
 
 occurs-some : (x : ℕ) (l : List ℕ) (d : ℕ) → occurs x (take d l) ≤ occurs x l
@@ -58,7 +58,7 @@ module _ (first n from to k t : ℕ) (inc next inc′ next′ : List ℕ) (ht : 
         apart .below x h,
         occurs-take x l d (omega (arith, list-size)),
         occurs-some x l (d + 1),
-        occurs-this x,
+        occurs-own x,
         ap (λ (y : ℕ). occurs x (y ∷ [])) e,
       )
 

@@ -6,13 +6,12 @@ use mathlib.Core.List.{List, [], _∷_}
 use Prim.Native.Nat.{ℕ, suc, _+_, _-_, _*_, _≤_, _<_}
 use native.Mathlib.Decide.{decLt}
 use native.Mathlib.Omega.{arith}
-use borrow.Author.Tests.{eq-eqb, ne-eqb}
 use lib.Dec.{eqb}
 use lib.ListN.{length, getD, set, take, drop, length-set, length-take, length-drop}
 use lib.Seq.{take-suc, getD-set-same, getD-set-other}
 use Rattle.order.specs.Lists.{occurs}
 use Rattle.order.specs.Sums.{sum}
-use Rattle.order.proofs.Lists.{occurs-append}
+use Rattle.order.proofs.Lists.{occurs-append, occurs-own, occurs-apart}
 use Rattle.listing.specs.Listing.{width, start, entries, Ends}
 use Rattle.listing_sups.specs.Sups.{Raised}
 use Rattle.product_places.proofs.Numbers.{sum-next}
@@ -27,18 +26,6 @@ occurs-le x (y ∷ l) = go (eqb y x) (occurs-le x l)
     go : (b : Bool) → occurs x l ≤ length l → cond b (suc (occurs x l)) (occurs x l) ≤ suc (length l)
     go true h = omega arith
     go false h = omega arith
-
-pub occurs-nil : (x : ℕ) → occurs x [] ≡ 0
-unfolding occurs
-occurs-nil x = refl
-
-pub occurs-this : (x : ℕ) → occurs x (x ∷ []) ≡ 1
-unfolding occurs
-occurs-this x = rw (eq-eqb x x refl)
-
-pub occurs-not : (x y : ℕ) → (x ≡ y → ⊥) → occurs y (x ∷ []) ≡ 0
-unfolding occurs
-occurs-not x y h = rw (ne-eqb x y h)
 
 -- one entry more has been passed
 pub occurs-take : (y : ℕ) (l : List ℕ) (t : ℕ) → t < length l
@@ -84,7 +71,7 @@ module _ (first n : ℕ) where
           ≡ getD up (first + y) 0 + occurs y (x ∷ [])
       other y d =
           getD-set-other up (first + x) (first + y) (getD up (first + x) 0 + 1) 0 (omega arith)
-          ∙ omega (arith, occurs-not x y d)
+          ∙ omega (arith, occurs-apart y x d)
 
       go : (y : ℕ) → Dec (x < y) → Dec (y < x) → getD (set up (first + x) (getD up (first + x) 0 + 1)) (first + y) 0
           ≡ getD up (first + y) 0 + occurs y (x ∷ [])
@@ -93,10 +80,10 @@ module _ (first n : ℕ) where
       go y (no a) (no b) =
           let e : y ≡ x = omega arith in
           rw e
-          (getD-set-same up (first + x) (getD up (first + x) 0 + 1) 0 (omega arith) ∙ omega (arith, occurs-this x))
+          (getD-set-same up (first + x) (getD up (first + x) 0 + 1) 0 (omega arith) ∙ omega (arith, occurs-own x))
 
   pub raised-past : (x : ℕ) (up : List ℕ) → n ≤ x → Raised first n (λ y. occurs y (x ∷ [])) up up
-  raised-past x up h = raised-none _ up (λ y l. occurs-not x y (omega arith))
+  raised-past x up h = raised-none _ up (λ y l. occurs-apart y x (omega arith))
 
   -- no count has grown by more than b
   raised-most : (g : ℕ → ℕ) (b : ℕ) (up up′ : List ℕ) → Raised first n g up up′ → ((x : ℕ) → g x ≤ b)

@@ -9,7 +9,7 @@ use lib.ListN.{length, getD, set, replicate, length-append, length-set, length-r
 use lib.Seq.{getD-set-same, getD-set-other, getD-append-add}
 use Rattle.order.specs.Lists.{occurs}
 use Rattle.listing_sups.specs.Sups.{Raised, Strewn, Apart}
-use Rattle.listing_sups.proofs.Raising.{occurs-this, occurs-not}
+use Rattle.order.proofs.Lists.{occurs-own, occurs-apart}
 
 module _ (first n : ℕ) where
   pub strewn-none : (so : ℕ → List ℕ) (next inc : List ℕ) → ((x : ℕ) → x < n → length (so x) ≡ 0)
@@ -32,14 +32,14 @@ module _ (first n : ℕ) where
     pub strewn-past : n ≤ x → Strewn first n one next inc inc
     strewn-past h =
         strewn-none one next inc
-        (λ y l. length-replicate (occurs y (x ∷ [])) k ∙ occurs-not x y (omega arith))
+        (λ y l. length-replicate (occurs y (x ∷ [])) k ∙ occurs-apart y x (omega arith))
 
     one-at : (y j : ℕ) → place < length inc → j < length (one y)
         → getD (set inc place k) (getD next (first + y) 0 + j) 0 ≡ getD (one y) j 0
     one-at y j r l = go (decLt x y) (decLt y x)
       where
         none : (x ≡ y → ⊥) → ⊥
-        none d = omega (arith, length-replicate (occurs y (x ∷ [])) k, occurs-not x y d)
+        none d = omega (arith, length-replicate (occurs y (x ∷ [])) k, occurs-apart y x d)
 
         go : Dec (x < y) → Dec (y < x) → getD (set inc place k) (getD next (first + y) 0 + j) 0 ≡ getD (one y) j 0
         go (yes a) b = absurd (none (omega arith))
@@ -47,17 +47,17 @@ module _ (first n : ℕ) where
         go (no a) (no b) =
             let e : y ≡ x = omega arith in
             let m : length (one y) ≡ 1 =
-            length-replicate (occurs y (x ∷ [])) k ∙ ap (λ (t : ℕ). occurs t (x ∷ [])) e ∙ occurs-this x in
+            length-replicate (occurs y (x ∷ [])) k ∙ ap (λ (t : ℕ). occurs t (x ∷ [])) e ∙ occurs-own x in
             let z : j ≡ 0 = omega arith in
             let q : place + 0 ≡ place = omega arith in
-            rw (e, z, q, occurs-this x) (getD-set-same inc place k 0 r)
+            rw (e, z, q, occurs-own x) (getD-set-same inc place k 0 r)
 
     pub strewn-one : x < n → place < length inc → Strewn first n one next inc (set inc place k)
     strewn-one h r = record {
       same-length = length-set inc place k;
       at = λ y j l b. one-at y j r b;
       rest = λ p out.
-          let m : length (one x) ≡ 1 = length-replicate (occurs x (x ∷ [])) k ∙ occurs-this x in
+          let m : length (one x) ≡ 1 = length-replicate (occurs x (x ∷ [])) k ∙ occurs-own x in
           getD-set-other inc place p k 0 (λ e. out x 0 h (omega arith) (omega arith));
     }
 

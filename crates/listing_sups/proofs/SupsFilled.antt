@@ -2,21 +2,17 @@
 -- Assumes nothing.
 use mathlib.Core.Path.{_≡_, refl, ap, _∙_}
 use mathlib.Core.List.{List}
-use Prim.Native.Nat.{ℕ, zero, suc, _+_, _*_, _≤_, _<_}
+use Prim.Native.Nat.{ℕ, suc, _+_, _*_, _≤_, _<_}
 use native.Mathlib.Decide.{decLt}
 use native.Mathlib.Omega.{arith}
 use lib.ListN.{length, getD, List·getD-eq-default}
 use Rattle.listing.specs.Listing.{before, start, entries, Ends}
 use Rattle.listing.specs.Layers.{gather}
 use Rattle.listing.proofs.Listing.{before-next, before-all, before-le}
+use Rattle.listing.proofs.Layers.{gather-same}
 use Rattle.listing_sups.specs.Sups.{Strewn, Apart, gathered, Fillable, Filled}
 use Rattle.product_places.proofs.Numbers.{before-lt}
 use Rattle.listing_sups.proofs.Gathering.{gather-none, between-same, start-le}
-
-pub gather-same : (f g : ℕ → List ℕ) (x n : ℕ) → ((k : ℕ) → k < n → f k ≡ g k) → gather f x n ≡ gather g x n
-unfolding gather
-gather-same f g x zero h = refl
-gather-same f g x (suc n) h = rw (gather-same f g x n (λ k l. h k (omega arith)), h n (omega arith))
 
 module _ (counts ends inc : List ℕ) (ready : Fillable counts ends inc) where
   abbrev N : ℕ

@@ -2,7 +2,6 @@
 use listing::Index;
 use listing::inner;
 use listing::limit;
-use product_places::block;
 ghost use mathlib.Core.Path.{_≡_};
 ghost use mathlib.Core.List.{[], _∷_};
 ghost use Prim.Native.Nat.{ℕ, _+_, _*_, _≤_, _<_};
@@ -208,7 +207,7 @@ pub fn fill(counts: &[Index], ends: &[Index], inc: &mut [Index])
         (now (inc .exit)) ⌝ }
 {
     let mut next: [Index; limit::ELEMENTS] = [0; limit::ELEMENTS];
-    let n = block::elements_before(counts, counts.len());
+    let n = inner::elements_before(counts, counts.len());
     set_cursors(&mut next, ends, n);
     fill_ranks(counts, ends, &mut *inc, &mut next);
 }

@@ -1,4 +1,7 @@
 pub mod Lists
+pub mod Over
+pub mod Positions
+pub mod Once
 pub mod Tests
 pub mod Sums
 pub mod Renumbering
@@ -8,5 +11,4 @@ pub mod Added
 pub mod Struck
 pub mod Trim
 pub mod Product
-pub mod Over
 pub mod Earlier

@@ -6,6 +6,7 @@ use mathlib.Core.Bool.{Bool, true, false, true≢false}
 use mathlib.Core.List.{List, [], _∷_, _++_, map}
 use Prim.Native.Nat.{ℕ, _+_, _≤_, _<_}
 use native.Mathlib.Omega.{arith}
+use borrow.Author.Tests.{eq-eqb, ne-eqb}
 use lib.Dec.{T, eqb, eqb→eq, eqb-refl}
 use Rattle.order.specs.Lists.{In, has, Ascending, occurs}
 
@@ -130,6 +131,21 @@ occurs-append a (x ∷ s) t = go (tested x a) (occurs-append a s t)
         → occurs a ((x ∷ s) ++ t) ≡ occurs a (x ∷ s) + occurs a t
     go (inl e) ih = rw (e .0) (omega arith)
     go (inr e) ih = rw (e .0) ih
+
+pub occurs-nil : (a : ℕ) → occurs a [] ≡ 0
+unfolding occurs
+occurs-nil a = refl
+
+pub occurs-cons : (a x : ℕ) (l : List ℕ) → occurs a (x ∷ l) ≡ occurs a (x ∷ []) + occurs a l
+occurs-cons a x l = occurs-append a (x ∷ []) l
+
+pub occurs-own : (a : ℕ) → occurs a (a ∷ []) ≡ 1
+unfolding occurs
+occurs-own a = rw (eq-eqb a a refl)
+
+pub occurs-apart : (a x : ℕ) → (x ≡ a → ⊥) → occurs a (x ∷ []) ≡ 0
+unfolding occurs
+occurs-apart a x h = rw (ne-eqb x a h)
 
 pub ascending-once : (a : ℕ) (l : List ℕ) → Ascending l → occurs a l ≤ 1
 unfolding In Ascending occurs

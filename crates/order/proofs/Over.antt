@@ -1,12 +1,14 @@
--- Numbers written over the beginning of others: what they are then, and one number more.
+-- Numbers written over the beginning of others: how long they are then, their beginning and their rest, one number more,
+-- and how to tell such a list by its numbers.
 -- Assumes nothing.
-use mathlib.Core.Path.{_≡_, ap, _∙_}
+use mathlib.Core.Path.{_≡_, sym, ap, _∙_}
 use mathlib.Core.List.{List}
-use Prim.Native.Nat.{ℕ, suc, _+_, _≤_, _<_}
+use Prim.Native.Nat.{ℕ, suc, _+_, _-_, _≤_, _<_}
+use native.Mathlib.Decide.{decLt}
 use native.Mathlib.Numerals.{add-one}
 use native.Mathlib.Omega.{arith}
-use lib.ListN.{length, getD, take, drop, set, length-append, length-drop, take-append-drop}
-use lib.Seq.{length-take-le, take-at, drop-at, paste-suc}
+use lib.ListN.{length, getD, take, drop, set, length-append, length-drop, take-append-drop, List·getD-append}
+use lib.Seq.{length-take-le, take-at, drop-at, paste-suc, ext-getD, getD-drop, getD-append-add}
 use Rattle.order.specs.Lists.{over}
 
 module _ (new old : List ℕ) where
@@ -19,6 +21,21 @@ module _ (new old : List ℕ) where
 
     pub over-past : drop n (over new old) ≡ drop n old
     over-past = drop-at new (drop (length new) old) n e ∙ ap (λ k. drop k old) e
+
+  -- a list that has the new numbers first, and then what stood there
+  pub over-numbers : (d : List ℕ) → length d ≡ length old → length new ≤ length old
+      → ((p : ℕ) → p < length new → getD d p 0 ≡ getD new p 0)
+      → ((p : ℕ) → length new ≤ p → getD d p 0 ≡ getD old p 0) → d ≡ over new old
+  over-numbers d e h first rest =
+      ext-getD 0 d (over new old) (e ∙ sym (over-length h)) (λ p l. go p (decLt p (length new)))
+    where
+      go : (p : ℕ) → Dec (p < length new) → getD d p 0 ≡ getD (over new old) p 0
+      go p (yes a) = first p a ∙ sym (List·getD-append new (drop (length new) old) 0 p a)
+      go p (no a) =
+          let q : length new + (p - length new) ≡ p = omega arith in
+          rest p (omega arith)
+          ∙ sym (rw q at (getD-append-add new (drop (length new) old) (p - length new) 0
+          ∙ getD-drop (length new) old (p - length new) 0))
 
 -- the first n of a list whose rest is that of another
 pub over-is : (n : ℕ) (l old : List ℕ) → n ≤ length l → drop n l ≡ drop n old → over (take n l) old ≡ l

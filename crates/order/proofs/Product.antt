@@ -9,7 +9,7 @@ use lib.Dec.{T}
 use Rattle.order.specs.Structure.{Order, Ranked, Renumbering}
 use Rattle.order.specs.Diamond.{Frame, Cell}
 use Rattle.order.specs.Pairs.{swap}
-use Rattle.order.specs.Ends.{trim, InUse, Product, need, together, kept, inside, addedMin, addedMax}
+use Rattle.order.specs.Ends.{trim, InUse, Product, need, together, asTrimmed, asGrown, addedMin, addedMax}
 use Rattle.order.proofs.Renumbering.{Renumbering·back}
 use Rattle.order.proofs.Pairs.{Pairs·ranked, Pairs·swap}
 use Rattle.order.proofs.PairsCell.{Pairs·frame, Pairs·cell}
@@ -59,18 +59,20 @@ Product·swap min max A B = grow·renumbered min max (Pairs·swap (trim min max 
 unfoldable pub Product·pairs : (min max : Bool) {A B : Order} → Ranked A → Ranked B → A .Elem → B .Elem
     → Renumbering (InUse min max A B) (trim min max (Product min max A B))
 Product·pairs min max {A} {B} rA rB a b =
-    Renumbering·back (trim·grow min max (InUse·ranked min max rA rB) (kept min max A a, kept min max B b))
+    Renumbering·back (trim·grow min max (InUse·ranked min max rA rB) (asTrimmed min max A a, asTrimmed min max B b))
 
 pub Product·pairs-to : (min max : Bool) {A B : Order} (rA : Ranked A) (rB : Ranked B) (a : A .Elem) (b : B .Elem)
     (x : InUse min max A B .Elem)
-    → Product·pairs min max rA rB a b .to x ≡ kept min max (Product min max A B) (inside min max (InUse min max A B) x)
+    → Product·pairs min max rA rB a b .to x
+    ≡ asTrimmed min max (Product min max A B) (asGrown min max (InUse min max A B) x)
 unfolding Product·pairs Renumbering·back
 Product·pairs-to min max {A} {B} rA rB a b x =
-    trim·grow-from min max (InUse·ranked min max rA rB) (kept min max A a, kept min max B b) x
+    trim·grow-from min max (InUse·ranked min max rA rB) (asTrimmed min max A a, asTrimmed min max B b) x
 
 -- Exchanging the factors only swaps pairs, and leaves the added ends where they are.
 pub Product·swap-pair : (min max : Bool) (A B : Order) (x : InUse min max A B .Elem)
-    → Product·swap min max A B .to (inside min max (InUse min max A B) x) ≡ inside min max (InUse min max B A) (swap x)
+    → Product·swap min max A B .to (asGrown min max (InUse min max A B) x)
+    ≡ asGrown min max (InUse min max B A) (swap x)
 unfolding Product·swap Pairs·swap
 Product·swap-pair min max A B x = grow·inside (Pairs·swap (trim min max A) (trim min max B)) min max x
 

@@ -6,7 +6,7 @@ use Prim.Native.Nat.{ℕ, zero, suc, _+_, _-_, _*_, _≤_, _<_}
 use native.Mathlib.Nat.{not-suc-le-zero, eq-or-lt-of-le}
 use native.Mathlib.Decide.{decLt}
 use native.Mathlib.Omega.{arith}
-use Rattle.order.specs.Sums.{choose, sum, place, Placed}
+use Rattle.order.specs.Sums.{choose, sum, partAt, Placed}
 
 pub choose-yes {ℓ} : {P : Type 0} {A : Type ℓ} (d : Dec P) (a b : A) → P → choose d a b ≡ a
 unfolding choose
@@ -41,13 +41,13 @@ unfolding sum
 sum-same f g zero h = refl
 sum-same f g (suc n) h = omega (arith, sum-same f g n (λ i l. h i (omega arith)), h n (omega arith))
 
-pub place-ok : (f : ℕ → ℕ) (n k : ℕ) → k < sum f n → Placed f n k (place f n k)
-unfolding sum place choose
-place-ok f zero k h = absurd (not-suc-le-zero h)
-place-ok f (suc n) k h = go (λ l. place-ok f n k l) (decLt k (sum f n))
+pub part-ok : (f : ℕ → ℕ) (n k : ℕ) → k < sum f n → Placed f n k (partAt f n k)
+unfolding sum partAt choose
+part-ok f zero k h = absurd (not-suc-le-zero h)
+part-ok f (suc n) k h = go (λ l. part-ok f n k l) (decLt k (sum f n))
   where
-    go : (k < sum f n → Placed f n k (place f n k)) → (d : Dec (k < sum f n))
-        → Placed f (suc n) k (choose d (place f n k) (n, k - sum f n))
+    go : (k < sum f n → Placed f n k (partAt f n k)) → (d : Dec (k < sum f n))
+        → Placed f (suc n) k (choose d (partAt f n k) (n, k - sum f n))
     go ih (yes l) = let p = ih l in (omega arith, p .1, p .2)
     go ih (no l) = omega arith
 
@@ -60,10 +60,10 @@ part-same f i j a b ha hb e = go (decLt i j) (decLt j i)
     go (no l) (yes m) = absurd (omega (arith, sum-lt f j i b m hb))
     go (no l) (no m) = omega arith
 
-pub place-at : (f : ℕ → ℕ) (n i m : ℕ) → i < n → m < f i → place f n (sum f i + m) ≡ (i, m)
-place-at f n i m hi hm =
-    let p = place-ok f n (sum f i + m) (sum-lt f i n m hi hm) in
-    go (place f n (sum f i + m)) p (part-same f _ i _ m (p .1) hm (sym (p .2)))
+pub part-at : (f : ℕ → ℕ) (n i m : ℕ) → i < n → m < f i → partAt f n (sum f i + m) ≡ (i, m)
+part-at f n i m hi hm =
+    let p = part-ok f n (sum f i + m) (sum-lt f i n m hi hm) in
+    go (partAt f n (sum f i + m)) p (part-same f _ i _ m (p .1) hm (sym (p .2)))
   where
     go : (p : ℕ × ℕ) → Placed f n (sum f i + m) p → p .0 ≡ i → p ≡ (i, m)
     go p h e =

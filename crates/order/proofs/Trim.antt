@@ -8,7 +8,7 @@ use lib.Dec.{T}
 use Rattle.order.specs.Structure.{Order, Ranked, Renumbering}
 use Rattle.order.specs.Diamond.{Frame, Cell}
 use Rattle.order.specs.Ends.{end, withMax, trimMin, trim, growMax, grow}
-use Rattle.order.specs.Ends.{need, kept, inside, addedMin, addedMax}
+use Rattle.order.specs.Ends.{need, asTrimmed, asGrown, addedMin, addedMax}
 use Rattle.order.proofs.Renumbering.{Renumbering·same, Renumbering·back, Renumbering·then}
 use Rattle.order.proofs.Renumbering.{Renumbering·turned, turned·turned}
 use Rattle.order.proofs.Added.{withMin·ranked, withMax·ranked, withMin·frame, withMax·frame}
@@ -99,7 +99,7 @@ trim·grow false false {W} rW d = Renumbering·same W
 
 -- What the renumberings do with the elements that were there, and with the added ends, by computation.
 pub trim·grow-from : (min max : Bool) {W : Order} (rW : Ranked W) (d x : W .Elem)
-    → trim·grow min max rW d .from x ≡ kept min max (grow min max W) (inside min max W x)
+    → trim·grow min max rW d .from x ≡ asTrimmed min max (grow min max W) (asGrown min max W x)
 unfolding trim·grow Renumbering·same Renumbering·back Renumbering·then Renumbering·turned turned·turned
     withoutMin·renumbered withoutMax·renumbered withoutMin·withMin withoutMax·withMax
 trim·grow-from true true rW d x = refl
@@ -109,7 +109,7 @@ trim·grow-from false false rW d x = refl
 
 module _ {A B : Order} (f : Renumbering A B) where
   pub grow·inside : (min max : Bool) (x : A .Elem)
-      → grow·renumbered min max f .to (inside min max A x) ≡ inside min max B (f .to x)
+      → grow·renumbered min max f .to (asGrown min max A x) ≡ asGrown min max B (f .to x)
   unfolding grow·renumbered growMax·renumbered withMin·renumbered withMax·renumbered Renumbering·turned
   grow·inside true true x = refl
   grow·inside true false x = refl

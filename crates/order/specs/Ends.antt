@@ -13,8 +13,8 @@
 -- Product      these pairs, with the ends added again
 -- need         how high a factor must be: a rank for each end that is taken off
 -- together     how high the two factors must be together
--- kept         an element, as one of what is left of the structure when it is trimmed
--- inside       an element, as one of the structure when it is grown; a pair, as one of the product
+-- asTrimmed    an element, as one of what is left of the structure when it is trimmed
+-- asGrown      an element, as one of the structure when it is grown; a pair, as one of the product
 -- addedMin     the minimal element that is added
 -- addedMax     the maximal element that is added
 use mathlib.Core.Path.{_≡_}
@@ -105,17 +105,17 @@ together true false = 0
 together false true = 0
 together false false = 0
 
-abbrev pub kept : (min max : Bool) (W : Order) → W .Elem → trim min max W .Elem
-kept true true W x = x
-kept true false W x = x
-kept false true W x = x
-kept false false W x = x
+abbrev pub asTrimmed : (min max : Bool) (W : Order) → W .Elem → trim min max W .Elem
+asTrimmed true true W x = x
+asTrimmed true false W x = x
+asTrimmed false true W x = x
+asTrimmed false false W x = x
 
-abbrev pub inside : (min max : Bool) (W : Order) → W .Elem → grow min max W .Elem
-inside true true W x = old (old x)
-inside true false W x = old x
-inside false true W x = old x
-inside false false W x = x
+abbrev pub asGrown : (min max : Bool) (W : Order) → W .Elem → grow min max W .Elem
+asGrown true true W x = old (old x)
+asGrown true false W x = old x
+asGrown false true W x = old x
+asGrown false false W x = x
 
 abbrev pub addedMin : (max : Bool) (W : Order) → grow true max W .Elem
 addedMin max W = end

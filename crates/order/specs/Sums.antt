@@ -3,7 +3,7 @@
 --
 -- choose   the first of two where something holds, else the second
 -- sum      f 0 + .. + f (n - 1)
--- place    the part, among n, that a number falls into, and its place there
+-- partAt   the part, among n, that a number falls into, and its place there
 -- Placed   what `place` finds: the part is there, the place lies in it, and both lead back to the number
 use mathlib.Core.Path.{_≡_}
 use Prim.Native.Nat.{ℕ, zero, suc, _+_, _-_, _<_}
@@ -17,9 +17,9 @@ unfoldable pub sum : (ℕ → ℕ) → ℕ → ℕ
 sum f zero = zero
 sum f (suc n) = sum f n + f n
 
-unfoldable pub place : (ℕ → ℕ) → ℕ → ℕ → ℕ × ℕ
-place f zero k = (zero, k)
-place f (suc n) k = choose (decLt k (sum f n)) (place f n k) (n, k - sum f n)
+unfoldable pub partAt : (ℕ → ℕ) → ℕ → ℕ → ℕ × ℕ
+partAt f zero k = (zero, k)
+partAt f (suc n) k = choose (decLt k (sum f n)) (partAt f n k) (n, k - sum f n)
 
 abbrev pub Placed : (ℕ → ℕ) → ℕ → ℕ → ℕ × ℕ → Type 0
 Placed f n k p = (p .0 < n) × (p .1 < f (p .0)) × (k ≡ sum f (p .0) + p .1)

@@ -2,40 +2,36 @@
 -- Assumes nothing.
 use mathlib.Core.Path.{_≡_, refl, sym, _∙_}
 use mathlib.Core.Bool.{Bool, true, false}
-use mathlib.Core.List.{List}
 use Prim.Native.Nat.{ℕ}
 use native.Mathlib.Omega.{arith}
 use lib.ListN.{length}
 use Rattle.listing.specs.declared.Answer.{Answer}
+use Rattle.listing.specs.declared.Built.{Built}
 use Rattle.listing.specs.Refusals.{combOfPoint}
 use Rattle.listing.specs.Answers.{plain, _orElse_}
 use Rattle.listing.specs.Listing.{Listing, Limits, limits}
 use Rattle.listing.specs.Cells.{nullitope}
-use Rattle.listing.proofs.Answers.{or-fine, or-stop, or-assoc, or-no, on-or-no, no-of}
+use Rattle.listing.specs.Output.{Made}
+use Rattle.listing.proofs.Answers.{or-fine, or-stop, or-no, on-or-no}
 use Rattle.valid.specs.Tests.{isValid}
 use Rattle.product_pairs.specs.Product.{productOf}
 use Rattle.product_closure.specs.Result.{nullCase, combCase, resultOf}
 use Rattle.product_closure.proofs.Results.{result-product, result-null}
-use Rattle.product.specs.declared.Built.{Built}
 use Rattle.product_sizes.specs.Sizing.{sizeTest}
-use Rattle.product.specs.Outcome.{productTest, Outcome}
-use Rattle.product.specs.Made.{factorsTest, restTest, Made}
+use Rattle.product.specs.Outcome.{factorsTest, restTest, productTest, Outcome}
 use Rattle.product_sizes.proofs.Tested.{Passed, sizes-passed}
 use Rattle.product.proofs.Tests.{factors-valid}
-use Rattle.product.proofs.Made.{answer-is}
 
 -- ---- which test decides
 
 module _ (m : Limits) (min max : Bool) (A B : Listing) (c e i : ℕ) where
-  chain : productTest m min max A B c e i ≡ factorsTest m A B orElse restTest m min max A B c e i
-  unfolding productTest factorsTest restTest
-  chain = or-assoc _ _ _
-
   pub factors-decide : (factorsTest m A B .no ≡ 0 → ⊥) → factorsTest m A B ≡ productTest m min max A B c e i
-  factors-decide h = sym (chain ∙ or-stop _ _ h)
+  unfolding productTest
+  factors-decide h = sym (or-stop _ _ h)
 
   pub rest-decides : factorsTest m A B .no ≡ 0 → restTest m min max A B c e i ≡ productTest m min max A B c e i
-  rest-decides z = sym (chain ∙ or-fine _ _ z)
+  unfolding productTest
+  rest-decides z = sym (or-fine _ _ z)
 
   pub comb-decides : combCase min max A B ≡ true → plain combOfPoint ≡ restTest m min max A B c e i
   unfolding restTest _orElse_
@@ -49,9 +45,9 @@ module _ (m : Limits) (min max : Bool) (A B : Listing) (c e i : ℕ) where
   -- no test refuses
   pub chain-passed : productTest m min max A B c e i .no ≡ 0 → (isValid m A .no ≡ 0) × (isValid m B .no ≡ 0)
       × (combCase min max A B ≡ false) × Passed m (resultOf min max A B) c e i
-  unfolding restTest
+  unfolding restTest productTest
   chain-passed z =
-      let p = or-no (factorsTest m A B) (restTest m min max A B c e i) (no-of chain z) in
+      let p = or-no (factorsTest m A B) (restTest m min max A B c e i) z in
       let v = factors-valid m A B (p .0) in
       let q = on-or-no _ (plain combOfPoint) _ (λ w. omega arith) (p .1) in
       (v .0, v .1, q .0, sizes-passed m (resultOf min max A B) c e i (q .1))
@@ -63,29 +59,20 @@ null-no-comb true true A B n = rw n
 null-no-comb true false A B n = refl
 null-no-comb false max A B n = refl
 
--- ---- the same product under another name
-
-module _ {t : Answer} {R : Listing} {counts ends inc counts′ ends′ inc′ : List ℕ} {r : Built}
-    (d : Made t R counts ends inc counts′ ends′ inc′ r) where
-  made-as : (u : Answer) → t ≡ u → (S : Listing) → R ≡ S → Made u S counts ends inc counts′ ends′ inc′ r
-  made-as u e S f = rw (← e, ← f) d
-
 -- ---- the cases of two valid factors
 
-module _ (min max : Bool) (A B : Listing) (counts ends inc counts′ ends′ inc′ : List ℕ) (r : Built) where
+module _ (min max : Bool) (A B old new : Listing) (r : Built) where
   -- of a listing R within the limits and the room
   abbrev Sizes : Listing → Type 0
-  Sizes R =
-      Made (sizeTest limits R (length counts) (length ends) (length inc)) R counts ends inc counts′ ends′ inc′ r
+  Sizes R = Made (sizeTest limits R (length (old .counts)) (length (old .ends)) (length (old .inc))) R old new r
 
   abbrev Rest : Type 0
   Rest =
-      Made (restTest limits min max A B (length counts) (length ends) (length inc)) (resultOf min max A B)
-      counts ends inc counts′ ends′ inc′ r
+      Made (restTest limits min max A B (length (old .counts)) (length (old .ends)) (length (old .inc)))
+      (resultOf min max A B) old new r
 
   result-made : (R : Listing) → combCase min max A B ≡ false → resultOf min max A B ≡ R → Sizes R → Rest
-  result-made R h e d =
-      made-as (rw (← e) at d) _ (sizes-decide limits min max A B _ _ _ h) _ refl
+  result-made R h e d = rw (← sizes-decide limits min max A B _ _ _ h, e) d
 
   pub null-made : nullCase min max A B ≡ true → Sizes nullitope → Rest
   null-made n = result-made nullitope (null-no-comb min max A B n) (result-null min max A B n)
@@ -99,15 +86,7 @@ module _ (min max : Bool) (A B : Listing) (counts ends inc counts′ ends′ inc
 
 -- ---- all of it
 
-module _ (min max : Bool) (A B : Listing) (counts ends inc counts′ ends′ inc′ : List ℕ) (r : Built) where
-  pub made-outcome : (t : Answer) → t ≡ productTest limits min max A B (length counts) (length ends) (length inc)
-      → Made t (resultOf min max A B) counts ends inc counts′ ends′ inc′ r
-      → Outcome limits min max A B counts ends inc counts′ ends′ inc′ r
-  made-outcome t e d =
-      let a = answer-is t (resultOf min max A B) r (d .answer) in
-      record {
-        answer = rw e at (d .answer);
-        counts-after = rw a (d .counts-after);
-        ends-after = rw a (d .ends-after);
-        inc-after = rw a (d .inc-after);
-      }
+pub made-outcome : (min max : Bool) (A B old new : Listing) (r : Built) (t : Answer)
+    → t ≡ productTest limits min max A B (length (old .counts)) (length (old .ends)) (length (old .inc))
+    → Made t (resultOf min max A B) old new r → Outcome limits min max A B old new r
+made-outcome min max A B old new r t e d = record { made = rw e at d }

@@ -8,7 +8,7 @@ use Rattle.listing.specs.Answers.{plain, fine, _orElse_}
 use Rattle.listing.specs.Listing.{Listing, Limits}
 use Rattle.listing.proofs.Answers.{on-no, on-or-no}
 use Rattle.valid.specs.Tests.{isValid}
-use Rattle.product.specs.Made.{factorsTest}
+use Rattle.product.specs.Outcome.{factorsTest}
 
 -- ---- the factors
 

@@ -10,6 +10,7 @@ use Rattle.listing.specs.Refusals.{leftInvalid, rightInvalid, combOfPoint, prod
 use Rattle.listing.specs.Refusals.{productIncidences, outputShort}
 use Rattle.listing.specs.Listing.{Listing, Limits}
 use Rattle.listing.specs.Shape.{elements}
+use Rattle.listing.specs.Output.{Fits}
 use Rattle.listing.specs.Rules.{Rule, rule}
 use Rattle.valid.specs.Tests.{isValid}
 use Rattle.product_closure.specs.Result.{combCase, resultOf}
@@ -24,4 +25,4 @@ module _ (m : Limits) (min max : Bool) (A B : Listing) (c e i : ℕ) where
       rule productRanks (length (R .counts) ≤ m .ranks) ∷
       rule productElements (elements R ≤ m .elements) ∷
       rule productIncidences (length (R .inc) ≤ m .incidences) ∷
-      rule outputShort ((length (R .counts) ≤ c) × (length (R .ends) ≤ e) × (length (R .inc) ≤ i)) ∷ []
+      rule outputShort (Fits R c e i) ∷ []

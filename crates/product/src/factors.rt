@@ -5,7 +5,7 @@ use listing::inner;
 use listing::refusal;
 ghost use mathlib.Core.Path.{_≡_};
 ghost use Rattle.listing.specs.Listing.{held, limits};
-ghost use Rattle.product.specs.Made.{factorsTest};
+ghost use Rattle.product.specs.Outcome.{factorsTest};
 
 // Whether is_valid accepts the left factor, p, and then the right one, q.
 pub fn check_factors(

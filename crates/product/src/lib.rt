@@ -2,20 +2,11 @@
 mod factors;
 pub mod make;
 
-use listing::Answer;
+use listing::Built;
 use listing::Index;
 ghost use Rattle.listing.specs.Listing.{held, limits};
 ghost use mathlib.Core.Bool.{true, false};
 ghost use Rattle.product.specs.Outcome.{Outcome};
-
-// What a product answers: a refusal or 0, and how many numbers it wrote into each output slice.
-#[repr(C)]
-pub struct Built {
-    pub answer: Answer,
-    pub counts: u16,
-    pub ends: u16,
-    pub inc: u16,
-}
 
 // The duopyramid: all pairs, none left out. The first members are of the right factor, q.
 pub fn duopyramid(
@@ -32,8 +23,7 @@ pub fn duopyramid(
     ensures { λ r. ⌜ Outcome limits false false
         (held (pcounts .entry) (pends .entry) (pinc .entry))
         (held (qcounts .entry) (qends .entry) (qinc .entry))
-        (now (counts .entry)) (now (ends .entry)) (now (inc .entry)) (now (counts .exit)) (now (ends .exit))
-        (now (inc .exit)) r ⌝ }
+        (held (counts .entry) (ends .entry) (inc .entry)) (held (counts .exit) (ends .exit) (inc .exit)) r ⌝ }
 {
     make::make(
         false,
@@ -65,8 +55,7 @@ pub fn duoprism(
     ensures { λ r. ⌜ Outcome limits true false
         (held (pcounts .entry) (pends .entry) (pinc .entry))
         (held (qcounts .entry) (qends .entry) (qinc .entry))
-        (now (counts .entry)) (now (ends .entry)) (now (inc .entry)) (now (counts .exit)) (now (ends .exit))
-        (now (inc .exit)) r ⌝ }
+        (held (counts .entry) (ends .entry) (inc .entry)) (held (counts .exit) (ends .exit) (inc .exit)) r ⌝ }
 {
     make::make(
         true,
@@ -98,8 +87,7 @@ pub fn duotegum(
     ensures { λ r. ⌜ Outcome limits false true
         (held (pcounts .entry) (pends .entry) (pinc .entry))
         (held (qcounts .entry) (qends .entry) (qinc .entry))
-        (now (counts .entry)) (now (ends .entry)) (now (inc .entry)) (now (counts .exit)) (now (ends .exit))
-        (now (inc .exit)) r ⌝ }
+        (held (counts .entry) (ends .entry) (inc .entry)) (held (counts .exit) (ends .exit) (inc .exit)) r ⌝ }
 {
     make::make(
         false,
@@ -131,8 +119,7 @@ pub fn duocomb(
     ensures { λ r. ⌜ Outcome limits true true
         (held (pcounts .entry) (pends .entry) (pinc .entry))
         (held (qcounts .entry) (qends .entry) (qinc .entry))
-        (now (counts .entry)) (now (ends .entry)) (now (inc .entry)) (now (counts .exit)) (now (ends .exit))
-        (now (inc .exit)) r ⌝ }
+        (held (counts .entry) (ends .entry) (inc .entry)) (held (counts .exit) (ends .exit) (inc .exit)) r ⌝ }
 {
     make::make(
         true,

@@ -1,9 +1,10 @@
 // The chain of tests, and then the builder, once over the two flags.
-use crate::Built;
 use crate::factors;
 use listing::Answer;
+use listing::Built;
 use listing::Index;
 use listing::inner;
+use listing::outputs;
 use listing::refusal;
 use product_building::build;
 use product_sizes::sizes;
@@ -16,28 +17,16 @@ ghost use lib.ListN.{length};
 ghost use Rattle.listing.specs.Listing.{Listing, held, limits, rank};
 ghost use Rattle.valid.specs.Tests.{isValid};
 ghost use Rattle.listing.specs.Cells.{nullitope};
+ghost use Rattle.listing.specs.Output.{builtOf, Made};
 ghost use Rattle.product_pairs.specs.Product.{productOf};
 ghost use Rattle.product_closure.specs.Result.{nullCase, combCase, resultOf};
-ghost use Rattle.product_sizes.specs.Sizing.{sizeTest};
-ghost use Rattle.product.specs.Outcome.{builtOf, Outcome};
-ghost use Rattle.product_sizes.specs.Sizing.{Usable, Measures};
-ghost use Rattle.product.specs.Made.{restTest, Made};
-
-// What a refused product answers: nothing is written.
-fn refused(answer: Answer) -> Built
-    ensures { λ r. ⌜ ((R : Listing) → (answer .no ≡ 0 → ⊥) → r ≡ builtOf answer R) ⌝ }
-{
-    Built {
-        answer,
-        counts: 0,
-        ends: 0,
-        inc: 0,
-    }
-}
+ghost use Rattle.product_sizes.specs.Sizing.{sizeTest, Usable, Measures};
+ghost use Rattle.product.specs.Outcome.{restTest, Outcome};
 
 // What a product of these sizes answers once it is written.
 fn written(answer: Answer, s: Sizes) -> Built
-    requires { ⌜ (s .ranks ≤ 16) × (s .elements ≤ limits .elements) × (s .incidences ≤ limits .incidences) ⌝ }
+    requires { ⌜ (s .ranks ≤ limits .ranks) × (s .elements ≤ limits .elements)
+        × (s .incidences ≤ limits .incidences) ⌝ }
     ensures { λ r. ⌜ ((R : Listing) → Measures R s → answer .no ≡ 0 → r ≡ builtOf answer R) ⌝ }
 {
     Built {
@@ -90,8 +79,8 @@ fn put_nullitope(counts: &mut [Index], ends: &mut [Index], inc: &[Index]) -> Bui
     ensures { λ r. ⌜ Made
         (sizeTest limits nullitope (length (now (counts .entry))) (length (now (ends .entry)))
         (length (now (inc .entry))))
-        nullitope (now (counts .entry)) (now (ends .entry)) (now (inc .entry)) (now (counts .exit)) (now (ends .exit))
-        (now (inc .entry)) r ⌝ }
+        nullitope (held (counts .entry) (ends .entry) (inc .entry))
+        (held (counts .exit) (ends .exit) (inc .entry)) r ⌝ }
 {
     let s = Sizes {
         ranks: 1,
@@ -100,7 +89,7 @@ fn put_nullitope(counts: &mut [Index], ends: &mut [Index], inc: &[Index]) -> Bui
     };
     let t = sizes::check_sizes(s, counts.len(), ends.len(), inc.len());
     if t.no != 0 {
-        return refused(t);
+        return outputs::refused(t);
     }
     counts[0] = 1;
     ends[0] = 0;
@@ -131,15 +120,14 @@ fn product(
         (length (now (counts .entry))) (length (now (ends .entry))) (length (now (inc .entry))))
         (productOf min max (held (pcounts .entry) (pends .entry) (pinc .entry))
         (held (qcounts .entry) (qends .entry) (qinc .entry)))
-        (now (counts .entry)) (now (ends .entry)) (now (inc .entry)) (now (counts .exit)) (now (ends .exit))
-        (now (inc .exit)) r ⌝ }
+        (held (counts .entry) (ends .entry) (inc .entry)) (held (counts .exit) (ends .exit) (inc .exit)) r ⌝ }
 {
     let u = sizes::count_used(min, max, pcounts, pends, pinc);
     let v = sizes::count_used(min, max, qcounts, qends, qinc);
     let s = sizes::product_sizes(min, max, u, v);
     let t = sizes::check_sizes(s, counts.len(), ends.len(), inc.len());
     if t.no != 0 {
-        return refused(t);
+        return outputs::refused(t);
     }
     let p = sizes::range(min, max, pcounts);
     let q = sizes::range(min, max, qcounts);
@@ -181,8 +169,7 @@ fn product_of_valid(
         (length (now (counts .entry))) (length (now (ends .entry))) (length (now (inc .entry))))
         (resultOf min max (held (pcounts .entry) (pends .entry) (pinc .entry))
         (held (qcounts .entry) (qends .entry) (qinc .entry)))
-        (now (counts .entry)) (now (ends .entry)) (now (inc .entry)) (now (counts .exit)) (now (ends .exit))
-        (now (inc .exit)) r ⌝ }
+        (held (counts .entry) (ends .entry) (inc .entry)) (held (counts .exit) (ends .exit) (inc .exit)) r ⌝ }
 {
     let p = pcounts.len() - 1;
     let q = qcounts.len() - 1;
@@ -190,7 +177,7 @@ fn product_of_valid(
         return put_nullitope(&mut *counts, &mut *ends, &*inc);
     }
     if is_comb_of_point(min, max, p, q) {
-        return refused(inner::plain(refusal::COMB_OF_POINT));
+        return outputs::refused(inner::plain(refusal::COMB_OF_POINT));
     }
     if min {
         return product(
@@ -239,12 +226,11 @@ pub fn make(
     ensures { λ r. ⌜ Outcome limits min max
         (held (pcounts .entry) (pends .entry) (pinc .entry))
         (held (qcounts .entry) (qends .entry) (qinc .entry))
-        (now (counts .entry)) (now (ends .entry)) (now (inc .entry)) (now (counts .exit)) (now (ends .exit))
-        (now (inc .exit)) r ⌝ }
+        (held (counts .entry) (ends .entry) (inc .entry)) (held (counts .exit) (ends .exit) (inc .exit)) r ⌝ }
 {
     let t = factors::check_factors(pcounts, pends, pinc, qcounts, qends, qinc);
     if t.no != 0 {
-        return refused(t);
+        return outputs::refused(t);
     }
     product_of_valid(
         min,

@@ -5,20 +5,21 @@ use mathlib.Core.Bool.{Bool}
 use mathlib.Core.List.{List}
 use Prim.Native.Nat.{ℕ, zero, suc, _+_, _*_, _≤_, _<_}
 use native.Mathlib.Omega.{arith}
-use lib.ListN.{length, getD, take, drop, replicate}
-use lib.Seq.{take-append-seam}
-use Rattle.order.specs.Sums.{sum, place}
-use Rattle.order.proofs.Sums.{sum-same, place-at}
+use lib.ListN.{length, getD, take, replicate}
+use Rattle.order.specs.Lists.{over}
+use Rattle.order.specs.Sums.{sum, partAt}
+use Rattle.order.proofs.Over.{over-first}
+use Rattle.order.proofs.Sums.{sum-same, part-at}
 use Rattle.listing.specs.Listing.{Listing, before}
 use Rattle.listing.specs.Layers.{Layers, derived}
-use Rattle.listing.specs.Written.{joined, table, lengths, written}
-use Rattle.listing.proofs.Written.{table-length, table-at}
+use Rattle.listing.specs.Written.{joined, tabulated, lengths, written}
+use Rattle.listing.proofs.Written.{tabulated-length, tabulated-at}
 use Rattle.product_places.specs.Laid.{Holds}
 use Rattle.product_places.specs.Factors.{Factor}
 use Rattle.product_writing.specs.Filling.{Row}
 use Rattle.product_writing.specs.Pairs.{target, listsOf, sizeOf, Plan}
 use Rattle.listing_sups.specs.Sups.{upCount, UpCounts, Fillable, Filled}
-use Rattle.product_building.specs.Built.{over, countsOf, Derives}
+use Rattle.product_building.specs.Built.{countsOf, Derives}
 use Rattle.product_places.proofs.Numbers.{some-rank, before-lt, bit-le}
 use Rattle.product_writing.proofs.Target.{target-size}
 use Rattle.product_building.proofs.CountsLaid.{target-counts, counts-length}
@@ -31,11 +32,11 @@ zeros (suc n) (suc k) = zeros n k
 
 -- what was written over the beginning stands there
 take-holds : (s d d′ : List ℕ) → length s ≤ length d → Holds 0 s d d′ → take (length s) d′ ≡ s
-take-holds s d d′ h l = rw (holds-over s d d′ h l) (take-append-seam s (drop (length s) d))
+take-holds s d d′ h l = rw (holds-over s d d′ h l) (over-first s d _ refl)
 
-before-table : (f : ℕ → ℕ) (n : ℕ) → before (table f n) (length (table f n)) ≡ sum f n
+before-table : (f : ℕ → ℕ) (n : ℕ) → before (tabulated f n) (length (tabulated f n)) ≡ sum f n
 unfolding before
-before-table f n = rw (table-length f n) (sum-same _ f n (λ k h. table-at f n k h))
+before-table f n = rw (tabulated-length f n) (sum-same _ f n (λ k h. tabulated-at f n k h))
 
 -- ---- up-counts
 
@@ -48,13 +49,13 @@ module _ (P : Factor) where
 
   -- a list of up-counts that are right
   pub ups : List ℕ
-  ups = table (λ n. upAt (place (λ k. getD c k 0) (length c) n)) (before c (length c))
+  ups = tabulated (λ n. upAt (partAt (λ k. getD c k 0) (length c) n)) (before c (length c))
 
   pub ups-right : UpCounts P ups
   unfolding UpCounts before ups
   ups-right i x h =
-      table-at _ (before c (length c)) (before c i + x) (before-lt c i x h)
-      ∙ ap upAt (place-at (λ k. getD c k 0) (length c) i x (some-rank c i x h) h)
+      tabulated-at _ (before c (length c)) (before c i + x) (before-lt c i x h)
+      ∙ ap upAt (part-at (λ k. getD c k 0) (length c) i x (some-rank c i x h) h)
 
 -- ---- the product
 
@@ -69,10 +70,11 @@ module _ (P Q : Factor) (hp : 0 < length (P .counts)) (hq : 0 < length (Q .count
   unfolding written
   built-elements = before-table (T .size) (suc (T .top)) ∙ target-size P Q hp hq min max
 
-  built-ends : written T (derived T) .ends ≡ table (λ t. sum (lengths (listsOf min max P Q)) (suc t)) (2 * N)
+  built-ends : written T (derived T) .ends ≡ tabulated (λ t. sum (lengths (listsOf min max P Q)) (suc t)) (2 * N)
   unfolding written listsOf
   built-ends =
-      ap (λ (n : ℕ). table (λ t. sum (lengths (listsOf min max P Q)) (suc t)) (2 * n)) (target-size P Q hp hq min max)
+      ap (λ (n : ℕ). tabulated (λ t. sum (lengths (listsOf min max P Q)) (suc t)) (2 * n))
+      (target-size P Q hp hq min max)
 
   built-inc : written T (derived T) .inc ≡ joined (listsOf min max P Q) (2 * N)
   unfolding written listsOf

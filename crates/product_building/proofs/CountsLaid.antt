@@ -7,8 +7,8 @@ use Prim.Native.Nat.{ℕ, suc, _+_, _-_, _<_}
 use native.Mathlib.Omega.{arith}
 use lib.ListN.{length, length-append}
 use Rattle.listing.specs.Layers.{derived}
-use Rattle.listing.specs.Written.{table, written}
-use Rattle.listing.proofs.Written.{table-length, table-at}
+use Rattle.listing.specs.Written.{tabulated, written}
+use Rattle.listing.proofs.Written.{tabulated-length, tabulated-at}
 use Rattle.product_pairs.specs.Trimmed.{bit}
 use Rattle.product_pairs.specs.Paired.{paired}
 use Rattle.product_places.specs.Factors.{Factor}
@@ -33,10 +33,10 @@ module _ (min max : Bool) (p q : List ℕ) where
   counts-length =
       omega (
         arith,
-        length-append (when min 1) (table sizes n ++ when max 1),
-        length-append (table sizes n) (when max 1),
+        length-append (when min 1) (tabulated sizes n ++ when max 1),
+        length-append (tabulated sizes n) (when max 1),
         when-length min 1,
-        table-length sizes n,
+        tabulated-length sizes n,
         when-length max 1,
       )
 
@@ -45,12 +45,13 @@ module _ (min max : Bool) (p q : List ℕ) where
   unfolding countsOf
   counts-laid a b d d₁ d₂ d₃ ea eb l₁ l₂ l₃ =
       let a′ : a ≡ 0 + length (when min 1) = omega (arith, when-length min 1) in
-      let b′ : b ≡ a + length (table sizes n) = omega (arith, table-length sizes n) in
-      let k₂ : Holds a (table sizes n) d₁ d₂ =
-      laid-holds a d₁ d₂ (table sizes n) _ n (table-length sizes n) (λ j h. sym (table-at sizes n j h)) l₂ in
+      let b′ : b ≡ a + length (tabulated sizes n) = omega (arith, tabulated-length sizes n) in
+      let k₂ : Holds a (tabulated sizes n) d₁ d₂ =
+      laid-holds a d₁ d₂ (tabulated sizes n) _ n (tabulated-length sizes n)
+      (λ j h. sym (tabulated-at sizes n j h)) l₂ in
       let k₃ : Holds b (when max 1) d₂ d₃ = when-laid max 1 b d₂ d₃ l₃ in
-      holds-then 0 d d₁ (when min 1) (table sizes n ++ when max 1) d₃ (when-laid min 1 0 d d₁ l₁)
-      (rw a′ at (holds-then a d₁ d₂ (table sizes n) (when max 1) d₃ k₂ (rw b′ at k₃)))
+      holds-then 0 d d₁ (when min 1) (tabulated sizes n ++ when max 1) d₃ (when-laid min 1 0 d d₁ l₁)
+      (rw a′ at (holds-then a d₁ d₂ (tabulated sizes n) (when max 1) d₃ k₂ (rw b′ at k₃)))
 
 -- they are the counts of its layers
 pub target-counts : (P Q : Factor) → 0 < length (P .counts) → 0 < length (Q .counts) → (min max : Bool)

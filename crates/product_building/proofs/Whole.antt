@@ -6,42 +6,28 @@ use mathlib.Core.List.{List, _++_}
 use Prim.Native.Nat.{ℕ, zero, suc, _+_, _-_, _*_, _/_, _%_, _≤_, _<_}
 use native.Mathlib.Decide.{decLt}
 use native.Mathlib.Omega.{arith}
-use lib.ListN.{length, getD, take, drop, length-append, length-take, length-drop, List·getD-append}
+use lib.ListN.{length, getD, take, drop, length-take, length-drop, List·getD-append}
 use lib.Seq.{ext-getD, getD-take, getD-drop, getD-append-add}
+use Rattle.order.specs.Lists.{over}
 use Rattle.order.specs.Sums.{sum}
-use Rattle.order.proofs.Sums.{sum-lt, part-same, place-ok}
+use Rattle.order.proofs.Over.{over-numbers}
+use Rattle.order.proofs.Sums.{sum-lt, part-same, part-ok}
 use Rattle.listing.specs.Listing.{limits, before, start, entries, Ends}
-use Rattle.listing.specs.Written.{joined, table, lengths}
-use Rattle.listing.proofs.Written.{joined-length, joined-split, table-length, table-at}
+use Rattle.listing.specs.Written.{joined, tabulated, lengths}
+use Rattle.listing.proofs.Written.{joined-length, joined-split, tabulated-length, tabulated-at}
 use Rattle.product_places.specs.Laid.{Holds}
 use Rattle.product_writing.specs.Filling.{starts, Row}
 use Rattle.listing_sups.specs.Sups.{gathered, Fillable, Filled}
-use Rattle.product_building.specs.Built.{over, Derives}
+use Rattle.product_building.specs.Built.{Derives}
 use Rattle.product_places.proofs.Numbers.{before-lt}
 use Rattle.product_writing.proofs.Rows.{starts-next, starts-le, starts-room}
-use Rattle.listing_sups.proofs.SupsFilled.{gather-same}
+use Rattle.listing.proofs.Layers.{gather-same}
 
 -- ---- one list over another
 
-over-is : (new old d : List ℕ) → length d ≡ length old → length new ≤ length old
-    → ((p : ℕ) → p < length new → getD d p 0 ≡ getD new p 0)
-    → ((p : ℕ) → length new ≤ p → getD d p 0 ≡ getD old p 0) → d ≡ over new old
-over-is new old d e h first rest =
-    ext-getD 0 d (over new old)
-    (omega (arith, length-append new (drop (length new) old), length-drop (length new) old))
-    (λ p l. go p (decLt p (length new)))
-  where
-    go : (p : ℕ) → Dec (p < length new) → getD d p 0 ≡ getD (over new old) p 0
-    go p (yes a) = first p a ∙ sym (List·getD-append new (drop (length new) old) 0 p a)
-    go p (no a) =
-        let q : length new + (p - length new) ≡ p = omega arith in
-        rest p (omega arith)
-        ∙ sym (rw q at (getD-append-add new (drop (length new) old) (p - length new) 0
-        ∙ getD-drop (length new) old (p - length new) 0))
-
 pub holds-over : (new old d : List ℕ) → length new ≤ length old → Holds 0 new old d → d ≡ over new old
 holds-over new old d h l =
-    over-is new old d (l .same-length) h (λ p a. at p a) (λ p a. l .after p (omega arith))
+    over-numbers new old d (l .same-length) h (λ p a. at p a) (λ p a. l .after p (omega arith))
   where
     at : (p : ℕ) → p < length new → getD d p 0 ≡ getD new p 0
     at p a =
@@ -161,7 +147,7 @@ module _ (lists : ℕ → List ℕ) (counts : List ℕ) (N : ℕ) (ends₀ inc�
         → getD inc′ (starts lists (2 * e + 1) + j) 0 ≡ getD (lists (2 * e + 1)) j 0
     unfolding before
     sups-at e j h l =
-        let o = place-ok (λ k. getD counts k 0) (length counts) e (omega (arith, all)) in
+        let o = part-ok (λ k. getD counts k 0) (length counts) e (omega (arith, all)) in
         at _ _ (o .0) (o .1) (o .2)
       where
         at : (i x : ℕ) → i < length counts → x < getD counts i 0 → e ≡ before counts i + x
@@ -192,12 +178,12 @@ module _ (lists : ℕ → List ℕ) (counts : List ℕ) (N : ℕ) (ends₀ inc�
 
     pub whole-inc : inc′ ≡ over (joined lists (2 * N)) inc₀
     whole-inc =
-        over-is (joined lists (2 * N)) inc₀ inc′ (f .same-length ∙ row .inc-length)
+        over-numbers (joined lists (2 * N)) inc₀ inc′ (f .same-length ∙ row .inc-length)
         (omega (arith, joined-length lists (2 * N))) first rest
       where
         first : (p : ℕ) → p < length (joined lists (2 * N)) → getD inc′ p 0 ≡ getD (joined lists (2 * N)) p 0
         first p h =
-            let o = place-ok (lengths lists) (2 * N) p (omega (arith, joined-length lists (2 * N))) in
+            let o = part-ok (lengths lists) (2 * N) p (omega (arith, joined-length lists (2 * N))) in
             rw (o .2) (list-at _ _ (o .0) (o .1) ∙ sym (joined-at lists (2 * N) _ _ (o .0) (o .1)))
 
         rest : (p : ℕ) → length (joined lists (2 * N)) ≤ p → getD inc′ p 0 ≡ getD inc₀ p 0
@@ -210,10 +196,10 @@ module _ (lists : ℕ → List ℕ) (counts : List ℕ) (N : ℕ) (ends₀ inc�
             ))
             ∙ row .inc-rest p (omega (arith, joined-length lists (2 * N)))
 
-  pub whole-ends : ends ≡ over (table (λ t. sum (lengths lists) (suc t)) (2 * N)) ends₀
+  pub whole-ends : ends ≡ over (tabulated (λ t. sum (lengths lists) (suc t)) (2 * N)) ends₀
   whole-ends =
-      let n = table-length (λ t. sum (lengths lists) (suc t)) (2 * N) in
-      over-is (table (λ t. sum (lengths lists) (suc t)) (2 * N)) ends₀ ends (row .ends-length) (omega arith)
+      let n = tabulated-length (λ t. sum (lengths lists) (suc t)) (2 * N) in
+      over-numbers (tabulated (λ t. sum (lengths lists) (suc t)) (2 * N)) ends₀ ends (row .ends-length) (omega arith)
       (λ t h.
-      row .ends-done t (omega arith) ∙ sym (table-at (λ u. sum (lengths lists) (suc u)) (2 * N) t (omega arith)))
+      row .ends-done t (omega arith) ∙ sym (tabulated-at (λ u. sum (lengths lists) (suc u)) (2 * N) t (omega arith)))
       (λ t h. row .ends-rest t (omega arith))

@@ -9,13 +9,14 @@ ghost use mathlib.Core.Path.{_≡_};
 ghost use mathlib.Core.List.{List};
 ghost use Prim.Native.Nat.{ℕ, suc, _+_, _-_, _≤_, _<_};
 ghost use lib.ListN.{length};
+ghost use Rattle.order.specs.Lists.{over};
 ghost use Rattle.listing.specs.Listing.{width, limits};
 ghost use Rattle.product_places.specs.Laid.{Laid, Holds};
 ghost use Rattle.product_places.specs.Places.{pairsIn, pairsTo};
 ghost use Rattle.product_places.specs.Factors.{part};
 ghost use Rattle.product_writing.specs.Pairs.{sizeOf, listed, Ready};
 ghost use Rattle.listing_sups.specs.Sups.{UpCounts};
-ghost use Rattle.product_building.specs.Built.{over, countsOf, built, Derives};
+ghost use Rattle.product_building.specs.Built.{countsOf, built, Derives};
 
 // Writes the number of pairs of each of n ranks, from place `at` on. Returns the place after the last.
 fn put_sizes(counts: &mut [Index], at: usize, p: &[Index], q: &[Index], n: usize) -> usize

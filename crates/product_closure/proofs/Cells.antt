@@ -15,9 +15,9 @@ use Rattle.listing.specs.Listing.{Listing, Limits, rank, count, side, subs}
 use Rattle.listing.specs.Shape.{Shaped}
 use Rattle.listing.specs.Layers.{layers, order, derived}
 use Rattle.listing.proofs.Layers.{layers-topped, in-range, derived-in, derived-ascending}
-use Rattle.valid_incidence.specs.Incidence.{Incident}
-use Rattle.valid_incidence.proofs.Sequences.{at-sides}
-use Rattle.valid_diamond.specs.Dyadic.{Diamond}
+use Rattle.valid_incidence.specs.Incidence.{LowerAt, UpperAt, Incident}
+use Rattle.listing.proofs.Places.{at-sides}
+use Rattle.valid_diamond.specs.Dyadic.{DiamondUpTo}
 use Rattle.valid.specs.Bounds.{Bounded}
 use Rattle.valid.specs.Ascent.{Ascends}
 use Rattle.valid.specs.Closed.{Closed}
@@ -29,12 +29,12 @@ module _ (L : Listing) where
   -- ---- lists
 
   pub incident-sound : Incident L → Sound (layers L)
-  unfolding Sound
-  incident-sound I r b a h m = let t = I .sub-back r b a h m in (t .0, rw sub-one at (t .1))
+  unfolding Sound Incident
+  incident-sound I r b a h m = let t = I r b h .lower .each a m in (t .0, rw sub-one at (t .1))
 
   pub ascends-sorted : Ascends L → Sorted (layers L)
   unfolding Ascends Sorted
-  ascends-sorted a r b h = a 0 r b (omega arith) h
+  ascends-sorted a r b h = a r b h 0 (omega arith)
 
   -- no subs list holds an index twice, so that the derived sups ascend
   sups-ascend : Sorted (layers L) → (r i : ℕ) → Ascending (derived (layers L) r i)
@@ -43,8 +43,7 @@ module _ (L : Listing) where
 
   sorted-ascends : Sorted (layers L) → Derived L → Ascends L
   unfolding Ascends Sorted Derived
-  sorted-ascends o d s r i k h =
-      at-sides (λ t. Ascending (side L t r i)) (o r i h) (rw (d r i h) (sups-ascend o r i)) s k
+  sorted-ascends o d r i h = at-sides (λ s. Ascending (side L s r i)) (o r i h) (rw (d r i h) (sups-ascend o r i))
 
   -- ---- the ends
 
@@ -96,17 +95,19 @@ module _ (L : Listing) where
   -- ---- incidences
 
   rooted : Incident L → Rooted (order (layers L))
-  unfolding Rooted
+  unfolding Rooted Incident
   rooted I y e h =
-      let t = I .some-sub (y .0) (y .1) e h in
-      let s = I .sub-back (y .0) (y .1) (t .0) e (t .1) in
+      let a = I (y .0) (y .1) e .lower in
+      let t = a .some h in
+      let s = a .each (t .0) (t .1) in
       ((y .0 - 1, t .0), (s .1, e, omega arith, t .1))
 
   hung : Incident L → Rooted (turned (order (layers L)))
-  unfolding Rooted
+  unfolding Rooted Incident
   hung I x e h =
-      let t = I .some-sup (x .0) (x .1) e (omega arith) in
-      let s = I .sup-back (x .0) (x .1) (t .0) e (t .1) in
+      let a = I (x .0) (x .1) e .upper in
+      let t = a .some (omega arith) in
+      let s = a .each (t .0) (t .1) in
       ((suc (x .0), t .0), (e, rw add-one at (s .0), refl, rw add-one at (s .1)))
 
   pub framed : Bounded L → Incident L → Frame false false (order (layers L))
@@ -122,28 +123,38 @@ module _ (L : Listing) where
         some-highest = record { low = high .least; low-exists = high .least-exists; low-rank = high .least-rank };
       }
 
-  pub frame-incident : Frame false false (order (layers L)) → Sound (layers L) → Derived L → Incident L
-  unfolding Rooted Sound Derived
-  frame-incident f s d = record {
-    some-sub = λ r i h p. let t = f .rooted (r, i) h p in (t .0 .1, t .1 .3);
-    some-sup = λ r i h p.
-        let t = f .hung (r, i) h (omega arith) in
-        let u = derived-in (layers L) r i (t .0 .1) .1 (rw (t .1 .2) at (t .1 .1), rw (t .1 .2) at (t .1 .3)) in
-        (t .0 .1, rw (d r i h) u);
-    sub-back = λ r i x h m.
-        let t = s r i x h m in
-        let e : suc (r - 1) ≡ r = omega (arith, t .0) in
-        let k : x < count L (r - 1) = rw sub-one (t .1) in
-        (t .0, k, rw (d (r - 1) x k) (derived-in (layers L) (r - 1) x i .1 (rw e h, rw e m)));
-    sup-back = λ r i x h m.
-        let t = derived-in (layers L) r i x .0 (rw (d r i h) at m) in
-        (rw add-one (t .0), rw add-one (t .1));
-  }
+  module _ (f : Frame false false (order (layers L))) (s : Sound (layers L)) (d : Derived L) where
+    frame-lower : (r i : ℕ) → i < count L r → LowerAt L r i
+    unfolding Rooted Sound Derived
+    frame-lower r i h = record {
+      some = λ p. let t = f .rooted (r, i) h p in (t .0 .1, t .1 .3);
+      each = λ x m.
+          let t = s r i x h m in
+          let e : suc (r - 1) ≡ r = omega (arith, t .0) in
+          let k : x < count L (r - 1) = rw sub-one (t .1) in
+          (t .0, k, rw (d (r - 1) x k) (derived-in (layers L) (r - 1) x i .1 (rw e h, rw e m)));
+    }
+
+    frame-upper : (r i : ℕ) → i < count L r → UpperAt L r i
+    unfolding Rooted Derived
+    frame-upper r i h = record {
+      some = λ p.
+          let t = f .hung (r, i) h (omega arith) in
+          let u = derived-in (layers L) r i (t .0 .1) .1 (rw (t .1 .2) at (t .1 .1), rw (t .1 .2) at (t .1 .3)) in
+          (t .0 .1, rw (d r i h) u);
+      each = λ x m.
+          let t = derived-in (layers L) r i x .0 (rw (d r i h) at m) in
+          (rw add-one (t .0), rw add-one (t .1));
+    }
+
+    pub frame-incident : Incident L
+    unfolding Incident
+    frame-incident r i h = record { lower = frame-lower r i h; upper = frame-upper r i h }
 
 -- ---- closed listings and closed cells
 
 module _ (L : Listing) where
-  cell-diamond : Cell false false (order (layers L)) → Sound (layers L) → Diamond L (rank L)
+  cell-diamond : Cell false false (order (layers L)) → Sound (layers L) → DiamondUpTo L (rank L)
   cell-diamond g s = diamond-same L s .1 (g .diamond)
 
   module _ {m : Limits} where

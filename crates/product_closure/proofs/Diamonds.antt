@@ -1,47 +1,18 @@
 -- The diamond of a listing, said of indices, and the diamond of its order, said of elements, are one rule.
 -- Assumes nothing.
 use mathlib.Core.Path.{_≡_, refl, sym, ap, _∙_}
-use mathlib.Core.Logic.{_↔_, _⊎_, inl, inr, ⊎-swap}
+use mathlib.Core.Logic.{_↔_}
 use Prim.Native.Nat.{ℕ, suc, pred, _-_, _<_}
 use native.Mathlib.Numerals.{sub-one}
 use native.Mathlib.Omega.{arith}
-use Rattle.order.specs.Diamond.{OneOther, Between as OrderBetween, Diamond as OrderDiamond}
+use Rattle.order.specs.Diamond.{OneOther, Between, Diamond}
 use Rattle.order.proofs.Renumbering.{OneOther·map}
 use Rattle.order.proofs.Pairs.{pair-path}
 use Rattle.listing.specs.Listing.{Listing, rank, count}
 use Rattle.listing.specs.Layers.{layers, order}
 use Rattle.listing.proofs.Layers.{layers-topped, in-range}
-use Rattle.valid_diamond.specs.Dyadic.{Between, Two, Diamond, DiamondAt}
+use Rattle.valid_diamond.specs.Dyadic.{LiesBetween, DiamondUpTo, DiamondAt}
 use Rattle.product_pairs.specs.Sound.{Sound}
-
--- ---- exactly two, and exactly one other
-
-two-other : (P : ℕ → Type 0) (y : ℕ) → P y → Two P → OneOther P y
-two-other P y p t = go (t .no-third y p)
-  where
-    go : (y ≡ t .one) ⊎ (y ≡ t .two) → OneOther P y
-    go (inl e) = record {
-      other = t .two;
-      differs = λ q. t .apart (sym e ∙ sym q);
-      holds = t .second;
-      only = λ w q. rw e (t .no-third w q);
-    }
-    go (inr e) = record {
-      other = t .one;
-      differs = λ q. t .apart (q ∙ e);
-      holds = t .first;
-      only = λ w q. rw e (⊎-swap (t .no-third w q));
-    }
-
-other-two : (P : ℕ → Type 0) (y : ℕ) → P y → OneOther P y → Two P
-other-two P y p o = record {
-  one = y;
-  two = o .other;
-  apart = λ e. o .differs (sym e);
-  first = p;
-  second = o .holds;
-  no-third = o .only;
-}
 
 -- ---- between two elements that lie two ranks apart
 
@@ -49,10 +20,10 @@ module _ (L : Listing) (s : Sound (layers L)) (x z : ℕ × ℕ) (ex : x .1 < co
     (apart : z .0 ≡ suc (suc (x .0))) where
   -- what lies between them by its index, and as an element
   abbrev ByIndex : ℕ → Type 0
-  ByIndex = Between L (z .0) (z .1) (x .1)
+  ByIndex = LiesBetween L (z .0) (z .1) (x .1)
 
   abbrev ByElement : ℕ × ℕ → Type 0
-  ByElement = OrderBetween (order (layers L)) x z
+  ByElement = Between (order (layers L)) x z
 
   index-element : (w : ℕ) → ByIndex w → ByElement (suc (x .0), w)
   unfolding Sound
@@ -82,26 +53,25 @@ module _ (L : Listing) (s : Sound (layers L)) (x z : ℕ × ℕ) (ex : x .1 < co
 -- ---- the two rules
 
 module _ (L : Listing) (s : Sound (layers L)) where
-  index-diamond : Diamond L (rank L) → OrderDiamond (order (layers L))
-  unfolding OrderDiamond Diamond DiamondAt
+  index-diamond : DiamondUpTo L (rank L) → Diamond (order (layers L))
+  unfolding Diamond DiamondUpTo DiamondAt
   index-diamond d x y z u v =
       let e : z .0 ≡ suc (suc (x .0)) = omega (arith, u .2, v .2) in
       let h = in-range (layers L) (layers-topped L) (z .0) (z .1) (v .1) in
       let b = element-index L s x z (u .0) (v .1) e y (u, v) .0 in
       index-other L s x z (u .0) (v .1) e y (u, v)
-      (two-other _ (y .1) b (d (z .0) (omega arith) h (z .1) (x .1) (y .1) (v .1) b))
+      (d (z .0) (omega arith) h (z .1) (x .1) (y .1) (v .1) b)
 
-  element-diamond : OrderDiamond (order (layers L)) → Diamond L (rank L)
-  unfolding OrderDiamond Diamond DiamondAt Sound
+  element-diamond : Diamond (order (layers L)) → DiamondUpTo L (rank L)
+  unfolding Diamond DiamondUpTo DiamondAt Sound
   element-diamond d r low high i x j h b =
       let e : r ≡ suc (suc (r - 2)) = omega arith in
       let f : pred (r - 1) ≡ r - 2 = omega arith in
       let k : j < count L (r - 1) = rw (← sub-one r) at (s r i j h (b .0) .1) in
       let l : x < count L (r - 2) = rw f at (s (r - 1) j x k (b .1) .1) in
       let c = index-element L s (r - 2, x) (r, i) l h e j b in
-      let o = d (r - 2, x) (suc (r - 2), j) (r, i) (c .0) (c .1) in
-      other-two (Between L r i x) j b (element-other L s (r - 2, x) (r, i) l h e j b o)
+      element-other L s (r - 2, x) (r, i) l h e j b (d (r - 2, x) (suc (r - 2), j) (r, i) (c .0) (c .1))
 
 -- A listing whose lists are sound has the diamond up to its maximal element exactly if its order has it.
-pub diamond-same : (L : Listing) → Sound (layers L) → Diamond L (rank L) ↔ OrderDiamond (order (layers L))
+pub diamond-same : (L : Listing) → Sound (layers L) → DiamondUpTo L (rank L) ↔ Diamond (order (layers L))
 diamond-same L s = (index-diamond L s, element-diamond L s)

@@ -7,3 +7,5 @@ pub mod Valid
 pub mod Sums
 pub mod Sizes
 pub mod Pairs
+pub mod Lists
+pub mod Exchanged

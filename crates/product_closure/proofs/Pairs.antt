@@ -19,17 +19,19 @@ use Rattle.product_pairs.proofs.ProductPairs.{at-used, at-one, at-onto, at-unde
 use Rattle.product_pairs.proofs.ProductEnds.{at-rank, product-min-size, product-min, product-min-only, product-kinds}
 use Rattle.product_pairs.proofs.ProductEnds.{product-max-size, product-max, product-max-only}
 use Rattle.product_pairs.proofs.ProductSwap.{product-swap, product-swap-pair, product-swap-min, product-swap-max}
-use Rattle.product_closure.specs.Result.{first, second, nullCase, resultOf}
+use Rattle.product_closure.specs.Result.{firstFactor, secondFactor, nullCase, resultOf}
 use Rattle.product_closure.specs.Pairs.{InnerPair, placeOf, Matched, LowEnd, HighEnd, Swapped}
-use Rattle.product_closure.proofs.Alike.{alike-exists, alike-used, alike-listed, alike-renumbered, productOf-alike}
-use Rattle.product_closure.proofs.Results.{result-product, null-exchanged, both}
+use Rattle.product_closure.proofs.Alike.{alike-exists, alike-used, alike-listed, alike-renumbered}
+use Rattle.product_closure.proofs.Alike.{productOf-alike}
+use Rattle.product_closure.proofs.Results.{result-product, null-exchanged, exchanged, both}
 
 -- ---- the product of two listings
 
 module _ (min max : Bool) (A B : Listing) (sA : Sound (layers A)) (sB : Sound (layers B)) where
   -- where a pair in use stands there is an element
-  used : (x : El × El) → InnerPair min max A B x → Used min max (productLayers min max A B) (placeOf min max A B x)
-  used = at-used min max (layers A) (layers B) (layers-topped A) (layers-topped B) sA sB
+  pub place-used : (x : El × El) → InnerPair min max A B x
+      → Used min max (productLayers min max A B) (placeOf min max A B x)
+  place-used = at-used min max (layers A) (layers B) (layers-topped A) (layers-topped B) sA sB
 
   productOf-matched : Matched min max A B (productOf min max A B)
   productOf-matched =
@@ -37,7 +39,7 @@ module _ (min max : Bool) (A B : Listing) (sA : Sound (layers A)) (sB : Sound (l
       let tB = layers-topped B in
       let k = productOf-alike min max A B in
       record {
-        there = λ x u. alike-used k min max _ .1 (used x u);
+        there = λ x u. alike-used k min max _ .1 (place-used x u);
         once = at-one min max (layers A) (layers B) tA tB sA sB;
         all = λ y i. at-onto min max (layers A) (layers B) tA tB sA sB y (alike-used k min max y .0 i);
         ranks = at-rank min max (layers A) (layers B);
@@ -45,7 +47,8 @@ module _ (min max : Bool) (A B : Listing) (sA : Sound (layers A)) (sB : Sound (l
             rw (k .same-size (y .0), k .same-top)
             (product-kinds min max (layers A) (layers B) y (alike-exists k y .0 e));
         under = λ x y p q.
-            Iff·trans (alike-listed k _ _ (used y q .0)) (at-under min max (layers A) (layers B) tA tB sA sB x y p q);
+            Iff·trans (alike-listed k _ _ (place-used y q .0))
+            (at-under min max (layers A) (layers B) tA tB sA sB x y p q);
       }
 
 module _ (max : Bool) (A B : Listing) (sA : Sound (layers A)) (sB : Sound (layers B)) where
@@ -55,7 +58,8 @@ module _ (max : Bool) (A B : Listing) (sA : Sound (layers A)) (sB : Sound (layer
       record {
         one = k .same-size 0 ∙ product-min-size max (layers A) (layers B);
         pairs = λ x u.
-            Iff·trans (alike-listed k _ _ (used true max A B sA sB x u .0)) (product-min max (layers A) (layers B) x u);
+            Iff·trans (alike-listed k _ _ (place-used true max A B sA sB x u .0))
+            (product-min max (layers A) (layers B) x u);
         no-other = λ y e l.
             let h = alike-exists k y .0 e in
             alike-used k true max y .1 (product-min-only max (layers A) (layers B) y h (alike-listed k _ y h .0 l));
@@ -111,28 +115,23 @@ productOf-swapped min max A B sA sB =
 
 -- ---- the four products
 
--- what holds of the second and the first factor holds of the first and the second of the exchanged ones
-exchanged : (P : Listing → Listing → Type 0) (min : Bool) (A B : Listing) → P (second min A B) (first min A B)
-    → P (first min B A) (second min B A)
-exchanged P true A B p = p
-exchanged P false A B p = p
-
 module _ (min max : Bool) (A B : Listing) (sA : Sound (layers A)) (sB : Sound (layers B))
     (n : nullCase min max A B ≡ false) where
-  sound : Sound (layers (first min A B)) × Sound (layers (second min A B))
+  sound : Sound (layers (firstFactor min A B)) × Sound (layers (secondFactor min A B))
   sound = both (λ L. Sound (layers L)) min A B sA sB
 
   -- Apart from the added ends the elements are the pairs in use, and directly under is a step of one member.
-  pub result-matched : Matched min max (first min A B) (second min A B) (resultOf min max A B)
+  pub result-matched : Matched min max (firstFactor min A B) (secondFactor min A B) (resultOf min max A B)
   result-matched =
       rw (result-product min max A B n)
-      (productOf-matched min max (first min A B) (second min A B) (sound .0) (sound .1))
+      (productOf-matched min max (firstFactor min A B) (secondFactor min A B) (sound .0) (sound .1))
 
   -- Exchanging the factors only swaps the pairs.
-  pub result-swapped : Swapped min max (first min A B) (second min A B) (resultOf min max A B) (resultOf min max B A)
+  pub result-swapped : Swapped min max (firstFactor min A B) (secondFactor min A B) (resultOf min max A B)
+      (resultOf min max B A)
   result-swapped =
-      let F = first min A B in
-      let S = second min A B in
+      let F = firstFactor min A B in
+      let S = secondFactor min A B in
       rw (result-product min max A B n, result-product min max B A (null-exchanged min max B A ∙ n))
       (exchanged (λ C D. Swapped min max F S (productOf min max F S) (productOf min max C D)) min A B
       (productOf-swapped min max F S (sound .0) (sound .1)))
@@ -144,7 +143,7 @@ result-low max A B sA sB n = rw (result-product true max A B n) (productOf-low m
 
 -- The added maximal element of duotegum and duocomb lies directly over the pairs of two facets.
 pub result-high : (min : Bool) (A B : Listing) → Sound (layers A) → Sound (layers B) → nullCase min true A B ≡ false
-    → HighEnd min (first min A B) (second min A B) (resultOf min true A B)
+    → HighEnd min (firstFactor min A B) (secondFactor min A B) (resultOf min true A B)
 result-high min A B sA sB n =
     let s = both (λ L. Sound (layers L)) min A B sA sB in
-    rw (result-product min true A B n) (productOf-high min (first min A B) (second min A B) (s .0) (s .1))
+    rw (result-product min true A B n) (productOf-high min (firstFactor min A B) (secondFactor min A B) (s .0) (s .1))

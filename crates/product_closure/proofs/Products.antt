@@ -9,7 +9,7 @@ use Rattle.listing.specs.Shape.{Shaped}
 use Rattle.valid.specs.Closed.{Closed}
 use Rattle.product_pairs.specs.Product.{productOf}
 use Rattle.product_pairs.proofs.Listings.{productOf-sound, productOf-sorted, productOf-cell}
-use Rattle.product_closure.specs.Result.{first, second, resultOf, HighEnough}
+use Rattle.product_closure.specs.Result.{firstFactor, secondFactor, resultOf, HighEnough}
 use Rattle.product_closure.proofs.Cells.{incident-sound, ascends-sorted, closed-cell, cell-closed}
 use Rattle.product_closure.proofs.Alike.{productOf-derived}
 use Rattle.product_closure.proofs.Results.{result-product, not-null, both, both-ranks}
@@ -34,7 +34,7 @@ product-closed min max m A B cA cB p q t h =
     let c = both (Closed m) min A B cA cB in
     let r = both (λ L. need min max ≤ rank L) min A B p q in
     rw e
-    (productOf-closed min max (first min A B) (second min A B) (c .0) (c .1) (r .0) (r .1)
+    (productOf-closed min max (firstFactor min A B) (secondFactor min A B) (c .0) (c .1) (r .0) (r .1)
     (rw (both-ranks min A B) t) (rw e at h))
 
 -- The ranks from which that holds, as the table of HighEnough has them.

@@ -13,7 +13,8 @@ use Rattle.listing.specs.Answers.{_orElse_, firstIn, firstFor, firstOf}
 use Rattle.listing.specs.Listing.{Listing, limits, rank, before, entries}
 use Rattle.listing.specs.Shape.{fills, shapeTest}
 use Rattle.listing.specs.Cells.{nullitope}
-use Rattle.valid_incidence.specs.Incidence.{alongTest, elementTest, incidencesTest}
+use Rattle.valid_incidence.specs.Ways.{alongTest, listTest}
+use Rattle.valid_incidence.specs.Incidence.{elementTest, incidencesTest}
 use Rattle.order.proofs.Tests.{or-none}
 use Rattle.valid_diamond.specs.Dyadic.{dyadicTest}
 use Rattle.valid.specs.Bounds.{boundedTest}
@@ -24,11 +25,11 @@ use Rattle.valid.proofs.ClosedExact.{closed-exact}
 use Rattle.product_pairs.specs.Trimmed.{bit}
 use Rattle.product_pairs.specs.Product.{productOf}
 use Rattle.product_pairs.proofs.Listings.{productOf-rank}
-use Rattle.product_closure.specs.Result.{first, second, nullCase, combCase, resultOf}
+use Rattle.product_closure.specs.Result.{firstFactor, secondFactor, nullCase, combCase, resultOf}
 
 module _ (min max : Bool) (A B : Listing) where
   pub result-product : nullCase min max A B ≡ false
-      → resultOf min max A B ≡ productOf min max (first min A B) (second min A B)
+      → resultOf min max A B ≡ productOf min max (firstFactor min A B) (secondFactor min A B)
   unfolding resultOf
   result-product e = rw (e, resultOf)
 
@@ -38,8 +39,8 @@ module _ (min max : Bool) (A B : Listing) where
 
 -- the nullitope is closed, by computing
 pub nullitope-closed : Closed limits nullitope
-unfolding sum before entries fills shapeTest _orElse_ firstIn firstFor firstOf boundedTest alongTest elementTest
-    incidencesTest climbs elementAscent ascentTest dyadicTest closed
+unfolding sum before entries fills shapeTest _orElse_ firstIn firstFor firstOf boundedTest alongTest listTest
+    elementTest incidencesTest climbs elementAscent ascentTest dyadicTest closed
 nullitope-closed = closed-exact limits nullitope .0 refl
 
 -- ---- ranks
@@ -79,11 +80,19 @@ unfolding nullCase
 null-exchanged min max A B = ap (λ t. (min || max) && t) (or-comm (eqb (rank A) 0) (eqb (rank B) 0))
 
 -- what both factors have, the first and the second have
-pub both : (P : Listing → Type 0) (min : Bool) (A B : Listing) → P A → P B → P (first min A B) × P (second min A B)
+pub both : (P : Listing → Type 0) (min : Bool) (A B : Listing) → P A → P B
+    → P (firstFactor min A B) × P (secondFactor min A B)
 both P true A B a b = (a, b)
 both P false A B a b = (b, a)
 
-pub both-ranks : (min : Bool) (A B : Listing) → rank (first min A B) + rank (second min A B) ≡ rank A + rank B
+-- what holds of the second and the first factor holds of the first and the second of the exchanged ones
+pub exchanged : (P : Listing → Listing → Type 0) (min : Bool) (A B : Listing)
+    → P (secondFactor min A B) (firstFactor min A B) → P (firstFactor min B A) (secondFactor min B A)
+exchanged P true A B p = p
+exchanged P false A B p = p
+
+pub both-ranks : (min : Bool) (A B : Listing)
+    → rank (firstFactor min A B) + rank (secondFactor min A B) ≡ rank A + rank B
 both-ranks true A B = refl
 both-ranks false A B = omega arith
 
@@ -93,4 +102,4 @@ pub result-rank : (min max : Bool) (A B : Listing) → need min max ≤ rank A �
 result-rank min max A B p q =
     let r = both (λ L. need min max ≤ rank L) min A B p q in
     rw (result-product min max A B (not-null min max A B p q), ← both-ranks min A B)
-    (productOf-rank min max (first min A B) (second min A B) (r .0) (r .1))
+    (productOf-rank min max (firstFactor min A B) (secondFactor min A B) (r .0) (r .1))

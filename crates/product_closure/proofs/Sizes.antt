@@ -15,7 +15,7 @@ use Rattle.listing.proofs.Written.{written-elements, written-inc-length}
 use Rattle.product_pairs.specs.Sound.{Sound}
 use Rattle.product_pairs.specs.Trimmed.{bit}
 use Rattle.product_pairs.specs.Paired.{block, paired}
-use Rattle.product_pairs.specs.Product.{usedPairs, product, productOf}
+use Rattle.product_pairs.specs.Product.{usedPairs, layerProduct, productOf}
 use Rattle.product_pairs.specs.Lengths.{rankSubs, allSubs, pairedSubs, productSubs}
 use Rattle.product_pairs.proofs.Sequences.{sum-plus}
 use Rattle.product_pairs.proofs.Trimmed.{trimmed-topped}
@@ -24,7 +24,7 @@ use Rattle.product_pairs.proofs.Product.{product-topped}
 use Rattle.product_pairs.proofs.Lengths.{rankSubs-above}
 use Rattle.product_pairs.proofs.ProductLengths.{product-count, product-total}
 use Rattle.product_pairs.proofs.Listings.{productOf-shaped}
-use Rattle.product_closure.specs.Sizes.{allElements, sizesOf, Within}
+use Rattle.product_closure.specs.Sizes.{allElements, sizesOf, WithinLimits}
 use Rattle.product_closure.proofs.Sums.{sum-product}
 
 -- ---- pairs
@@ -46,18 +46,19 @@ module _ (A B : Layers) (tA : Topped A) (tB : Topped B) where
 -- ---- the product of layers
 
 module _ (min max : Bool) (A B : Layers) where
-  product-ranks : suc (product min max A B .top) ≡ sizesOf min max A B .ranks
-  unfolding product sizesOf
+  product-ranks : suc (layerProduct min max A B .top) ≡ sizesOf min max A B .ranks
+  unfolding layerProduct sizesOf
   product-ranks = ap suc (grown-top min max (usedPairs min max A B))
 
-  product-elements : sum (product min max A B .size) (suc (product min max A B .top)) ≡ sizesOf min max A B .elements
+  product-elements : sum (layerProduct min max A B .size) (suc (layerProduct min max A B .top))
+      ≡ sizesOf min max A B .elements
   unfolding allElements sizesOf
   product-elements =
       product-count min max A B
       ∙ ap (λ n. n + bit min + bit max) (paired-elements _ _ (trimmed-topped min max A) (trimmed-topped min max B))
 
   product-incidences : Sound A → Sound B
-      → total (product min max A B) (derived (product min max A B)) ≡ sizesOf min max A B .incidences
+      → total (layerProduct min max A B) (derived (layerProduct min max A B)) ≡ sizesOf min max A B .incidences
   unfolding productSubs sizesOf
   product-incidences sA sB =
       let n = paired-subs _ _ (trimmed-topped min max A) (trimmed-topped min max B) in
@@ -87,7 +88,7 @@ module _ (min max : Bool) (A B : Listing) (sA : Sound (layers A)) (sB : Sound (l
 
   -- The product has a good shape exactly if its sizes are within the limits.
   pub productOf-within : (m : Limits)
-      → Shaped m (productOf min max A B) ↔ Within m (sizesOf min max (layers A) (layers B))
+      → Shaped m (productOf min max A B) ↔ WithinLimits m (sizesOf min max (layers A) (layers B))
   productOf-within m = (
     λ h. record {
       few-ranks = rw (productOf-ranks min max A B) at (h .few-ranks);

@@ -15,7 +15,7 @@ use Rattle.valid.proofs.ClosedExact.{valid-exact}
 use Rattle.product_pairs.specs.Sound.{Sound}
 use Rattle.product_pairs.specs.Product.{productOf}
 use Rattle.product_pairs.proofs.Listings.{productOf-sound, productOf-frame}
-use Rattle.product_closure.specs.Result.{first, second, nullCase, combCase, resultOf}
+use Rattle.product_closure.specs.Result.{firstFactor, secondFactor, nullCase, combCase, resultOf}
 use Rattle.product_closure.proofs.Cells.{incident-sound, framed, frame-bounded, frame-incident}
 use Rattle.product_closure.proofs.Alike.{productOf-derived}
 use Rattle.product_closure.proofs.Results.{result-product, result-null, nullitope-closed, needed, both}
@@ -51,7 +51,7 @@ result-framed min max A B gA gB c = go (nullCase min max A B) refl
         let g = both Framed min A B gA gB in
         let r = both (λ L. need min max ≤ rank L) min A B (p .0) (p .1) in
         rw (result-product min max A B e)
-        (productOf-framed min max (first min A B) (second min A B) (g .0) (g .1) (r .0) (r .1))
+        (productOf-framed min max (firstFactor min A B) (secondFactor min A B) (g .0) (g .1) (r .0) (r .1))
 
 -- Whatever two listings is_valid accepts, and whichever product, unless it is a duocomb that is refused: the result has
 -- one minimal and one maximal element, and its incidences are right.

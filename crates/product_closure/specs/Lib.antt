@@ -1,4 +1,5 @@
 pub mod Derived
 pub mod Result
 pub mod Pairs
+pub mod Lists
 pub mod Sizes

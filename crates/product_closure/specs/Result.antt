@@ -1,13 +1,13 @@
 -- Which product of two listings each of the four is. min and max tell them apart: duopyramid neither, duoprism min,
 -- duotegum max, duocomb both. A is the left factor, B the right one.
 --
--- first, second   the factor that gives the first, the second members of the pairs: the left one first where min is
---                 set, else the right one
--- nullCase        a factor of rank 0, for all but the duopyramid
--- combCase        the duocomb with a factor of rank 1, and none of rank 0
--- resultOf        the product: the nullitope in the null case, else that of the pairs
--- HighEnough      the ranks of two closed factors at which the product is closed: all for the duopyramid, from 1 for
---                 duoprism and duotegum, from 2 and not both 2 for the duocomb
+-- firstFactor, secondFactor   the factor that gives the first, the second members of the pairs: the left one gives the
+--              first where min is set, else the right one does
+-- nullCase     a factor of rank 0, for all but the duopyramid
+-- combCase     the duocomb with a factor of rank 1, and none of rank 0
+-- resultOf     the product: the nullitope in the null case, else that of the pairs
+-- HighEnough   the ranks of two closed factors at which the product is closed: all for the duopyramid, from 1 for
+--              duoprism and duotegum, from 2 and not both 2 for the duocomb
 use mathlib.Core.Bool.{Bool, true, false, not, _&&_, _||_}
 use Prim.Native.Nat.{ℕ, _+_, _≤_}
 use lib.Dec.{eqb}
@@ -15,13 +15,13 @@ use Rattle.listing.specs.Listing.{Listing, rank}
 use Rattle.listing.specs.Cells.{nullitope}
 use Rattle.product_pairs.specs.Product.{productOf}
 
-abbrev pub first : Bool → Listing → Listing → Listing
-first true A B = A
-first false A B = B
+abbrev pub firstFactor : Bool → Listing → Listing → Listing
+firstFactor true A B = A
+firstFactor false A B = B
 
-abbrev pub second : Bool → Listing → Listing → Listing
-second true A B = B
-second false A B = A
+abbrev pub secondFactor : Bool → Listing → Listing → Listing
+secondFactor true A B = B
+secondFactor false A B = A
 
 unfoldable pub nullCase : Bool → Bool → Listing → Listing → Bool
 nullCase min max A B = (min || max) && (eqb (rank A) 0 || eqb (rank B) 0)
@@ -33,7 +33,7 @@ unfoldable pub resultOf : Bool → Bool → Listing → Listing → Listing
 resultOf min max A B =
     elim (nullCase min max A B) [
       | true ↦ nullitope
-      | false ↦ productOf min max (first min A B) (second min A B)
+      | false ↦ productOf min max (firstFactor min A B) (secondFactor min A B)
     ]
 
 unfoldable pub HighEnough : Bool → Bool → ℕ → ℕ → Type 0

@@ -6,7 +6,7 @@
 --               added end makes one rank more. Elements make pairs, and each added end is one element more. Each sub of
 --               an element makes one for each element that it is paired with; an added end brings one for each lowest
 --               or each highest pair; and with each sub there is its sup.
--- Within        the sizes are within the limits
+-- WithinLimits  the sizes are within the limits
 use mathlib.Core.Bool.{Bool}
 use Prim.Native.Nat.{ℕ, suc, _+_, _*_, _≤_}
 use Rattle.order.specs.Sums.{sum}
@@ -36,7 +36,7 @@ sizesOf min max A B =
       incidences = 2 * (pairs + bit min * lowest + bit max * highest);
     }
 
-pub record Within (m : Limits) (s : Sizes) : Type 0 where
+pub record WithinLimits (m : Limits) (s : Sizes) : Type 0 where
   pub few-ranks : s .ranks ≤ m .ranks
   pub few-elements : s .elements ≤ m .elements
   pub few-incidences : s .incidences ≤ m .incidences

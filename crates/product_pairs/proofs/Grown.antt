@@ -11,7 +11,7 @@ use native.Mathlib.Numerals.{add-one}
 use native.Mathlib.Omega.{arith}
 use Rattle.order.specs.Lists.{In}
 use Rattle.order.specs.Structure.{Renumbering}
-use Rattle.order.specs.Ends.{end, grow, inside, addedMin, addedMax}
+use Rattle.order.specs.Ends.{end, grow, asGrown, addedMin, addedMax}
 use Rattle.order.proofs.Renumbering.{Renumbering·same, Renumbering·then}
 use Rattle.order.proofs.Added.{withMin·renumbered}
 use Rattle.order.proofs.Pairs.{pair-path}
@@ -20,9 +20,11 @@ use Rattle.product_pairs.specs.Sound.{Sound, Sorted, Listed}
 use Rattle.product_pairs.specs.Trimmed.{bit}
 use Rattle.product_pairs.specs.Grown.{upTo, minSize, minUnder, addMin, maxUnder, addMax, grown}
 use Rattle.product_pairs.proofs.Trimmed.{raised}
-use Rattle.product_pairs.proofs.AddMin.{addMin-topped, addMin-sound, addMin-sorted, addMin-order, addMin-order-to}
+use Rattle.product_pairs.proofs.AddMin.{addMin-topped, addMin-sound, addMin-sorted, addMin-order}
+use Rattle.product_pairs.proofs.AddMin.{addMin-order-to}
 use Rattle.product_pairs.proofs.AddMax.{max-size-low, max-size-top, max-under-low, max-under-top, max-listed}
-use Rattle.product_pairs.proofs.AddMax.{addMax-topped, addMax-sound, addMax-sorted, addMax-order, addMax-order-to}
+use Rattle.product_pairs.proofs.AddMax.{addMax-topped, addMax-sound, addMax-sorted, addMax-order}
+use Rattle.product_pairs.proofs.AddMax.{addMax-order-to}
 
 -- What an element more at either end keeps, growing keeps.
 grown-keeps : (P : Layers → Type 0) → ((M : Layers) → P M → P (addMin M)) → ((M : Layers) → P M → P (addMax M))
@@ -57,7 +59,7 @@ grown-order false false M t = Renumbering·same (order M)
 
 -- its map: what was there keeps its index, the added elements have the index 0
 pub grown-inside : (min max : Bool) (M : Layers) (t : Topped M) (x : ℕ × ℕ)
-    → grown-order min max M t .to (inside min max (order M) x) ≡ raised min x
+    → grown-order min max M t .to (asGrown min max (order M) x) ≡ raised min x
 unfolding grown-order Renumbering·same Renumbering·then withMin·renumbered
 grown-inside true true M t x = rw (addMax-order-to, addMin-order-to) (pair-path (omega arith) refl)
 grown-inside true false M t x = rw addMin-order-to (pair-path (omega arith) refl)

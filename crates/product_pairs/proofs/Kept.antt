@@ -6,7 +6,7 @@ use mathlib.Core.Bool.{Bool, true, false}
 use Prim.Native.Nat.{ℕ, pred, _+_, _-_, _≤_, _<_}
 use native.Mathlib.Omega.{arith}
 use Rattle.order.specs.Structure.{Order, Ranked, Renumbering}
-use Rattle.order.specs.Ends.{trim, kept}
+use Rattle.order.specs.Ends.{trim, asTrimmed}
 use Rattle.order.proofs.Struck.{withoutMin·renumbered, withoutMax·renumbered}
 use Rattle.order.proofs.Renumbering.{Renumbering·turned}
 use Rattle.order.proofs.Trim.{trimMin·renumbered, trim·renumbered}
@@ -19,13 +19,13 @@ whole true false W x = x
 whole false true W x = x
 whole false false W x = x
 
-pub kept-whole : (min max : Bool) (W : Order) (x : trim min max W .Elem) → kept min max W (whole min max W x) ≡ x
+pub kept-whole : (min max : Bool) (W : Order) (x : trim min max W .Elem) → asTrimmed min max W (whole min max W x) ≡ x
 kept-whole true true W x = refl
 kept-whole true false W x = refl
 kept-whole false true W x = refl
 kept-whole false false W x = refl
 
-pub whole-kept : (min max : Bool) (W : Order) (x : W .Elem) → whole min max W (kept min max W x) ≡ x
+pub whole-kept : (min max : Bool) (W : Order) (x : W .Elem) → whole min max W (asTrimmed min max W x) ≡ x
 whole-kept true true W x = refl
 whole-kept true false W x = refl
 whole-kept false true W x = refl
@@ -57,7 +57,7 @@ kept-top false true W = tops _ .2
 kept-top false false W = tops _ .3
 
 module _ {W : Order} (rW : Ranked W) where
-  pub kept-exists : (min max : Bool) (x : W .Elem) → trim min max W .Exists (kept min max W x)
+  pub kept-exists : (min max : Bool) (x : W .Elem) → trim min max W .Exists (asTrimmed min max W x)
       ↔ (W .Exists x × (bit min ≤ W .rank x) × (W .rank x + bit max ≤ W .top))
   kept-exists true true x = (
     λ e. (e .0 .0, e .0 .1, both-off _ _ (e .0 .1) .0 (e .1)),
@@ -67,8 +67,8 @@ module _ {W : Order} (rW : Ranked W) where
   kept-exists false true x = (λ e. (e .0, omega arith, top-off _ _ .0 (e .1)), λ e. (e .0, top-off _ _ .1 (e .2)))
   kept-exists false false x = (λ e. (e, omega arith, omega (arith, rW .cap x e)), λ e. e .0)
 
-  pub kept-rank : (min max : Bool) (x : W .Elem) → trim min max W .Exists (kept min max W x)
-      → trim min max W .rank (kept min max W x) ≡ W .rank x - bit min
+  pub kept-rank : (min max : Bool) (x : W .Elem) → trim min max W .Exists (asTrimmed min max W x)
+      → trim min max W .rank (asTrimmed min max W x) ≡ W .rank x - bit min
   kept-rank true true x e = lower-from-above (W .top) (W .rank x) (e .1)
   kept-rank true false x e = lower _
   kept-rank false true x e = from-above _ _ (e .1)
@@ -80,7 +80,8 @@ module _ {W : Order} (rW : Ranked W) where
   capped : (x y : W .Elem) → W .Under x y → W .rank y + 0 ≤ W .top
   capped x y u = omega (arith, rW .cap y (rW .exist x y u .1))
 
-  pub kept-under : (min max : Bool) (x y : W .Elem) → trim min max W .Under (kept min max W x) (kept min max W y)
+  pub kept-under : (min max : Bool) (x y : W .Elem)
+      → trim min max W .Under (asTrimmed min max W x) (asTrimmed min max W y)
       ↔ (W .Under x y × (bit min ≤ W .rank x) × (W .rank y + bit max ≤ W .top))
   kept-under true true x y = (
     λ u. (u .0 .0, u .0 .1, both-off _ _ (above x y (u .0 .0)) .0 (u .1)),
@@ -92,7 +93,7 @@ module _ {W : Order} (rW : Ranked W) where
 
 -- A renumbering of what is left does what the renumbering of the whole does.
 pub kept-to : (min max : Bool) {A B : Order} (rA : Ranked A) (rB : Ranked B) (f : Renumbering A B) (x : A .Elem)
-    → trim·renumbered min max rA rB f .to (kept min max A x) ≡ kept min max B (f .to x)
+    → trim·renumbered min max rA rB f .to (asTrimmed min max A x) ≡ asTrimmed min max B (f .to x)
 unfolding trim·renumbered trimMin·renumbered withoutMin·renumbered withoutMax·renumbered Renumbering·turned
 kept-to true true rA rB f x = refl
 kept-to true false rA rB f x = refl

@@ -16,3 +16,4 @@ pub mod OverPairs
 pub mod PairedLengths
 pub mod GrownLengths
 pub mod ProductLengths
+pub mod ProductLists

@@ -17,7 +17,7 @@ use Rattle.listing.proofs.Layers.{layers-topped, order-ranked}
 use Rattle.listing.proofs.Written.{written-rank, written-count, written-subs, written-sups, total, written-shaped}
 use Rattle.product_pairs.specs.Sound.{Sound, Sorted}
 use Rattle.product_pairs.specs.Trimmed.{bit}
-use Rattle.product_pairs.specs.Product.{product, productOf}
+use Rattle.product_pairs.specs.Product.{layerProduct, productOf}
 use Rattle.product_pairs.proofs.Product.{product-topped, product-top, product-sound, product-sorted}
 use Rattle.product_pairs.proofs.Product.{product-frame, product-cell}
 
@@ -67,7 +67,7 @@ module _ (M : Layers) (above : ℕ → ℕ → List ℕ) (t : Topped M) where
 
 -- The product of what two listings say.
 abbrev pub productLayers : Bool → Bool → Listing → Listing → Layers
-productLayers min max A B = product min max (layers A) (layers B)
+productLayers min max A B = layerProduct min max (layers A) (layers B)
 
 module _ (min max : Bool) (A B : Listing) where
   topped : Topped (productLayers min max A B)

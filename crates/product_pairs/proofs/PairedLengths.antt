@@ -16,7 +16,8 @@ use Rattle.product_pairs.specs.Lengths.{rankSubs, pairedSubs}
 use Rattle.product_pairs.proofs.Sequences.{sum-cross, occurs-map}
 use Rattle.product_pairs.proofs.Positions.{position-rank, position-one, paired-under}
 use Rattle.product_pairs.proofs.Paired.{leftAt, rightAt}
-use Rattle.product_pairs.proofs.OverPairs.{overPairs, PairOf, sum-pairs, over-same, over-plus, over-first, over-second}
+use Rattle.product_pairs.proofs.OverPairs.{overPairs, PairOf, sum-pairs, over-same, over-plus, over-first}
+use Rattle.product_pairs.proofs.OverPairs.{over-second}
 
 module _ (A B : Layers) where
   -- what lies under a pair of rank R

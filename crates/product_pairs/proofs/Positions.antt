@@ -6,9 +6,9 @@ use native.Mathlib.Nat.{mod-lt, div-lt-iff-lt-mul, div-add-mod', mul-zero, zero-
 use native.Mathlib.Decide.{decLt}
 use native.Mathlib.Omega.{arith}
 use lib.Arith.{digits-lt, digits-div, digits-mod}
-use Rattle.order.specs.Sums.{place}
+use Rattle.order.specs.Sums.{partAt}
 use Rattle.order.specs.Pairs.{Pairs}
-use Rattle.order.proofs.Sums.{sum-lt, sum-zero, place-ok, place-at, part-pos}
+use Rattle.order.proofs.Sums.{sum-lt, sum-zero, part-ok, part-at, part-pos}
 use Rattle.order.proofs.Pairs.{pair-path}
 use Rattle.listing.specs.Layers.{Layers, Topped, order}
 use Rattle.product_pairs.specs.Paired.{El, block, offset, position, pairOf, pairAt, pairSubs, paired}
@@ -35,7 +35,7 @@ module _ (A B : Layers) where
   pub pairAt-exists : (y : El) → order (paired A B) .Exists y → Pairs (order A) (order B) .Exists (pairAt A B y)
   unfolding pairAt pairOf block
   pairAt-exists y h =
-      let p = place-ok (block A B (y .0)) (suc (y .0)) (y .1) h in
+      let p = part-ok (block A B (y .0)) (suc (y .0)) (y .1) h in
       let c = part-pos _ _ _ (p .1) in
       (div-lt-iff-lt-mul c .1 (p .1), mod-lt _ c)
 
@@ -46,15 +46,15 @@ module _ (A B : Layers) where
       let j = x .1 .0 in
       let d : i + j - i ≡ j = omega arith in
       let k = x .0 .1 * B .size j + x .1 .1 in
-      let p = place-at (block A B (i + j)) (suc (i + j)) i k (omega arith) (in-block i _ j _ (e .0) (e .1)) in
+      let p = part-at (block A B (i + j)) (suc (i + j)) i k (omega arith) (in-block i _ j _ (e .0) (e .1)) in
       ap (pairOf B (i + j)) p ∙ rw (d, digits-div (x .0 .1) (e .1), digits-mod (x .0 .1) (e .1))
 
   pub position-pairAt : (y : El) → order (paired A B) .Exists y → position A B (pairAt A B y) ≡ y
   unfolding pairAt pairOf position offset
   position-pairAt y h =
       let f = block A B (y .0) in
-      let p = place f (suc (y .0)) (y .1) in
-      let o = place-ok f (suc (y .0)) (y .1) h in
+      let p = partAt f (suc (y .0)) (y .1) in
+      let o = part-ok f (suc (y .0)) (y .1) h in
       let d : p .0 + (y .0 - p .0) ≡ y .0 = omega arith in
       pair-path d (rw (d, div-add-mod' (p .1) (B .size (y .0 - p .0))) (sym (o .2)))
 

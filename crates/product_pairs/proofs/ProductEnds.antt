@@ -14,8 +14,9 @@ use Rattle.listing.proofs.Layers.{in-range}
 use Rattle.product_pairs.specs.Sound.{Sound, Listed}
 use Rattle.product_pairs.specs.Trimmed.{bit, Used}
 use Rattle.product_pairs.specs.Paired.{El, position}
-use Rattle.product_pairs.specs.Product.{usedPairs, product, UsedPair, at}
-use Rattle.product_pairs.proofs.Grown.{grown-top, grown-min-size, grown-min-listed, grown-max-size, grown-max-listed}
+use Rattle.product_pairs.specs.Product.{usedPairs, layerProduct, UsedPair, at}
+use Rattle.product_pairs.proofs.Grown.{grown-top, grown-min-size, grown-min-listed, grown-max-size}
+use Rattle.product_pairs.proofs.Grown.{grown-max-listed}
 use Rattle.product_pairs.proofs.Product.{product-topped}
 use Rattle.product_pairs.proofs.ProductPairs.{at-used}
 
@@ -33,34 +34,34 @@ module _ (min max : Bool) (A B : Layers) where
   at-rank x u = omega (arith, u .0 .1, u .1 .1)
 
 module _ (max : Bool) (A B : Layers) where
-  pub product-min-size : product true max A B .size 0 ≡ 1
-  unfolding product
+  pub product-min-size : layerProduct true max A B .size 0 ≡ 1
+  unfolding layerProduct
   product-min-size = grown-min-size max (usedPairs true max A B)
 
   -- the added minimal element lies directly under the pairs of two elements of rank 1
   pub product-min : (x : El × El) → UsedPair true max A B x
-      → Listed (product true max A B) (0, 0) (at true max A B x) ↔ ((x .0 .0 ≡ 1) × (x .1 .0 ≡ 1))
-  unfolding product at position
+      → Listed (layerProduct true max A B) (0, 0) (at true max A B x) ↔ ((x .0 .0 ≡ 1) × (x .1 .0 ≡ 1))
+  unfolding layerProduct at position
   product-min x u =
       Iff·trans (grown-min-listed max (usedPairs true max A B) (at true max A B x))
       (lowest-pair (x .0 .0) (x .1 .0) (u .0 .1) (u .1 .1))
 
   -- and under nothing that is not a pair (at-onto says which)
-  pub product-min-only : (y : El) → y .1 < product true max A B .size (y .0) → Listed (product true max A B) (0, 0) y
-      → Used true max (product true max A B) y
-  unfolding product
+  pub product-min-only : (y : El) → y .1 < layerProduct true max A B .size (y .0)
+      → Listed (layerProduct true max A B) (0, 0) y → Used true max (layerProduct true max A B) y
+  unfolding layerProduct
   product-min-only y e l = (e, omega (arith, l .0), omega (arith, l .0, grown-top true max (usedPairs true max A B)))
 
 module _ (min : Bool) (A B : Layers) where
-  pub product-max-size : product min true A B .size (product min true A B .top) ≡ 1
-  unfolding product
+  pub product-max-size : layerProduct min true A B .size (layerProduct min true A B .top) ≡ 1
+  unfolding layerProduct
   product-max-size = grown-max-size min (usedPairs min true A B)
 
   -- the added maximal element lies directly over the pairs of two facets
   pub product-max : Topped A → Topped B → Sound A → Sound B → (x : El × El) → UsedPair min true A B x
-      → Listed (product min true A B) (at min true A B x) (product min true A B .top, 0)
+      → Listed (layerProduct min true A B) (at min true A B x) (layerProduct min true A B .top, 0)
       ↔ ((suc (x .0 .0) ≡ A .top) × (suc (x .1 .0) ≡ B .top))
-  unfolding product at position
+  unfolding layerProduct at position
   product-max tA tB sA sB x u =
       let e = at-used min true A B tA tB sA sB x u .0 in
       Iff·trans (grown-max-listed min (usedPairs min true A B) (at min true A B x) e)
@@ -68,26 +69,27 @@ module _ (min : Bool) (A B : Layers) where
       (highest-pair (bit min) (A .top) (B .top) (x .0 .0) (x .1 .0) (u .0 .1) (u .1 .1) (u .0 .2) (u .1 .2)))
 
   -- and over nothing that is not a pair
-  pub product-max-only : (y : El) → y .1 < product min true A B .size (y .0)
-      → Listed (product min true A B) y (product min true A B .top, 0) → Used min true (product min true A B) y
-  unfolding product
+  pub product-max-only : (y : El) → y .1 < layerProduct min true A B .size (y .0)
+      → Listed (layerProduct min true A B) y (layerProduct min true A B .top, 0)
+      → Used min true (layerProduct min true A B) y
+  unfolding layerProduct
   product-max-only y e l =
       let h = grown-top min true (usedPairs min true A B) in
       (e, omega (arith, l .0), omega (arith, l .0))
 
 -- an element that is not in use is an added one
-low-end : (min max : Bool) (A B : Layers) (y : El) → y .1 < product min max A B .size (y .0) → y .0 < bit min
+low-end : (min max : Bool) (A B : Layers) (y : El) → y .1 < layerProduct min max A B .size (y .0) → y .0 < bit min
     → T min × (y ≡ (0, 0))
 low-end true max A B y e l =
     let z : y .0 ≡ 0 = omega arith in
     (tt, pair-path z (omega (arith, rw z at e, product-min-size max A B)))
 low-end false max A B y e l = absurd (omega arith)
 
-high-end : (min max : Bool) (A B : Layers) (y : El) → y .1 < product min max A B .size (y .0)
-    → product min max A B .top < y .0 + bit max → T max × (y ≡ (product min max A B .top, 0))
+high-end : (min max : Bool) (A B : Layers) (y : El) → y .1 < layerProduct min max A B .size (y .0)
+    → layerProduct min max A B .top < y .0 + bit max → T max × (y ≡ (layerProduct min max A B .top, 0))
 high-end min true A B y e l =
     let c = in-range _ (product-topped min true A B) (y .0) (y .1) e in
-    let z : y .0 ≡ product min true A B .top = omega arith in
+    let z : y .0 ≡ layerProduct min true A B .top = omega arith in
     (tt, pair-path z (omega (arith, rw z at e, product-max-size min A B)))
 high-end min false A B y e l = absurd (omega (arith, in-range _ (product-topped min false A B) (y .0) (y .1) e))
 
@@ -95,12 +97,12 @@ high-end min false A B y e l = absurd (omega (arith, in-range _ (product-topped 
 abbrev pub Kind : Bool → Bool → Layers → El → Type 0
 Kind min max P y = Used min max P y ⊎ ((T min × (y ≡ (0, 0))) ⊎ (T max × (y ≡ (P .top, 0))))
 
-pub product-kinds : (min max : Bool) (A B : Layers) (y : El) → y .1 < product min max A B .size (y .0)
-    → Kind min max (product min max A B) y
-product-kinds min max A B y e = go (decLt (y .0) (bit min)) (decLt (product min max A B .top) (y .0 + bit max))
+pub product-kinds : (min max : Bool) (A B : Layers) (y : El) → y .1 < layerProduct min max A B .size (y .0)
+    → Kind min max (layerProduct min max A B) y
+product-kinds min max A B y e = go (decLt (y .0) (bit min)) (decLt (layerProduct min max A B .top) (y .0 + bit max))
   where
-    go : Dec (y .0 < bit min) → Dec (product min max A B .top < y .0 + bit max)
-        → Kind min max (product min max A B) y
+    go : Dec (y .0 < bit min) → Dec (layerProduct min max A B .top < y .0 + bit max)
+        → Kind min max (layerProduct min max A B) y
     go (yes l) d = inr (inl (low-end min max A B y e l))
     go (no l) (yes h) = inr (inr (high-end min max A B y e h))
     go (no l) (no h) = inl (e, omega arith, omega arith)

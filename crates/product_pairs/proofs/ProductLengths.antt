@@ -14,7 +14,7 @@ use Rattle.listing.proofs.Written.{total}
 use Rattle.product_pairs.specs.Sound.{Sound}
 use Rattle.product_pairs.specs.Trimmed.{bit, trimmed}
 use Rattle.product_pairs.specs.Paired.{block, paired}
-use Rattle.product_pairs.specs.Product.{usedPairs, product}
+use Rattle.product_pairs.specs.Product.{usedPairs, layerProduct}
 use Rattle.product_pairs.specs.Lengths.{allSubs, pairedSubs, productSubs}
 use Rattle.product_pairs.proofs.Sequences.{sum-one}
 use Rattle.product_pairs.proofs.Trimmed.{trimmed-topped, trimmed-sound}
@@ -44,9 +44,9 @@ paired-highest A B tA tB =
 -- ---- elements
 
 pub product-count : (min max : Bool) (A B : Layers)
-    → sum (product min max A B .size) (suc (product min max A B .top))
+    → sum (layerProduct min max A B .size) (suc (layerProduct min max A B .top))
     ≡ sum (usedPairs min max A B .size) (suc (usedPairs min max A B .top)) + bit min + bit max
-unfolding product
+unfolding layerProduct
 product-count min max A B = grown-count min max (usedPairs min max A B)
 
 -- ---- incidences
@@ -56,8 +56,8 @@ unfolding allSubs
 paired-allSubs A B = sum-same _ _ (suc (A .top + B .top)) (λ R h. paired-rankSubs A B R)
 
 module _ (min max : Bool) (A B : Layers) (sA : Sound A) (sB : Sound B) where
-  product-subs : allSubs (product min max A B) ≡ productSubs min max (trimmed min max A) (trimmed min max B)
-  unfolding product productSubs
+  product-subs : allSubs (layerProduct min max A B) ≡ productSubs min max (trimmed min max A) (trimmed min max B)
+  unfolding layerProduct productSubs
   product-subs =
       let A′ = trimmed min max A in
       let B′ = trimmed min max B in
@@ -68,7 +68,7 @@ module _ (min max : Bool) (A B : Layers) (sA : Sound A) (sB : Sound B) where
       ∙ rw (paired-allSubs A′ B′, paired-lowest A′ B′, paired-highest A′ B′ tA tB)
 
   -- each sub has its sup
-  pub product-total : total (product min max A B) (derived (product min max A B))
+  pub product-total : total (layerProduct min max A B) (derived (layerProduct min max A B))
       ≡ 2 * productSubs min max (trimmed min max A) (trimmed min max B)
   product-total =
       total-derived _ (product-topped min max A B) (product-sound min max A B sA sB) ∙ ap (λ n. 2 * n) product-subs

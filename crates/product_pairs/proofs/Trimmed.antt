@@ -9,14 +9,15 @@ use native.Mathlib.Omega.{arith}
 use Rattle.order.specs.Lists.{In, Ascending}
 use Rattle.order.specs.Sums.{choose}
 use Rattle.order.specs.Structure.{Renumbering}
-use Rattle.order.specs.Ends.{trim, kept}
+use Rattle.order.specs.Ends.{trim, asTrimmed}
 use Rattle.order.proofs.Sums.{choose-yes, choose-no}
 use Rattle.order.proofs.Pairs.{pair-path}
 use Rattle.listing.specs.Layers.{Layers, Topped, order}
 use Rattle.listing.proofs.Layers.{order-ranked}
 use Rattle.product_pairs.specs.Sound.{Sound, Sorted, Listed}
 use Rattle.product_pairs.specs.Trimmed.{bit, trimSize, trimUnder, trimmed, Used}
-use Rattle.product_pairs.proofs.Kept.{whole, kept-whole, whole-kept, kept-top, kept-exists, kept-rank, kept-under}
+use Rattle.product_pairs.proofs.Kept.{whole, kept-whole, whole-kept, kept-top, kept-exists, kept-rank}
+use Rattle.product_pairs.proofs.Kept.{kept-under}
 
 -- An element with its rank counted from the lowest in use, and back.
 abbrev pub lowered : Bool → ℕ × ℕ → ℕ × ℕ
@@ -42,7 +43,7 @@ module _ (min max : Bool) (M : Layers) where
   unfolding trimSize
   trimmed-size i h = choose-no _ _ _ (λ l. omega arith)
 
-  lowered-exists : (r a : ℕ) → Used min max M (r, a) → a < trimSize min max M (r - bit min)
+  pub lowered-exists : (r a : ℕ) → Used min max M (r, a) → a < trimSize min max M (r - bit min)
   lowered-exists r a u =
       let e : r - bit min + bit min ≡ r = omega (arith, u .1) in
       rw (trimmed-size (r - bit min) (omega (arith, u .2)), e) (u .0)
@@ -53,7 +54,7 @@ module _ (min max : Bool) (M : Layers) where
 
   -- ---- which lists are left
 
-  trimmed-under : (i b : ℕ) → 0 < i → trimUnder min M i b ≡ M .under (i + bit min) b
+  pub trimmed-under : (i b : ℕ) → 0 < i → trimUnder min M i b ≡ M .under (i + bit min) b
   unfolding trimUnder
   trimmed-under zero b h = absurd (omega arith)
   trimmed-under (suc i) b h = refl
@@ -94,12 +95,12 @@ module _ (min max : Bool) (M : Layers) where
   )
 
 module _ (min max : Bool) (M : Layers) (t : Topped M) where
-  pub used-exists : (x : ℕ × ℕ) → trim min max (order M) .Exists (kept min max (order M) x) ↔ Used min max M x
+  pub used-exists : (x : ℕ × ℕ) → trim min max (order M) .Exists (asTrimmed min max (order M) x) ↔ Used min max M x
   used-exists x = kept-exists (order-ranked M t) min max x
 
   -- between elements in use, directly under means listed
   pub used-under : (x y : ℕ × ℕ) → Used min max M x → Used min max M y
-      → trim min max (order M) .Under (kept min max (order M) x) (kept min max (order M) y) ↔ Listed M x y
+      → trim min max (order M) .Under (asTrimmed min max (order M) x) (asTrimmed min max (order M) y) ↔ Listed M x y
   used-under x y p q = (
     λ u. let k = kept-under (order-ranked M t) min max x y .0 u in (k .0 .2, k .0 .3),
     λ l. kept-under (order-ranked M t) min max x y .1 ((p .0, q .0, l .0, l .1), p .1, q .2),
@@ -123,7 +124,8 @@ module _ (min max : Bool) (M : Layers) (t : Topped M) where
 
   -- and back
   raised-kept : (x y : ℕ × ℕ) → order (trimmed min max M) .Under x y
-      → trim min max (order M) .Under (kept min max (order M) (raised min x)) (kept min max (order M) (raised min y))
+      → trim min max (order M) .Under (asTrimmed min max (order M) (raised min x))
+      (asTrimmed min max (order M) (raised min y))
   raised-kept x y u =
       let p = raised-used min max M (x .0) (x .1) (u .0) in
       let q = raised-used min max M (y .0) (y .1) (u .1) in
@@ -139,11 +141,12 @@ module _ (min max : Bool) (M : Layers) (t : Topped M) where
   pub trimmed-order : Renumbering (trim min max (order M)) (order (trimmed min max M))
   trimmed-order = record {
     to = λ x. lowered min (whole min max (order M) x);
-    from = λ y. kept min max (order M) (raised min y);
+    from = λ y. asTrimmed min max (order M) (raised min y);
     to-exists = λ x e. lowered-exists min max M _ _ (left-used x e);
     from-exists = λ y e. used-exists (raised min y) .1 (raised-used min max M (y .0) (y .1) e);
     from-to = λ x e.
-        ap (kept min max (order M)) (pair-path (omega (arith, left-used x e .1)) refl) ∙ kept-whole min max (order M) x;
+        ap (asTrimmed min max (order M)) (pair-path (omega (arith, left-used x e .1)) refl)
+        ∙ kept-whole min max (order M) x;
     to-from = λ y e. rw (whole-kept min max (order M) (raised min y)) (pair-path (omega arith) refl);
     to-under = left-under;
     from-under = raised-kept;
@@ -152,6 +155,6 @@ module _ (min max : Bool) (M : Layers) (t : Topped M) where
   }
 
   -- its map only counts ranks from the lowest in use
-  pub trimmed-order-to : (x : ℕ × ℕ) → trimmed-order .to (kept min max (order M) x) ≡ lowered min x
+  pub trimmed-order-to : (x : ℕ × ℕ) → trimmed-order .to (asTrimmed min max (order M) x) ≡ lowered min x
   unfolding trimmed-order
   trimmed-order-to x = ap (lowered min) (whole-kept min max (order M) x)

@@ -5,7 +5,7 @@
 -- addMax              an element more over all of the highest rank: it has all of those under it
 -- minSize, minUnder   the sizes and the lists with the element more under all
 -- maxSize, maxUnder   the sizes and the lists with the element more over all
--- growMin, growMax    one element more where the flag is set
+-- addMinIf, addMaxIf  one element more where the flag is set
 -- grown               with a maximal element where max is set, and with a minimal one where min is
 use mathlib.Core.Bool.{Bool, true, false}
 use mathlib.Core.List.{List, [], _∷_, _++_}
@@ -39,13 +39,13 @@ maxUnder M r a = choose (decLt (M .top) r) (upTo (M .size (M .top))) (M .under r
 abbrev pub addMax : Layers → Layers
 addMax M = record { top = suc (M .top); size = maxSize M; under = maxUnder M }
 
-abbrev pub growMin : Bool → Layers → Layers
-growMin true M = addMin M
-growMin false M = M
+abbrev pub addMinIf : Bool → Layers → Layers
+addMinIf true M = addMin M
+addMinIf false M = M
 
-abbrev pub growMax : Bool → Layers → Layers
-growMax true M = addMax M
-growMax false M = M
+abbrev pub addMaxIf : Bool → Layers → Layers
+addMaxIf true M = addMax M
+addMaxIf false M = M
 
 abbrev pub grown : Bool → Bool → Layers → Layers
-grown min max M = growMin min (growMax max M)
+grown min max M = addMinIf min (addMaxIf max M)

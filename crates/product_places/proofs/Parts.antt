@@ -1,7 +1,6 @@
 -- The subs of an element, written in three parts: how many they are, and that the parts make the whole.
 -- Assumes nothing.
 use mathlib.Core.Path.{_≡_, refl, sym}
-use mathlib.Core.Logic.{inl, inr}
 use mathlib.Core.Bool.{Bool, true, false, cond}
 use mathlib.Core.List.{List, [], _∷_, _++_, map}
 use Prim.Native.Nat.{ℕ, zero, suc, _+_, _*_, _<_}
@@ -9,18 +8,12 @@ use native.Mathlib.Omega.{arith}
 use lib.ListN.{length, getD, length-append, length-map}
 use Rattle.order.specs.Lists.{In}
 use Rattle.order.proofs.Lists.{in-left, in-right, in-map}
+use Rattle.order.proofs.Positions.{in-at}
 use Rattle.listing.specs.Listing.{width}
 use Rattle.product_pairs.specs.Trimmed.{bit}
 use Rattle.product_places.specs.Laid.{Laid, Holds}
 use Rattle.product_places.specs.Places.{subsOf}
 use Rattle.product_places.proofs.Laying.{laid-holds, holds-then}
-
--- a number at a place of a list stands in it
-in-at : (l : List ℕ) (j : ℕ) → j < length l → In (getD l j 0) l
-unfolding In
-in-at [] j h = absurd (omega arith)
-in-at (x ∷ l) zero h = inl refl
-in-at (x ∷ l) (suc j) h = inr (in-at l j (omega arith))
 
 getD-map : (f : ℕ → ℕ) (l : List ℕ) (j : ℕ) → j < length l → getD (map f l) j 0 ≡ f (getD l j 0)
 getD-map f [] j h = absurd (omega arith)

@@ -6,7 +6,7 @@ ghost use mathlib.Core.Bool.{cond, _&&_};
 ghost use Prim.Native.Nat.{pred, _+_, _*_, _≤_, _<_};
 ghost use lib.Dec.{eqb};
 ghost use lib.ListN.{length};
-ghost use Rattle.listing.specs.Listing.{width, before};
+ghost use Rattle.listing.specs.Listing.{width};
 ghost use Rattle.product_pairs.specs.Trimmed.{bit};
 ghost use Rattle.product_places.specs.Places.{pairsIn, offsetIn, pairsTo};
 ghost use Rattle.product_places.specs.Blocks.{BlockOf};
@@ -47,20 +47,6 @@ pub fn less(i: usize) -> usize
         return 0;
     }
     i - 1
-}
-
-// The number of elements of all ranks below a rank.
-pub fn elements_before(counts: &[Index], rank: usize) -> usize
-    requires { ⌜ rank ≤ 64 ⌝ }
-    ensures { λ r. ⌜ r ≡ before (now (counts .entry)) rank ⌝ }
-{
-    let mut n: usize = 0;
-    let mut k: usize = 0;
-    while k < rank {
-        n += inner::wide(inner::count_at(counts, k));
-        k += 1;
-    }
-    n
 }
 
 // The number of pairs of a rank with a first member of a rank below i.
@@ -143,8 +129,8 @@ pub fn block_of(
     let first = start + offset(p, q, i, j);
     let low = is_low(min, i, j);
     let cap = cap_of(max, p, q, i, j);
-    let pbefore = elements_before(p, i);
-    let qbefore = elements_before(q, j);
+    let pbefore = inner::elements_before(p, i);
+    let qbefore = inner::elements_before(q, j);
     let h = less(i);
     let left = offset(p, q, h, j);
     let k = less(j);

@@ -3,7 +3,7 @@
 use mathlib.Core.Path.{_≡_, sym, ap, _∙_}
 use mathlib.Core.Bool.{Bool}
 use mathlib.Core.List.{List}
-use Prim.Native.Nat.{ℕ, suc, _+_, _-_, _*_, _≤_, _<_, min as least}
+use Prim.Native.Nat.{ℕ, suc, _+_, _-_, _*_, _≤_, _<_}
 use native.Mathlib.Omega.{arith}
 use lib.ListN.{length, getD, drop, length-take, length-drop}
 use Rattle.order.specs.Sums.{sum}
@@ -11,7 +11,7 @@ use Rattle.order.proofs.Sums.{sum-same}
 use Rattle.listing.specs.Listing.{Listing, limits, before, start, entries}
 use Rattle.listing.specs.Shape.{elements}
 use Rattle.listing.specs.Layers.{Layers, layers}
-use Rattle.listing.proofs.Listing.{before-zero, before-next, before-all}
+use Rattle.listing.proofs.Listing.{before-zero, before-all, count-le}
 use Rattle.listing.proofs.Sequences.{sum-add, sum-parts}
 use Rattle.product_pairs.specs.Trimmed.{bit, trimSize, trimmed}
 use Rattle.product_pairs.specs.Product.{productOf}
@@ -57,9 +57,6 @@ module _ (ends inc : List ℕ) where
       rw (d, k, el, en)
 
 -- ---- a factor
-
-count-few : (counts : List ℕ) (i : ℕ) → getD counts i 0 ≤ before counts (length counts)
-count-few counts i = omega (arith, before-next counts i, before-all counts (i + 1))
 
 module _ (min max : Bool) (L : Listing) (u : Usable min max L) where
   abbrev p : List ℕ
@@ -110,7 +107,7 @@ module _ (min max : Bool) (L : Listing) (u : Usable min max L) where
   lowest-first : sum g (before p (length p))
       ≡ sum g (getD p 0 0) + sum (λ k. g (getD p 0 0 + k)) (before p (length p) - getD p 0 0)
   lowest-first =
-      let e : before p (length p) ≡ getD p 0 0 + (before p (length p) - getD p 0 0) = omega (arith, count-few p 0) in
+      let e : before p (length p) ≡ getD p 0 0 + (before p (length p) - getD p 0 0) = omega (arith, count-le p 0) in
       ap (sum g) e ∙ sum-add g (getD p 0 0) (before p (length p) - getD p 0 0)
 
   subs-in-use : sum (λ k. length (entries (L .ends) (L .inc) (2 * (bit min + getD p 0 0 + k))))
@@ -132,16 +129,16 @@ module _ (min max : Bool) (L : Listing) (u : Usable min max L) where
       rw e (
         omega (arith, in-use-length min max L u),
         omega (arith, in-use-length min max L u, S .few-ranks),
-        count-few p 0,
+        count-le p 0,
         omega (arith, in-use-few, S .few-elements),
         omega (arith, in-use-few, S .two-ends-each),
       )
 
   module _ (x : List ℕ) (e : x ≡ p) (U : Used) (er : U .ranks ≡ length x)
-      (ee : U .elements ≡ least (before x (length x)) (limits .elements + 1)) (el : U .lowest ≡ getD x 0 0)
+      (ee : U .elements ≡ before x (length x)) (el : U .lowest ≡ getD x 0 0)
       (eh : U .highest ≡ getD x (length x - 1) 0) (b : ℕ) (eb : b ≡ bit min) where
     all : U .elements ≡ before p (length p)
-    all = omega (arith, room x e .3, ap (λ (l : List ℕ). before l (length l)) e)
+    all = ee ∙ ap (λ (l : List ℕ). before l (length l)) e
 
     top : length p - 1 ≡ M .top
     top = omega (arith, in-use-length min max L u)
@@ -166,7 +163,7 @@ module _ (min max : Bool) (L : Listing) (u : Usable min max L) where
           elements = omega (arith, f .3);
           subs = omega (arith, f .3);
           lowest = omega (arith, f .2, f .3);
-          highest = omega (arith, f .3, count-few x (length x - 1));
+          highest = omega (arith, f .3, count-le x (length x - 1));
         }
 
 -- ---- the product

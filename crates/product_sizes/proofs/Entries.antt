@@ -8,8 +8,8 @@ use native.Mathlib.Numerals.{add-one}
 use native.Mathlib.Omega.{arith}
 use borrow.Author.Tests.{ne-eqb}
 use Rattle.order.specs.Lists.{In}
-use Rattle.order.specs.Sums.{sum, place}
-use Rattle.order.proofs.Sums.{choose-no, sum-lt, place-ok}
+use Rattle.order.specs.Sums.{sum, partAt}
+use Rattle.order.proofs.Sums.{choose-no, sum-lt, part-ok}
 use Rattle.listing.specs.Layers.{Layers, Topped, gather, derived}
 use Rattle.listing.specs.Written.{listAt, nth, written}
 use Rattle.listing.proofs.Layers.{in-range, derived-in}
@@ -19,8 +19,8 @@ use Rattle.product_closure.proofs.Alike.{Alike, alike-derived}
 use Rattle.product_building.specs.Built.{Derives}
 
 -- a number past all parts falls behind the last
-pub place-past : (f : ℕ → ℕ) (n k : ℕ) → sum f (suc n) ≤ k → place f (suc n) k ≡ (n, k - sum f n)
-unfolding place sum
+pub place-past : (f : ℕ → ℕ) (n k : ℕ) → sum f (suc n) ≤ k → partAt f (suc n) k ≡ (n, k - sum f n)
+unfolding partAt sum
 place-past f n k h = choose-no (decLt k (sum f n)) _ _ (λ l. omega arith)
 
 module _ (T : Layers) (t : Topped T) where
@@ -87,7 +87,7 @@ module _ (T : Layers) (t : Topped T) where
       where
         go : Dec (k / 2 < sum (T .size) (suc (T .top))) → x < n
         go (yes l) =
-            let p = place-ok (T .size) (suc (T .top)) (k / 2) l in
+            let p = part-ok (T .size) (suc (T .top)) (k / 2) l in
             omega (arith, listed-few s (k % 2) _ _ x (p .1) m)
         go (no l) =
             let p = place-past (T .size) (T .top) (k / 2) (omega arith) in

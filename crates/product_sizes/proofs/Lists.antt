@@ -21,7 +21,7 @@ use Rattle.listing.proofs.Written.{nth-at}
 use Rattle.product_pairs.specs.Sound.{Sound}
 use Rattle.product_pairs.specs.Trimmed.{bit}
 use Rattle.product_pairs.specs.Paired.{El, block, offset, position, leftSubs, rightSubs, pairSubs, paired}
-use Rattle.product_pairs.specs.Grown.{minSize, growMax, grown}
+use Rattle.product_pairs.specs.Grown.{minSize, addMaxIf, grown}
 use Rattle.product_pairs.proofs.Sequences.{sum-first}
 use Rattle.product_pairs.proofs.Positions.{position-exists, paired-under, paired-topped}
 use Rattle.product_pairs.proofs.AddMax.{max-size-low}
@@ -45,7 +45,7 @@ none-over P i a h = derived-length (factorLayers P) i a ∙ rw (factor-topped P 
 
 -- ---- how many elements come before a rank
 
-max-before : (max : Bool) (M : Layers) (r : ℕ) → r ≤ suc (M .top) → sum (growMax max M .size) r ≡ sum (M .size) r
+max-before : (max : Bool) (M : Layers) (r : ℕ) → r ≤ suc (M .top) → sum (addMaxIf max M .size) r ≡ sum (M .size) r
 max-before true M r h = sum-same _ _ r (λ k l. max-size-low M k (omega arith))
 max-before false M r h = refl
 
@@ -53,7 +53,7 @@ grown-before : (min max : Bool) (M : Layers) (r : ℕ) → r ≤ suc (M .top)
     → sum (grown min max M .size) (r + bit min) ≡ bit min + sum (M .size) r
 unfolding minSize
 grown-before true max M r h =
-    rw add-one (sum-first (minSize (growMax max M)) r ∙ ap (λ n. 1 + n) (max-before max M r h))
+    rw add-one (sum-first (minSize (addMaxIf max M)) r ∙ ap (λ n. 1 + n) (max-before max M r h))
 grown-before false max M r h = rw add-zero (max-before max M r h ∙ omega arith)
 
 -- ---- a pair

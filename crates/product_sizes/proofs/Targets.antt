@@ -13,9 +13,10 @@ use Rattle.listing.specs.Layers.{Layers, Topped, layers, order, derived}
 use Rattle.listing.specs.Written.{written}
 use Rattle.listing.proofs.Written.{written-same}
 use Rattle.product_pairs.specs.Sound.{Sound}
-use Rattle.product_pairs.specs.Paired.{El, block, offset, position, pairOf, pairAt, leftSubs, rightSubs, pairSubs, paired}
+use Rattle.product_pairs.specs.Paired.{El, block, offset, position, pairOf, pairAt, leftSubs, rightSubs, pairSubs}
+use Rattle.product_pairs.specs.Paired.{paired}
 use Rattle.product_pairs.specs.Grown.{upTo, minSize, minUnder, maxSize, maxUnder, addMin, addMax, grown}
-use Rattle.product_pairs.specs.Product.{product, productOf}
+use Rattle.product_pairs.specs.Product.{layerProduct, productOf}
 use Rattle.product_pairs.proofs.Trimmed.{trimmed-sound}
 use Rattle.product_pairs.proofs.Positions.{pairAt-exists}
 use Rattle.product_pairs.proofs.Product.{product-topped, product-sound}
@@ -124,8 +125,8 @@ module _ (min max : Bool) (A B : Listing) (uA : Usable min max A) (uB : Usable m
   abbrev T : Layers
   T = target min max (partOf min max A) (partOf min max B)
 
-  target-alike : Alike (product min max (layers A) (layers B)) T
-  unfolding product target
+  target-alike : Alike (layerProduct min max (layers A) (layers B)) T
+  unfolding layerProduct target
   target-alike = grown-alike min max (paired-alike (part-alike min max A uA) (part-alike min max B uB))
 
   pub target-written : written T (derived T) ≡ productOf min max A B

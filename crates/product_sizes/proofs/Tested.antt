@@ -5,12 +5,13 @@ use Prim.Native.Nat.{ℕ, _≤_, _<_}
 use native.Mathlib.Omega.{arith}
 use borrow.Author.Tests.{lt-ltb, le-ltb, ltb-false}
 use lib.ListN.{length}
-use Rattle.listing.specs.Refusals.{productRanks, productElements, productIncidences, outputShort}
-use Rattle.listing.specs.Answers.{plain, fine, _orElse_}
+use Rattle.listing.specs.Refusals.{productRanks, productElements, productIncidences}
+use Rattle.listing.specs.Answers.{plain, _orElse_}
 use Rattle.listing.specs.Listing.{Listing, Limits}
 use Rattle.listing.specs.Shape.{elements}
-use Rattle.listing.proofs.Answers.{on-no, on-or-no}
-use Rattle.order.proofs.Tests.{or-none}
+use Rattle.listing.specs.Output.{roomTest}
+use Rattle.listing.proofs.Answers.{on-or-no}
+use Rattle.listing.proofs.Output.{room-fits}
 use Rattle.product_sizes.specs.Sizing.{sizeTest}
 
 module _ (m : Limits) (R : Listing) (c e i : ℕ) where
@@ -28,26 +29,9 @@ module _ (m : Limits) (R : Listing) (c e i : ℕ) where
       unfolding sizeTest _orElse_
       over-incidences h = rw (le-ltb _ _ h1, le-ltb _ _ h2, lt-ltb _ _ h)
 
-      module _ (h3 : length (R .inc) ≤ m .incidences) where
-        pub short-counts : c < length (R .counts) → sizeTest m R c e i ≡ plain outputShort
-        unfolding sizeTest _orElse_
-        short-counts h = rw (le-ltb _ _ h1, le-ltb _ _ h2, le-ltb _ _ h3, lt-ltb c _ h)
-
-        module _ (h4 : length (R .counts) ≤ c) where
-          pub short-ends : e < length (R .ends) → sizeTest m R c e i ≡ plain outputShort
-          unfolding sizeTest _orElse_
-          short-ends h = rw (le-ltb _ _ h1, le-ltb _ _ h2, le-ltb _ _ h3, le-ltb c _ h4, lt-ltb e _ h)
-
-          module _ (h5 : length (R .ends) ≤ e) where
-            pub short-inc : i < length (R .inc) → sizeTest m R c e i ≡ plain outputShort
-            unfolding sizeTest _orElse_
-            short-inc h =
-                rw (le-ltb _ _ h1, le-ltb _ _ h2, le-ltb _ _ h3, le-ltb c _ h4, le-ltb e _ h5, lt-ltb i _ h)
-
-            pub sizes-fine : length (R .inc) ≤ i → sizeTest m R c e i ≡ fine
-            unfolding sizeTest _orElse_
-            sizes-fine h =
-                rw (le-ltb _ _ h1, le-ltb _ _ h2, le-ltb _ _ h3, le-ltb c _ h4, le-ltb e _ h5, le-ltb i _ h)
+      pub room-decides : length (R .inc) ≤ m .incidences → sizeTest m R c e i ≡ roomTest R c e i
+      unfolding sizeTest _orElse_
+      room-decides h3 = rw (le-ltb _ _ h1, le-ltb _ _ h2, le-ltb _ _ h3)
 
 -- ---- what they ask, where none fails
 
@@ -65,13 +49,12 @@ sizes-passed m R c e i z =
     let p1 = on-or-no _ (plain productRanks) _ (λ w. omega arith) z in
     let p2 = on-or-no _ (plain productElements) _ (λ w. omega arith) (p1 .1) in
     let p3 = on-or-no _ (plain productIncidences) _ (λ w. omega arith) (p2 .1) in
-    let p4 = or-none _ _ (on-no _ (plain outputShort) (λ w. omega arith) (p3 .1)) in
-    let p5 = or-none _ _ (p4 .1) in
+    let p4 = room-fits R c e i (p3 .1) in
     record {
       few-ranks = ltb-false _ _ (p1 .0);
       few-elements = ltb-false _ _ (p2 .0);
       few-incidences = ltb-false _ _ (p3 .0);
-      room-counts = ltb-false _ _ (p4 .0);
-      room-ends = ltb-false _ _ (p5 .0);
-      room-inc = ltb-false _ _ (p5 .1);
+      room-counts = p4 .0;
+      room-ends = p4 .1;
+      room-inc = p4 .2;
     }

@@ -8,18 +8,19 @@
 -- Little        counts so small that products of two fit a word
 -- Measures      the sizes of a listing
 use mathlib.Core.Path.{_≡_}
-use mathlib.Core.Bool.{Bool, _||_}
+use mathlib.Core.Bool.{Bool}
 use mathlib.Core.List.{List}
 use Prim.Native.Nat.{ℕ, suc, _-_, _*_, _≤_, _<_}
 use lib.Dec.{ltb}
 use lib.ListN.{length, take, drop}
 use Rattle.order.specs.Ends.{need}
 use Rattle.listing.specs.declared.Answer.{Answer}
-use Rattle.listing.specs.Refusals.{productRanks, productElements, productIncidences, outputShort}
+use Rattle.listing.specs.Refusals.{productRanks, productElements, productIncidences}
 use Rattle.listing.specs.Answers.{plain, on, _orElse_}
 use Rattle.listing.specs.Listing.{Listing, Limits, limits, rank}
 use Rattle.listing.specs.Shape.{elements}
 use Rattle.listing.specs.Layers.{Layers}
+use Rattle.listing.specs.Output.{roomTest}
 use Rattle.valid.specs.Tests.{isValid}
 use Rattle.product_pairs.specs.Trimmed.{bit}
 use Rattle.product_pairs.specs.Lengths.{allSubs}
@@ -33,7 +34,7 @@ sizeTest m R c e i =
     on (ltb (m .ranks) (length (R .counts))) (plain productRanks) orElse
     on (ltb (m .elements) (elements R)) (plain productElements) orElse
     on (ltb (m .incidences) (length (R .inc))) (plain productIncidences) orElse
-    on (ltb c (length (R .counts)) || (ltb e (length (R .ends)) || ltb i (length (R .inc)))) (plain outputShort)
+    roomTest R c e i
 
 pub record Usable (min max : Bool) (L : Listing) : Type 0 where
   pub valid : isValid limits L .no ≡ 0

@@ -3,6 +3,8 @@ use listing::Answer;
 use listing::Index;
 use listing::inner;
 use listing::limit;
+use listing::outputs;
+use listing::outputs::Room;
 use listing::refusal;
 use product_places::block;
 ghost use mathlib.Core.Path.{_≡_};
@@ -67,7 +69,7 @@ pub fn count_used(min: bool, max: bool, counts: &[Index], ends: &[Index], inc: &
 {
     let p = range(min, max, counts);
     let base = block::bit_of(min);
-    let elements = inner::elements_to(p, limit::ELEMENTS);
+    let elements = inner::elements_before(p, p.len());
     let lowest = inner::wide(p[0]);
     let highest = inner::wide(p[p.len() - 1]);
     let subs = subs_listed(ends, inc, base + lowest, base + elements);
@@ -130,14 +132,12 @@ pub fn check_sizes(s: Sizes, counts: usize, ends: usize, inc: usize) -> Answer
     if limit::INCIDENCES < s.incidences {
         return inner::plain(refusal::PRODUCT_INCIDENCES);
     }
-    if counts < s.ranks {
-        return inner::plain(refusal::OUTPUT_SHORT);
-    }
-    if ends < 2 * s.elements {
-        return inner::plain(refusal::OUTPUT_SHORT);
-    }
-    if inc < s.incidences {
-        return inner::plain(refusal::OUTPUT_SHORT);
-    }
-    inner::plain(0)
+    let two_each = 2 * s.elements;
+    let need = Room {
+        counts: s.ranks,
+        ends: two_each,
+        inc: s.incidences,
+    };
+    let room = Room { counts, ends, inc };
+    outputs::check_room(need, room)
 }

@@ -8,8 +8,8 @@ use native.Mathlib.Omega.{arith}
 use lib.Dec.{eqb}
 use lib.ListN.{length, getD, set}
 use Rattle.order.specs.Lists.{In}
-use Rattle.listing.specs.Listing.{width, limits, before, entries}
-use Rattle.listing.proofs.Listing.{before-next, before-all}
+use Rattle.listing.specs.Listing.{width, limits, entries}
+use Rattle.listing.proofs.Listing.{count-le}
 use Rattle.product_pairs.specs.Trimmed.{bit}
 use Rattle.product_places.specs.declared.block.Block.{Block}
 use Rattle.product_places.specs.Laid.{Holds}
@@ -26,9 +26,6 @@ use Rattle.product_writing.proofs.Rows.{starts-room, put-one}
 pub plan-room : {min max : Bool} {P Q : Factor} {upP upQ : List ℕ} {re ri : ℕ} → Plan min max P Q upP upQ re ri
     → (re′ ri′ : ℕ) → re′ ≡ re → ri′ ≡ ri → Plan min max P Q upP upQ re′ ri′
 plan-room {min} {max} {P} {Q} {upP} {upQ} plan re′ ri′ e f = rw (e, f) plan
-
-count-le : (counts : List ℕ) (r : ℕ) → getD counts r 0 ≤ before counts (length counts)
-count-le counts r = omega (arith, before-next counts r, before-all counts (r + 1))
 
 cond-le : (b : Bool) → cond b 1 0 ≤ 1
 cond-le true = omega arith

@@ -11,19 +11,19 @@ use Rattle.order.specs.Lists.{occurs}
 use Rattle.order.specs.Sums.{sum}
 use Rattle.order.proofs.Sums.{choose-yes, choose-no, sum-same}
 use Rattle.listing.specs.Layers.{Layers, derived}
-use Rattle.listing.specs.Written.{joined, table, listAt, nth}
+use Rattle.listing.specs.Written.{joined, tabulated, listAt, nth}
 use Rattle.listing.proofs.Layers.{derived-length}
-use Rattle.listing.proofs.Written.{table-same, nth-at}
+use Rattle.listing.proofs.Written.{tabulated-same, nth-at}
 use Rattle.product_pairs.specs.Trimmed.{bit}
-use Rattle.product_pairs.specs.Grown.{upTo, minSize, minUnder, maxSize, maxUnder, addMax, growMin, growMax, grown}
+use Rattle.product_pairs.specs.Grown.{upTo, minSize, minUnder, maxSize, maxUnder, addMax, addMinIf, addMaxIf, grown}
 
 sum-first : (f : ℕ → ℕ) (n : ℕ) → sum f (suc n) ≡ f 0 + sum (λ k. f (suc k)) n
 unfolding sum
 sum-first f zero = omega arith
 sum-first f (suc n) = omega (arith, sum-first f n)
 
-table-first : (f : ℕ → ℕ) (n : ℕ) → table f (suc n) ≡ f 0 ∷ table (λ k. f (suc k)) n
-unfolding table joined
+table-first : (f : ℕ → ℕ) (n : ℕ) → tabulated f (suc n) ≡ f 0 ∷ tabulated (λ k. f (suc k)) n
+unfolding tabulated joined
 table-first f zero = refl
 table-first f (suc n) = ap (λ (l : List ℕ). l ++ (f (suc n) ∷ [])) (table-first f n)
 
@@ -56,25 +56,25 @@ module _ (M : Layers) where
       ∙ choose-yes (decLt (suc (M .top)) (suc (suc (M .top)))) _ _ (omega arith)
 
   grow-max-sum : (max : Bool)
-      → sum (growMax max M .size) (suc (growMax max M .top)) ≡ sum (M .size) (suc (M .top)) + bit max
+      → sum (addMaxIf max M .size) (suc (addMaxIf max M .top)) ≡ sum (M .size) (suc (M .top)) + bit max
   unfolding sum
   grow-max-sum true = omega (arith, sum-same (maxSize M) (M .size) (suc (M .top)) max-in, max-top)
   grow-max-sum false = omega arith
 
   grow-min-sum : (min : Bool)
-      → sum (growMin min M .size) (suc (growMin min M .top)) ≡ bit min + sum (M .size) (suc (M .top))
+      → sum (addMinIf min M .size) (suc (addMinIf min M .top)) ≡ bit min + sum (M .size) (suc (M .top))
   unfolding minSize
   grow-min-sum true = sum-first (minSize M) (suc (M .top))
   grow-min-sum false = omega arith
 
   grow-max-table : (max : Bool)
-      → table (growMax max M .size) (suc (growMax max M .top)) ≡ table (M .size) (suc (M .top)) ++ one max
-  unfolding table joined
-  grow-max-table true = rw (table-same (maxSize M) (M .size) (suc (M .top)) max-in, max-top)
+      → tabulated (addMaxIf max M .size) (suc (addMaxIf max M .top)) ≡ tabulated (M .size) (suc (M .top)) ++ one max
+  unfolding tabulated joined
+  grow-max-table true = rw (tabulated-same (maxSize M) (M .size) (suc (M .top)) max-in, max-top)
   grow-max-table false = sym (append-nil _)
 
   grow-min-table : (min : Bool)
-      → table (growMin min M .size) (suc (growMin min M .top)) ≡ one min ++ table (M .size) (suc (M .top))
+      → tabulated (addMinIf min M .size) (suc (addMinIf min M .top)) ≡ one min ++ tabulated (M .size) (suc (M .top))
   unfolding minSize
   grow-min-table true = table-first (minSize M) (suc (M .top))
   grow-min-table false = refl
@@ -84,10 +84,10 @@ module _ (min max : Bool) (M : Layers) where
   T = grown min max M
 
   pub grown-sum : sum (T .size) (suc (T .top)) ≡ bit min + sum (M .size) (suc (M .top)) + bit max
-  grown-sum = omega (arith, grow-min-sum (growMax max M) min, grow-max-sum M max)
+  grown-sum = omega (arith, grow-min-sum (addMaxIf max M) min, grow-max-sum M max)
 
-  pub grown-table : table (T .size) (suc (T .top)) ≡ one min ++ (table (M .size) (suc (M .top)) ++ one max)
-  grown-table = grow-min-table (growMax max M) min ∙ ap (λ (l : List ℕ). one min ++ l) (grow-max-table M max)
+  pub grown-table : tabulated (T .size) (suc (T .top)) ≡ one min ++ (tabulated (M .size) (suc (M .top)) ++ one max)
+  grown-table = grow-min-table (addMaxIf max M) min ∙ ap (λ (l : List ℕ). one min ++ l) (grow-max-table M max)
 
 -- ---- the element added below
 
@@ -95,7 +95,7 @@ module _ (max : Bool) (M : Layers) where
   abbrev L : Layers
   L = grown true max M
 
-  low-size : (max : Bool) → growMax max M .size 0 ≡ M .size 0
+  low-size : (max : Bool) → addMaxIf max M .size 0 ≡ M .size 0
   low-size true = max-in M 0 (omega arith)
   low-size false = refl
 

@@ -8,7 +8,7 @@ use native.Mathlib.Omega.{arith}
 use lib.ListN.{length}
 use Rattle.order.specs.Sums.{sum}
 use Rattle.listing.specs.Layers.{Layers}
-use Rattle.listing.specs.Written.{table}
+use Rattle.listing.specs.Written.{tabulated}
 use Rattle.product_pairs.specs.Trimmed.{bit}
 use Rattle.product_pairs.specs.Paired.{block, paired}
 use Rattle.product_pairs.specs.Grown.{upTo}
@@ -38,9 +38,9 @@ module _ (P Q : Factor) (hp : 0 < length (P .counts)) (hq : 0 < length (Q .count
   unfolding pairsTo block
   pairs-sum = ap (sum (λ r. pairsIn p q r (suc r))) ranks
 
-  pub pairs-table : table (M .size) (suc (M .top)) ≡ table (λ r. pairsIn p q r (suc r)) n
+  pub pairs-table : tabulated (M .size) (suc (M .top)) ≡ tabulated (λ r. pairsIn p q r (suc r)) n
   unfolding block
-  pairs-table = ap (table (λ r. pairsIn p q r (suc r))) ranks
+  pairs-table = ap (tabulated (λ r. pairsIn p q r (suc r))) ranks
 
   pairs-top : M .size (M .top) ≡ pairsIn p q (n - 1) n
   unfolding block

@@ -12,8 +12,8 @@ use Rattle.search_events.specs.declared.Event.{Event}
 use Rattle.search_events.specs.declared.Event.the-variants.{Nothing}
 use Rattle.search_events.specs.declared.Said.{Said}
 use Rattle.flag.specs.Orientations.{byteOf, ofByte, flipOf, signOf}
-use Rattle.search_events.specs.Events.{events, nextAt, eventsOf, taken, saidOf, Stepped, SaidStep}
-use Rattle.search_events.proofs.EventsTaken.{all-taken, past-last}
+use Rattle.search_events.specs.Events.{events, nextAt, eventsOf, replies, saidOf, Stepped, SaidStep}
+use Rattle.search_events.proofs.EventsInOrder.{all-replies, past-last}
 use Rattle.promises.specs.OfFlags.{SignAt, ByteFor, Calls}
 
 -- ---- orientations
@@ -42,30 +42,30 @@ module _ (count place : ℕ) where
   saidSteps at at′ s = SaidStep at count place at′ s
 
   -- calls one after another take the events from place to place
-  calls-take : (at : ℕ) (l : List Event) → Calls steps at l → l ≡ taken at count place (length l)
-  unfolding Calls taken
+  calls-take : (at : ℕ) (l : List Event) → Calls steps at l → l ≡ replies at count place (length l)
+  unfolding Calls replies
   calls-take at [] c = refl
   calls-take at (e ∷ l) c =
       let h : c .0 ≡ nextAt at count place = c .1 .1 in
-      let t : l ≡ taken (nextAt at count place) count place (length l) = rw h at (calls-take (c .0) l (c .2)) in
+      let t : l ≡ replies (nextAt at count place) count place (length l) = rw h at (calls-take (c .0) l (c .2)) in
       λ i. c .1 .0 i ∷ t i
 
-  said-take : (at : ℕ) (l : List Said) → Calls saidSteps at l → l ≡ map saidOf (taken at count place (length l))
-  unfolding Calls taken
+  said-take : (at : ℕ) (l : List Said) → Calls saidSteps at l → l ≡ map saidOf (replies at count place (length l))
+  unfolding Calls replies
   said-take at [] c = refl
   said-take at (s ∷ l) c =
       let h : c .0 ≡ nextAt at count place = c .1 .1 in
-      let t : l ≡ map saidOf (taken (nextAt at count place) count place (length l)) =
+      let t : l ≡ map saidOf (replies (nextAt at count place) count place (length l)) =
       rw h at (said-take (c .0) l (c .2)) in
       λ i. c .1 .0 i ∷ t i
 
   pub in-order : (n : ℕ) (l : List Event) → length l ≡ events count place + n → Calls steps 0 l
       → l ≡ eventsOf count place ++ replicate n Nothing
-  in-order n l e c = calls-take 0 l c ∙ rw e (all-taken count place n)
+  in-order n l e c = calls-take 0 l c ∙ rw e (all-replies count place n)
 
   pub said-in-order : (n : ℕ) (l : List Said) → length l ≡ events count place + n → Calls saidSteps 0 l
       → l ≡ map saidOf (eventsOf count place ++ replicate n Nothing)
-  said-in-order n l e c = said-take 0 l c ∙ rw e (ap (map saidOf) (all-taken count place n))
+  said-in-order n l e c = said-take 0 l c ∙ rw e (ap (map saidOf) (all-replies count place n))
 
   pub stays-past : (at at′ : ℕ) (e : Event) → events count place ≤ at → Stepped at count place at′ e
       → (e ≡ Nothing) × (at′ ≡ at)

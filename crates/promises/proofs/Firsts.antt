@@ -15,7 +15,8 @@ use Rattle.listing.specs.Answers.{fine, on, _orElse_, firstIn, firstFor, firstO
 use Rattle.listing.specs.Listing.{Listing, count}
 use Rattle.listing.proofs.Answers.{or-fine, or-stop, on-no, of-each}
 use Rattle.valid_diamond.specs.Dyadic.{thirdTest}
-use Rattle.valid_diamond.proofs.Counting.{occurs-nil, occurs-cons, still}
+use Rattle.order.proofs.Lists.{occurs-nil, occurs-cons}
+use Rattle.valid_diamond.proofs.Counting.{still}
 use Rattle.promises.specs.Named.{FirstIn, FirstThird}
 use Rattle.listing.proofs.Broken.{zero-or}
 

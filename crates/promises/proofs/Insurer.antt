@@ -3,23 +3,22 @@
 use mathlib.Core.Path.{_≡_, ap}
 use mathlib.Core.Logic.{_↔_}
 use mathlib.Core.Bool.{Bool}
-use mathlib.Core.List.{List, map}
-use Prim.Native.Nat.{ℕ}
+use mathlib.Core.List.{map}
 use lib.ListN.{getD}
 use Rattle.listing.specs.declared.Answer.{Answer}
+use Rattle.listing.specs.declared.Built.{Built}
 use Rattle.listing.specs.Refusals.{loneBetween}
 use Rattle.listing.specs.Answers.{refusal, fine}
-use Rattle.listing.specs.Listing.{Listing, listing, Limits, limits, rank}
+use Rattle.listing.specs.Listing.{Listing, Limits, limits, rank}
+use Rattle.listing.specs.Output.{prefix}
 use Rattle.valid_diamond.specs.Dyadic.{DiamondAt}
 use Rattle.valid.specs.Ascent.{Ascends}
 use Rattle.valid.specs.Tests.{isValid, closed}
 use Rattle.valid.proofs.ClosedExact.{closed-exact, closed-is-valid-and}
 use Rattle.product_closure.specs.Result.{HighEnough}
-use Rattle.product.specs.declared.Built.{Built}
 use Rattle.product.specs.Outcome.{Outcome}
 use Rattle.promises.specs.Starred.{leakingBox, Row, answered, tried}
 use Rattle.promises.specs.Starred.Row.{tested, combined, refused, changed}
-use Rattle.promises.specs.Products.{prefix}
 use Rattle.promises.proofs.Produced.{outcome-kept}
 use Rattle.promises.proofs.Starred.{starred}
 
@@ -60,10 +59,9 @@ separating-rule m L v a = (
 
 -- Yes. Of two factors that the closed test accepts, high enough, whatever one of the four products has written, where
 -- it answered, the closed test accepts too. All four contracts are Outcome at their two flags.
-pub rule-survives : (min max : Bool) {A B : Listing} {c e i c′ e′ i′ : List ℕ} {r : Built}
-    → Outcome limits min max A B c e i c′ e′ i′ r → r .answer .no ≡ 0
-    → closed limits A .no ≡ 0 → closed limits B .no ≡ 0 → HighEnough min max (rank A) (rank B)
-    → closed limits (prefix (listing c′ e′ i′) r) .no ≡ 0
+pub rule-survives : (min max : Bool) {A B old new : Listing} {r : Built} → Outcome limits min max A B old new r
+    → r .answer .no ≡ 0 → closed limits A .no ≡ 0 → closed limits B .no ≡ 0
+    → HighEnough min max (rank A) (rank B) → closed limits (prefix new r) .no ≡ 0
 rule-survives min max {A} {B} o z a b h =
     closed-exact limits _ .1
     (outcome-kept min max o z .closed (closed-exact limits A .0 a) (closed-exact limits B .0 b) h)

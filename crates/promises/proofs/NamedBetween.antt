@@ -7,16 +7,15 @@ use Prim.Native.Nat.{ℕ, _≤_, _<_}
 use native.Mathlib.Omega.{arith}
 use lib.ListN.{length}
 use Rattle.order.specs.Lists.{In, occurs}
-use Rattle.order.proofs.Lists.{occurs-append}
+use Rattle.order.proofs.Lists.{occurs-append, occurs-cons, occurs-own}
+use Rattle.order.proofs.Once.{Once, once-head, once-tail}
 use Rattle.listing.specs.declared.Answer.{Answer}
 use Rattle.listing.specs.Listing.{Listing, Limits, rank, count}
 use Rattle.listing.specs.Shape.{shapeTest}
 use Rattle.listing.proofs.Broken.{zero-or}
 use Rattle.valid_incidence.specs.Incidence.{Incident, incidencesTest}
-use Rattle.valid_diamond.specs.Dyadic.{walk, Between, Distinct}
-use Rattle.valid_diamond.proofs.Counting.{occurs-cons, occurs-own}
-use Rattle.valid_diamond.proofs.Twos.{Once, once-head, once-tail}
-use Rattle.valid_diamond.proofs.DyadicExact.{over, over-between, over-once, met-over}
+use Rattle.valid_diamond.specs.Dyadic.{walk, LiesBetween, Distinct}
+use Rattle.valid_diamond.proofs.DyadicExact.{subsOver, over-between, over-once, met-over}
 use Rattle.valid.specs.Bounds.{boundedTest}
 use Rattle.valid.specs.Ascent.{ascentTest}
 use Rattle.valid.specs.Tests as tests
@@ -68,10 +67,10 @@ third-occurs {x} t =
     ))
 
 module _ (L : Listing) (I : Incident L) (D : Distinct L) (r i x : ℕ) (k : i < count L r) where
-  three-between : 3 ≤ occurs x (walk L r i) → ThreeOf (Between L r i x)
+  three-between : 3 ≤ occurs x (walk L r i) → ThreeOf (LiesBetween L r i x)
   three-between h =
-      let t = three-in (over L r i x) (over-once L I D r i x k) (omega (arith, met-over L I D r i x k)) in
-      let b : (s : ℕ) → In s (over L r i x) → Between L r i x s = λ s. over-between L r i x s .0 in
+      let t = three-in (subsOver L r i x) (over-once L I D r i x k) (omega (arith, met-over L I D r i x k)) in
+      let b : (s : ℕ) → In s (subsOver L r i x) → LiesBetween L r i x s = λ s. over-between L r i x s .0 in
       record {
         one = t .one;
         two = t .two;
@@ -80,9 +79,9 @@ module _ (L : Listing) (I : Incident L) (D : Distinct L) (r i x : ℕ) (k : i < 
         each = (b (t .one) (t .each .0), b (t .two) (t .each .1), b (t .three) (t .each .2));
       }
 
-  one-between : occurs x (walk L r i) ≡ 1 → OneOf (Between L r i x)
+  one-between : occurs x (walk L r i) ≡ 1 → OneOf (LiesBetween L r i x)
   one-between h =
-      let t = one-in (over L r i x) (omega (arith, met-over L I D r i x k)) in
+      let t = one-in (subsOver L r i x) (omega (arith, met-over L I D r i x k)) in
       record {
         one = t .one;
         first = over-between L r i x (t .one) .0 (t .first);

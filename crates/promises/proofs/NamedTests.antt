@@ -11,7 +11,7 @@ use borrow.Author.Tests.{eqb-true, eqb-false}
 use lib.Dec.{ltb, eqb}
 use lib.ListN.{length}
 use Rattle.order.specs.Lists.{In, Ascending, occurs}
-use Rattle.order.proofs.Lists.{in-right}
+use Rattle.order.proofs.Lists.{in-right, occurs-nil}
 use Rattle.listing.specs.declared.Answer.{Answer}
 use Rattle.listing.specs.Answers.{plain, on, _orElse_}
 use Rattle.listing.specs.Listing.{Listing, Limits, rank, count, side}
@@ -19,15 +19,15 @@ use Rattle.listing.specs.Shape.{elements, fills, shapeTest}
 use Rattle.listing.proofs.Answers.{on-no}
 use Rattle.valid_incidence.specs.Incidence.{incidencesTest, Incident}
 use Rattle.valid_incidence.proofs.IncidenceExact.{incidences-exact}
-use Rattle.valid_diamond.specs.Dyadic.{walk, seenAfter, loneTest, third, lone, sectionsTest, dyadicTest}
-use Rattle.valid_diamond.proofs.Counting.{occurs-nil, third-each, all-seen, sections-exact}
+use Rattle.valid_diamond.specs.Dyadic.{walk, seenAfter, loneTest, third, lone, sectionsTest, dyadicTest, MetTwiceAt}
+use Rattle.valid_diamond.proofs.Counting.{third-each, all-seen, sections-exact}
 use Rattle.valid_diamond.proofs.DyadicExact.{there}
 use Rattle.valid.specs.Bounds.{boundedTest}
-use Rattle.valid.specs.Ascent.{climbs, sideAscent, elementAscent, ascentTest}
+use Rattle.valid.specs.Ascent.{climbs, sideAscent, elementAscent, ascentTest, AscendsAt}
 use Rattle.valid.specs.Tests as tests
 use Rattle.valid.proofs.BoundsExact.{bounded-exact}
 use Rattle.valid.proofs.AscentExact.{side-exact, element-exact}
-use Rattle.promises.specs.Named.{FirstAt, AscendsAt, MetTwiceAt, FirstThird, Named, of-shape, not-bounded}
+use Rattle.promises.specs.Named.{FirstAt, FirstThird, Named, of-shape, not-bounded}
 use Rattle.promises.specs.Named.{third-between, lone-between, not-ascending}
 use Rattle.promises.proofs.Firsts.{Tells, tells-or, tells-on, tells-of, tells-third, tells-elements}
 use Rattle.promises.proofs.NamedIncidences.{incidences-tells}

@@ -167,7 +167,7 @@ flags-once = record {
   one-found = λ k a r x p z s u v Q e.
       let P = flags-refuse .search-searches k a r x p in
       search.one-found (P .holds z) (P .finds z) (Q .holds e) (Q .finds e);
-  one-is-within = λ k a b c x y. alike;
+  one-is-marked = λ k a b c x y. alike;
   one-event-at = λ k a b c x y. alike;
   one-events-in = λ k a b c x y. alike;
   one-next-at = λ k a b c x y. alike;

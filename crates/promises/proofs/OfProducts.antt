@@ -1,26 +1,26 @@
 -- What is promised of the four products, of whatever their contracts admit.
 -- Assumes nothing.
-use mathlib.Core.Path.{_≡_, refl, sym, ap, _∙_}
+use mathlib.Core.Path.{_≡_, refl}
 use mathlib.Core.Logic.{_⊎_, inl, inr}
 use mathlib.Core.Bool.{Bool, true, false, not, _||_}
-use mathlib.Core.List.{List}
 use Prim.Native.Nat.{ℕ}
 use lib.Dec.{ltb, eqb}
 use lib.ListN.{length}
 use Rattle.listing.specs.declared.Answer.{Answer}
+use Rattle.listing.specs.declared.Built.{Built}
 use Rattle.listing.specs.Answers.{plain, on, _orElse_}
-use Rattle.listing.specs.Listing.{Listing, Limits, listing, limits}
+use Rattle.listing.specs.Listing.{Listing, Limits, limits}
 use Rattle.listing.specs.Shape.{elements}
+use Rattle.listing.specs.Output.{roomTest}
 use Rattle.listing.proofs.Answers.{or-fine, or-stop}
 use Rattle.listing.proofs.Broken.{zero-or}
+use Rattle.listing.proofs.Output.{made-answer, made-once}
 use Rattle.valid.specs.Tests as tests
 use Rattle.product_closure.specs.Result.{combCase, resultOf}
 use Rattle.product_sizes.specs.Sizing.{sizeTest}
-use Rattle.product.specs.declared.Built.{Built}
-use Rattle.product.specs.Outcome.{after, productTest, Outcome}
-use Rattle.product.proofs.Answered.{answers}
+use Rattle.product.specs.Outcome.{factorsTest, restTest, productTest, Outcome}
 use Rattle.promises.specs.OfProducts.{ProductsTaken, ProductsRefuse, ProductsKeep, ProductsOnce}
-use Rattle.promises.proofs.Alike.{alike, any}
+use Rattle.promises.proofs.Alike.{any}
 use Rattle.promises.proofs.Produced.{produces, outcome-kept, outcomes-swapped}
 
 pub products-taken : ProductsTaken
@@ -44,7 +44,7 @@ plain-or x y p q = go (zero-or (x .no))
     go (inr s) = rw (or-stop x y s) p
 
 size-plain : (m : Limits) (R : Listing) (c e i : ℕ) → Plain (sizeTest m R c e i)
-unfolding sizeTest
+unfolding sizeTest roomTest
 size-plain m R c e i =
     plain-or _ _ (plain-on (ltb (m .ranks) (length (R .counts))) 33)
     (plain-or _ _ (plain-on (ltb (m .elements) (elements R)) 34)
@@ -52,17 +52,18 @@ size-plain m R c e i =
     (plain-on (ltb c (length (R .counts)) || (ltb e (length (R .ends)) || ltb i (length (R .inc)))) 36)))
 
 product-plain : (m : Limits) (min max : Bool) (A B : Listing) (c e i : ℕ) → Plain (productTest m min max A B c e i)
-unfolding productTest
+unfolding productTest factorsTest restTest
 product-plain m min max A B c e i =
-    plain-or _ _ (plain-on (not (eqb (tests.isValid m A .no) 0)) 30)
-    (plain-or _ _ (plain-on (not (eqb (tests.isValid m B .no) 0)) 31)
-    (plain-or _ _ (plain-on (combCase min max A B) 32) (size-plain m (resultOf min max A B) c e i)))
+    plain-or _ _
+    (plain-or _ _ (plain-on (not (eqb (tests.isValid m A .no) 0)) 30)
+    (plain-on (not (eqb (tests.isValid m B .no) 0)) 31))
+    (plain-or _ _ (plain-on (combCase min max A B) 32) (size-plain m (resultOf min max A B) c e i))
 
-outcome-plain : (min max : Bool) {A B : Listing} {c e i c′ e′ i′ : List ℕ} {r : Built}
-    → Outcome limits min max A B c e i c′ e′ i′ r → Plain (r .answer)
-outcome-plain min max {A} {B} {c} {e} {i} {c′} {e′} {i′} {r} o =
-    rw (answers min max A B c e i c′ e′ i′ r o)
-    (product-plain limits min max A B (length c) (length e) (length i))
+outcome-plain : (min max : Bool) {A B old new : Listing} {r : Built} → Outcome limits min max A B old new r
+    → Plain (r .answer)
+outcome-plain min max {A} {B} {old} o =
+    rw (made-answer (o .made))
+    (product-plain limits min max A B (length (old .counts)) (length (old .ends)) (length (old .inc)))
 
 pub products-refuse : ProductsRefuse
 products-refuse = record {
@@ -91,18 +92,9 @@ products-keep = record {
 -- ---- no second answer
 
 -- an answer and three output slices
-module _ (min max : Bool) {A B : Listing} {counts ends inc c e i d f j : List ℕ} {r s : Built} where
-  pub same-outcome : Outcome limits min max A B counts ends inc c e i r → Outcome limits min max A B counts ends inc d f j s
-      → (r ≡ s) × (listing c e i ≡ listing d f j)
-  same-outcome p q =
-      let R = resultOf min max A B in
-      let same = alike (p .answer) (q .answer) in
-      let left : (new old : List ℕ) → after (r .answer) new old ≡ after (s .answer) new old =
-      λ new old. ap (λ (t : Built). after (t .answer) new old) same in
-      let cs = p .counts-after ∙ left (R .counts) counts ∙ sym (q .counts-after) in
-      let es = p .ends-after ∙ left (R .ends) ends ∙ sym (q .ends-after) in
-      let is = p .inc-after ∙ left (R .inc) inc ∙ sym (q .inc-after) in
-      (same, λ t. listing (cs t) (es t) (is t))
+pub same-outcome : (min max : Bool) {A B old new new′ : Listing} {r s : Built} → Outcome limits min max A B old new r
+    → Outcome limits min max A B old new′ s → (r ≡ s) × (new ≡ new′)
+same-outcome min max p q = made-once (p .made) (q .made)
 
 pub products-once : ProductsOnce
 products-once = record {

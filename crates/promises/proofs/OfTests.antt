@@ -22,7 +22,7 @@ use Rattle.listing.proofs.ShapeBroken.{counted-broken, shape-alone}
 use Rattle.listing.proofs.Clear.{clear-exact}
 use Rattle.valid_incidence.specs.Incidence.{Incident}
 use Rattle.valid_incidence.proofs.IncidenceExact.{incidences-exact}
-use Rattle.valid_diamond.specs.Dyadic.{Diamond, Distinct}
+use Rattle.valid_diamond.specs.Dyadic.{DiamondUpTo, Distinct}
 use Rattle.valid_diamond.proofs.DyadicExact.{dyadic-exact, twice-diamond}
 use Rattle.valid.specs.Bounds.{Bounded}
 use Rattle.valid.specs.Tests as tests
@@ -135,7 +135,7 @@ incident-is L = (
 )
 
 dyadic-is : (L : Listing) → Distinct L
-    → tests.isDyadic limits L .no ≡ 0 ↔ (Shaped limits L × Incident L × Diamond L (rank L - 1))
+    → tests.isDyadic limits L .no ≡ 0 ↔ (Shaped limits L × Incident L × DiamondUpTo L (rank L - 1))
 unfolding tests.isDyadic
 dyadic-is L D = (
   λ e. let p = or-no _ _ e in let q = or-no _ _ (p .1) in let I = incidences-exact L .0 (q .0) in
@@ -145,7 +145,7 @@ dyadic-is L D = (
 )
 
 valid-is : (L : Listing) → Distinct L
-    → tests.isValid limits L .no ≡ 0 ↔ (Shaped limits L × Bounded L × Incident L × Diamond L (rank L - 1))
+    → tests.isValid limits L .no ≡ 0 ↔ (Shaped limits L × Bounded L × Incident L × DiamondUpTo L (rank L - 1))
 valid-is L D = (
   λ e. let p = valid-exact limits L .0 e in (p .0, p .1, p .2, twice-diamond L (p .2) D (rank L - 1) .0 (p .3)),
   λ h. valid-exact limits L .1 (h .0, h .1, h .2, twice-diamond L (h .2) D (rank L - 1) .1 (h .3)),

@@ -4,13 +4,14 @@ use mathlib.Core.Path.{_≡_, refl}
 use mathlib.Core.List.{map}
 use native.Mathlib.Decide.{decLt}
 use Rattle.order.specs.Lists.{has, occurs}
-use Rattle.order.specs.Sums.{choose, sum, place}
+use Rattle.order.specs.Sums.{choose, sum, partAt}
 use Rattle.listing.specs.Answers.{_orElse_, firstIn, firstFor, firstOf}
 use Rattle.listing.specs.Listing.{before, entries}
 use Rattle.listing.specs.Shape.{fills, shapeTest}
 use Rattle.listing.specs.Layers.{gather, derived}
-use Rattle.listing.specs.Written.{joined, table as numbers, listAt, nth, written}
-use Rattle.valid_incidence.specs.Incidence.{entryTest, alongTest, elementTest, incidencesTest}
+use Rattle.listing.specs.Written.{joined, tabulated, listAt, nth, written}
+use Rattle.valid_incidence.specs.Ways.{entryTest, alongTest, listTest}
+use Rattle.valid_incidence.specs.Incidence.{elementTest, incidencesTest}
 use Rattle.valid_diamond.specs.Dyadic.{subsOfAll, thirdTest, seenAfter, loneTest, sectionsTest, dyadicTest}
 use Rattle.valid.specs.Bounds.{boundedTest}
 use Rattle.valid.specs.Ascent.{climbs, elementAscent, ascentTest}
@@ -18,10 +19,11 @@ use Rattle.valid.specs.Tests.{isValid, closed}
 use Rattle.product_pairs.specs.Trimmed.{trimSize, trimUnder}
 use Rattle.product_pairs.specs.Paired.{block, offset, position, pairOf, pairAt, leftSubs, rightSubs}
 use Rattle.product_pairs.specs.Grown.{upTo, minSize, minUnder, maxSize, maxUnder}
-use Rattle.product_pairs.specs.Product.{product, productOf}
+use Rattle.product_pairs.specs.Product.{layerProduct, productOf}
 use Rattle.product_closure.specs.Result.{nullCase, combCase, resultOf}
 use Rattle.product_sizes.specs.Sizing.{sizeTest}
-use Rattle.product.specs.Outcome.{productTest}
+use Rattle.listing.specs.Output.{roomTest}
+use Rattle.product.specs.Outcome.{factorsTest, restTest, productTest}
 use Rattle.order.specs.Tests.{every}
 use Rattle.flag_change.specs.Flags.{flagAt, flagTest, startTest}
 use Rattle.flag_change.specs.Change.{common, other, between, changeAt, padded}
@@ -30,10 +32,10 @@ use Rattle.promises.specs.Starred.{answered, tried}
 
 -- Computing each row of the table gives the answers that stand in it.
 pub starred : map answered tried ≡ tried
-unfolding decLt has occurs choose sum place _orElse_ firstIn firstFor firstOf before entries fills shapeTest gather
-    derived joined numbers listAt nth written boundedTest entryTest alongTest elementTest incidencesTest climbs
+unfolding decLt has occurs choose sum partAt _orElse_ firstIn firstFor firstOf before entries fills shapeTest gather
+    derived joined tabulated listAt nth written boundedTest entryTest alongTest listTest elementTest incidencesTest climbs
     elementAscent ascentTest subsOfAll thirdTest seenAfter loneTest sectionsTest dyadicTest isValid closed trimSize
-    trimUnder block offset position pairOf pairAt leftSubs rightSubs upTo minSize minUnder maxSize maxUnder product
-    productOf nullCase combCase resultOf sizeTest productTest every flagAt flagTest startTest common other between
-    changeAt padded changeTest changedOf answered
+    trimUnder block offset position pairOf pairAt leftSubs rightSubs upTo minSize minUnder maxSize maxUnder
+    layerProduct productOf nullCase combCase resultOf roomTest sizeTest factorsTest restTest productTest every flagAt
+    flagTest startTest common other between changeAt padded changeTest changedOf answered
 starred = refl

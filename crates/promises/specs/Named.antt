@@ -4,13 +4,6 @@
 -- FirstAt        element i of rank r exists, at rank low or higher, and each one before it, by rank and then index,
 --                from there on is good
 -- FirstIn        x stands in a list, and each number before it there is good
--- SubBack        x, as a sub of element i of rank r, exists one rank lower and lists the element back
--- SupBack        x, as a sup of element i of rank r, exists one rank higher and lists the element back
--- LowerAt        an element has subs if it is above rank 0, and each exists and lists it back
--- UpperAt        an element has sups if it is below the top, and each exists and lists it back
--- IncidentAt     both: what test 2 asks of an element
--- AscendsAt      an element's subs and sups both strictly ascend: what the ascent test asks of an element
--- MetTwiceAt     each index among the subs of an element's subs is met twice there: what test 3 asks of an element
 -- FirstThird     x stands in a list for the third time, and nothing before it there does
 -- Named          each refusal with its fields, and what is then true of the listing; the diamond is asked up to rank h
 -- ThreeOf        three different numbers have a property
@@ -25,13 +18,15 @@ use mathlib.Core.List.{List, [], _∷_, _++_}
 use Prim.Native.Nat.{ℕ, _+_, _-_, _≤_, _<_}
 use Rattle.order.specs.Lists.{Earlier, In, Ascending, occurs}
 use Rattle.listing.specs.declared.Answer.{Answer}
+use Rattle.listing.specs.declared.Built.{Built}
 use Rattle.listing.specs.Refusals.{noRanks, fallingEnds, notBounded, noSubs, noSups, subNotBack, supNotBack}
 use Rattle.listing.specs.Refusals.{subMissing, supMissing, thirdBetween, loneBetween, notAscending, notAFlag, moreFlags}
 use Rattle.listing.specs.Answers.{plain, refusal}
 use Rattle.listing.specs.Listing.{Listing, rank, count, side, subs, sups}
-use Rattle.valid_incidence.specs.Incidence.{Incident}
-use Rattle.valid_diamond.specs.Dyadic.{walk, Between, Distinct}
+use Rattle.valid_incidence.specs.Incidence.{SubBack, SupBack, LowerAt, IncidentAt, Incident}
+use Rattle.valid_diamond.specs.Dyadic.{walk, LiesBetween, Distinct, MetTwiceAt}
 use Rattle.valid.specs.Bounds.{Bounded}
+use Rattle.valid.specs.Ascent.{AscendsAt}
 use Rattle.listing.proofs.shape.Reads as shape
 use Rattle.valid.proofs.bounded.Reads as bounded
 use Rattle.valid.proofs.check_incidences.Reads as check-incidences
@@ -40,7 +35,6 @@ use Rattle.valid.proofs.is_valid.Reads as is-valid
 use Rattle.valid.proofs.closed.Reads as closed
 use Rattle.flag.proofs.change.Reads as change
 use Rattle.search.proofs.search.Reads as search
-use Rattle.product.specs.declared.Built.{Built}
 use Rattle.product.proofs.duopyramid.Reads as duopyramid
 use Rattle.product.proofs.duoprism.Reads as duoprism
 use Rattle.product.proofs.duotegum.Reads as duotegum
@@ -57,29 +51,6 @@ pub record FirstIn (Good : ℕ → Type 0) (x : ℕ) (l : List ℕ) : Type 0 whe
   pub rest : List ℕ
   pub stands : l ≡ done ++ x ∷ rest
   pub earlier : (y : ℕ) → In y done → Good y
-
-abbrev pub SubBack : Listing → ℕ → ℕ → ℕ → Type 0
-SubBack L r i x = (0 < r) × (x < count L (r - 1)) × In i (sups L (r - 1) x)
-
-abbrev pub SupBack : Listing → ℕ → ℕ → ℕ → Type 0
-SupBack L r i x = (x < count L (r + 1)) × In i (subs L (r + 1) x)
-
-pub record LowerAt (L : Listing) (r i : ℕ) : Type 0 where
-  pub some : 0 < r → subs L r i ≢ []
-  pub each : (x : ℕ) → In x (subs L r i) → SubBack L r i x
-
-pub record UpperAt (L : Listing) (r i : ℕ) : Type 0 where
-  pub some : r < rank L → sups L r i ≢ []
-  pub each : (x : ℕ) → In x (sups L r i) → SupBack L r i x
-
-abbrev pub IncidentAt : Listing → ℕ → ℕ → Type 0
-IncidentAt L r i = LowerAt L r i × UpperAt L r i
-
-abbrev pub AscendsAt : Listing → ℕ → ℕ → Type 0
-AscendsAt L r i = (s : ℕ) → s < 2 → Ascending (side L s r i)
-
-abbrev pub MetTwiceAt : Listing → ℕ → ℕ → Type 0
-MetTwiceAt L r i = (x : ℕ) → In x (walk L r i) → occurs x (walk L r i) ≡ 2
 
 pub record FirstThird (x : ℕ) (l : List ℕ) : Type 0 where
   pub done : List ℕ
@@ -138,8 +109,8 @@ pub record OneOf (P : ℕ → Type 0) : Type 0 where
   pub no-second : (w : ℕ) → P w → w ≡ one
 
 pub record BetweenNamed (L : Listing) (a : Answer) : Type 0 where
-  pub three : a .no ≡ thirdBetween → ThreeOf (Between L (a .c) (a .d) (a .b))
-  pub single : a .no ≡ loneBetween → OneOf (Between L (a .c) (a .d) (a .b))
+  pub three : a .no ≡ thirdBetween → ThreeOf (LiesBetween L (a .c) (a .d) (a .b))
+  pub single : a .no ≡ loneBetween → OneOf (LiesBetween L (a .c) (a .d) (a .b))
 
 module _ {K A X : Type 0} where
   abbrev pub Names : (K → Three A → Answer → X → Type 0) → (Listing → ℕ) → Type 0

@@ -39,7 +39,7 @@ use Rattle.flag.proofs.Orientation.sign.Reads as sign
 use Rattle.flag.proofs.Orientation.byte.Reads as byte
 use Rattle.flag.proofs.Orientation.of_byte.Reads as of-byte
 use Rattle.search.proofs.search.Reads as search
-use Rattle.search_events.proofs.is_within.Reads as is-within
+use Rattle.search_events.proofs.is_marked.Reads as is-marked
 use Rattle.search_events.proofs.event_at.Reads as event-at
 use Rattle.search_events.proofs.events_in.Reads as events-in
 use Rattle.search_events.proofs.next_at.Reads as next-at
@@ -70,7 +70,7 @@ pub record FlagsTaken : Type 0 where
   -- the search
   pub search : Takes search.Asked
   -- events, but for next_event, of which it stands in proofs/Cursor.antt
-  pub events : Takes is-within.Asked × Takes event-at.Asked × Takes events-in.Asked × Takes next-at.Asked
+  pub events : Takes is-marked.Asked × Takes event-at.Asked × Takes events-in.Asked × Takes next-at.Asked
       × Takes numbers.Asked
 
 pub record FlagsRefuse : Type 0 where
@@ -139,7 +139,7 @@ pub record FlagsOnce : Type 0 where
   pub one-found : SearchSays (λ L f mask t b r t′ b′. r .answer .no ≡ 0 → (s : Searched) (u v : List ℕ)
       → Promised limits L f mask t b s u v → s .answer .no ≡ 0
       → (r .count ≡ s .count) × (r .place ≡ s .place) × (r .orientable ≡ s .orientable) × (t′ ≡ u) × (b′ ≡ v))
-  pub one-is-within : OneAnswer is-within.Post
+  pub one-is-marked : OneAnswer is-marked.Post
   pub one-event-at : OneAnswer event-at.Post
   pub one-events-in : OneAnswer events-in.Post
   pub one-next-at : OneAnswer next-at.Post

@@ -4,23 +4,24 @@
 -- Carries          its refusals carry nothing, and what it answers is 0 where it is answered
 -- Keeps            what it wrote, where it is answered, is as Kept says: closed where its factors are closed and high
 --                  enough; made of the pairs, a pair directly under another exactly if one member is equal and the
---                  other directly under; with the ends added
--- Swaps            two calls of it that are answered are as Exchange says
+--                  other directly under; with the ends added; its lists in their order
+-- Swaps            two calls of it whose factors are exchanged are as Exchange says
 -- ProductsTaken    any slices are taken
 -- ProductsRefuse   which refusal comes exactly when, what it carries, and what is written
 -- ProductsKeep     what the products keep, said of the slices that were written, up to the lengths answered
 -- ProductsOnce     no second answer fits
 use mathlib.Core.Path.{_≡_}
 use mathlib.Core.Bool.{Bool, true, false}
+use Rattle.listing.specs.declared.Built.{Built}
 use Rattle.listing.specs.Answers.{plain}
-use Rattle.product.specs.declared.Built.{Built}
+use Rattle.listing.specs.Output.{prefix}
 use Rattle.product.proofs.duopyramid.Reads as duopyramid
 use Rattle.product.proofs.duoprism.Reads as duoprism
 use Rattle.product.proofs.duotegum.Reads as duotegum
 use Rattle.product.proofs.duocomb.Reads as duocomb
 use Rattle.product.proofs.make.make.Reads as make
 use Rattle.promises.specs.Entries.{Takes, Says, SaysOfTwo, OneOutcome, Three, lent, right, outputs}
-use Rattle.promises.specs.Products.{prefix, Produces, Kept, Exchange}
+use Rattle.promises.specs.Products.{Produces, Kept, Exchange}
 
 module _ {K A X : Type 0} where
   abbrev pub Carries : (K → A → Built → X → Type 0) → Type 0
@@ -35,8 +36,8 @@ module _ {K A X : Type 0} (min max : Bool)
   Keeps = Says P (λ a r x. r .answer .no ≡ 0 → Kept min max (lent a) (right a) (prefix (outputs x) r))
 
   abbrev pub Swaps : Type 0
-  Swaps = SaysOfTwo P P (λ a r x c s y. r .answer .no ≡ 0 → s .answer .no ≡ 0
-      → Exchange min max (lent a) (right a) (lent c) (right c) (prefix (outputs x) r) (prefix (outputs y) s))
+  Swaps = SaysOfTwo P P (λ a r x c s y. lent c ≡ right a → right c ≡ lent a
+      → Exchange min max (lent a) (right a) (outputs a) (outputs c) (prefix (outputs x) r) (prefix (outputs y) s) r s)
 
 pub record ProductsTaken : Type 0 where
   -- the four products, and what they all call
@@ -68,7 +69,7 @@ pub record ProductsKeep : Type 0 where
   pub duotegum-keeps : Keeps false true duotegum.Post
   -- so is the duocomb, of ranks from 2 that together make at least 5, with both of them
   pub duocomb-keeps : Keeps true true duocomb.Post
-  -- exchanging the factors of a duopyramid only swaps the pairs
+  -- exchanging the factors of a duopyramid only swaps the pairs; with as much room it is answered too
   pub duopyramid-swaps : Swaps false false duopyramid.Post
   -- so with the duoprism
   pub duoprism-swaps : Swaps true false duoprism.Post

@@ -25,7 +25,7 @@ use Rattle.listing.specs.Listing.{Listing, Limits, limits, rank}
 use Rattle.listing.specs.Shape.{Shaped}
 use Rattle.listing.specs.Rules.{Rule, FirstBroken, countRules, shapeRules}
 use Rattle.valid_incidence.specs.Incidence.{Incident}
-use Rattle.valid_diamond.specs.Dyadic.{Diamond, Distinct}
+use Rattle.valid_diamond.specs.Dyadic.{DiamondUpTo, Distinct}
 use Rattle.valid.specs.Bounds.{Bounded}
 use Rattle.valid.specs.Closed.{Closed}
 use Rattle.valid.specs.Rules.{boundedRules, incidentRules, dyadicRules, validRules, closedRules}
@@ -143,10 +143,10 @@ pub record TestsAnswer : Type 0 where
       (λ a r x. r .no ≡ 0 ↔ (Shaped limits (lent a) × Incident (lent a)))
   -- is_dyadic, of lists without repeats: between two elements two ranks apart, below the top, lie two things or none
   pub dyadic-by-the-book : Says is-dyadic.Post (λ a r x. Distinct (lent a)
-      → r .no ≡ 0 ↔ (Shaped limits (lent a) × Incident (lent a) × Diamond (lent a) (rank (lent a) - 1)))
+      → r .no ≡ 0 ↔ (Shaped limits (lent a) × Incident (lent a) × DiamondUpTo (lent a) (rank (lent a) - 1)))
   -- is_valid: the three of them
   pub valid-by-the-book : Says is-valid.Post (λ a r x. Distinct (lent a) → r .no ≡ 0
-      ↔ (Shaped limits (lent a) × Bounded (lent a) × Incident (lent a) × Diamond (lent a) (rank (lent a) - 1)))
+      ↔ (Shaped limits (lent a) × Bounded (lent a) × Incident (lent a) × DiamondUpTo (lent a) (rank (lent a) - 1)))
   -- closed: bounded, incident, all lists ascending, and the diamond up to the maximal element
   pub closed-by-the-book : Says closed.Post (λ a r x. r .no ≡ 0 ↔ Closed limits (lent a))
 

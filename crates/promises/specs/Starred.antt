@@ -25,7 +25,7 @@ use Rattle.listing.specs.declared.Answer.{Answer}
 use Rattle.listing.specs.Refusals.{noRanks, notBounded, subNotBack, thirdBetween, loneBetween, notAscending, combOfPoint}
 use Rattle.listing.specs.Answers.{refusal, plain, fine}
 use Rattle.listing.specs.Listing.{Listing, listing, limits}
-use Rattle.listing.specs.Cells.{nullitope, point, dyad, triangle, nothing, twoMinimal, threeOnTop, oneOnTop, struck}
+use Rattle.listing.specs.Cells.{nullitope, point, dyad, triangle, rankless, twoMinimal, threeOnTop, oneOnTop, struck}
 use Rattle.valid.specs.Tests.{isValid, closed}
 use Rattle.product_closure.specs.Result.{resultOf}
 use Rattle.product.specs.Outcome.{productTest}
@@ -123,7 +123,7 @@ tried =
     tested dyad fine fine ∷
     tested triangle fine fine ∷
     -- noRanks is 1
-    tested nothing (plain noRanks) (plain noRanks) ∷
+    tested rankless (plain noRanks) (plain noRanks) ∷
     -- notBounded is 10
     tested twoMinimal (refusal notBounded 2 1 0 0) (refusal notBounded 2 1 0 0) ∷
     -- thirdBetween is 17

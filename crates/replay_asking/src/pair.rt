@@ -1,7 +1,7 @@
 // Questions on products.
 use crate::room;
+use listing::Built;
 use listing::Index;
-use product::Built;
 use replay_saying::say;
 
 // Whether minimal elements are left out, by the fifth letter: of the duoprism and the duocomb.

@@ -10,7 +10,7 @@ use lib.ListN.{length, getD}
 use Rattle.order.specs.Lists.{Earlier}
 use Rattle.listing.specs.Listing.{Listing}
 use Rattle.flag_change.specs.Change.{changeAt}
-use Rattle.flag_change.proofs.Halving.{ascending-at, ascending-back}
+use Rattle.order.proofs.Positions.{ascending-at, ascending-back}
 use Rattle.search_theory.specs.Course.{HasNeighbour, nbr, Came, Clash}
 use Rattle.search_theory.proofs.Once.{in-at, at-in}
 use Rattle.search_masks.specs.Masks.{InMask, ranksOf}

@@ -6,14 +6,14 @@ use Prim.Native.Nat.{ℕ, _+_, _-_, _≤_, _<_}
 use native.Mathlib.Omega.{arith}
 use borrow.Author.Tests.{lt-ltb, le-ltb, le-leb, lt-leb, eq-eqb, ne-eqb}
 use Rattle.search_events.specs.declared.Event.the-variants.{Flag, NonOrientable, Nothing}
-use Rattle.search_events.specs.Events.{within, eventAt, events, nextAt}
+use Rattle.search_events.specs.Events.{marked, eventAt, events, nextAt}
 
 module _ (n p : ℕ) where
-  pub events-more : within n p ≡ true → events n p ≡ n + 1
+  pub events-more : marked n p ≡ true → events n p ≡ n + 1
   unfolding events
   events-more w = rw w
 
-  pub events-plain : within n p ≡ false → events n p ≡ n
+  pub events-plain : marked n p ≡ false → events n p ≡ n
   unfolding events
   events-plain w = rw w
 
@@ -28,7 +28,7 @@ module _ (at n p : ℕ) where
 
   -- ---- NonOrientable is among the events
 
-  module _ (w : within n p ≡ true) where
+  module _ (w : marked n p ≡ true) where
     pub flag-before : at < p → eventAt at n p ≡ Flag at
     unfolding eventAt
     flag-before h = rw (w, lt-ltb at p h)
@@ -47,7 +47,7 @@ module _ (at n p : ℕ) where
 
   -- ---- it is not
 
-  module _ (w : within n p ≡ false) where
+  module _ (w : marked n p ≡ false) where
     pub flag-plain : at < n → eventAt at n p ≡ Flag at
     unfolding eventAt
     flag-plain h = rw (w, lt-ltb at n h)

@@ -1,2 +1,3 @@
 pub mod EventRow
-pub mod EventsTaken
+pub mod EventsInOrder
+pub mod LentCursor

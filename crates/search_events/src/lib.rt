@@ -1,7 +1,7 @@
 // The events of a finished search, in their order: its flags, and that the cell is not orientable. A cursor is lent and
 // goes on from one to the next.
 ghost use mathlib.Core.Path.{_≡_};
-ghost use Rattle.search_events.specs.Events.{within, eventAt, events, nextAt, saidOf, Stepped};
+ghost use Rattle.search_events.specs.Events.{marked, eventAt, events, nextAt, saidOf, Stepped};
 
 // An event of a search: a flag by its number, or that the cell is not orientable; Nothing past the last.
 pub enum Event {
@@ -24,8 +24,8 @@ pub struct Cursor {
 }
 
 // Whether NonOrientable is among the events.
-pub fn is_within(count: u16, place: u16) -> bool
-    ensures { λ t. ⌜ t ≡ within count place ⌝ }
+pub fn is_marked(count: u16, place: u16) -> bool
+    ensures { λ t. ⌜ t ≡ marked count place ⌝ }
 {
     if 1 <= place {
         return place <= count;
@@ -39,7 +39,7 @@ pub fn event_at(at: u32, count: u16, place: u16) -> Event
 {
     let n = count as u32;
     let p = place as u32;
-    if is_within(count, place) {
+    if is_marked(count, place) {
         if at < p {
             return Event::Flag(at as u16);
         }
@@ -62,7 +62,7 @@ pub fn events_in(count: u16, place: u16) -> u32
     ensures { λ n. ⌜ n ≡ events count place ⌝ }
 {
     let n = count as u32;
-    if is_within(count, place) {
+    if is_marked(count, place) {
         return n + 1;
     }
     n

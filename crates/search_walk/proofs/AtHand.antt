@@ -10,7 +10,7 @@ use Rattle.order.specs.Lists.{over}
 use Rattle.order.proofs.Over.{over-length, over-first}
 use Rattle.listing.specs.Listing.{Listing, limits, rank, subs, sups}
 use Rattle.valid.specs.Closed.{Closed}
-use Rattle.flag_change.specs.Change.{common, other, between, changeAt, Neighbours}
+use Rattle.flag_change.specs.Change.{common, other, between, changeAt, Flanked}
 use Rattle.search_store.specs.Hash.{hashes, weight, hashOf}
 use Rattle.search_store.proofs.Hash.{old-inside, hash-changed}
 use Rattle.search_walk.specs.Ready.{AtHand}
@@ -43,7 +43,7 @@ module _ {L : Listing} (C : Closed limits L) {flag : List ℕ} {sum : ℕ} (H : 
   at-w : (k : ℕ) → k < w → getD f k 0 ≡ getD flag k 0
   at-w k h = getD-take w flag k 0 h
 
-  pub hand-neighbours : Neighbours L flag r
+  pub hand-neighbours : Flanked L flag r
   hand-neighbours = record {
     over-lowest = p;
     under-highest = omega (arith, short);

@@ -1,8 +1,8 @@
 // Cells that are made as products of others.
 use crate::flags;
 use crate::row;
+use listing::Built;
 use listing::Index;
-use product::Built;
 use product::make;
 use tour_words::table;
 

@@ -18,11 +18,11 @@ use Rattle.listing.specs.Answers.{fine, refusal}
 use Rattle.listing.specs.Listing.{Listing, side}
 use Rattle.listing.specs.Refusals.{notAscending}
 use Rattle.listing.proofs.Answers.{or-no, no-or, on-no, on-off}
-use Rattle.listing.proofs.Listing.{rank-there}
 use Rattle.order.proofs.Tests.{and-true}
-use Rattle.valid_incidence.proofs.Sequences.{at-sides, elements-exact}
+use Rattle.listing.proofs.Places.{at-sides}
+use Rattle.listing.proofs.Elements.{elements-exact}
 use Rattle.valid_diamond.specs.Dyadic.{Distinct}
-use Rattle.valid.specs.Ascent.{climbs, sideAscent, elementAscent, ascentTest, Ascends}
+use Rattle.valid.specs.Ascent.{climbs, sideAscent, elementAscent, ascentTest, AscendsAt, Ascends}
 
 -- ---- a list, one place at a time
 
@@ -82,7 +82,7 @@ module _ (L : Listing) where
       → sideAscent L r i s ≡ refusal notAscending r i s 0
   side-falls r i s e h = rw (← e, h)
 
-  pub element-exact : (r i : ℕ) → elementAscent L r i .no ≡ 0 ↔ ((s : ℕ) → s < 2 → Ascending (side L s r i))
+  pub element-exact : (r i : ℕ) → elementAscent L r i .no ≡ 0 ↔ AscendsAt L r i
   unfolding elementAscent
   element-exact r i = (
     λ e.
@@ -94,13 +94,9 @@ module _ (L : Listing) where
   -- The ascent test answers 0 exactly if each list of each element strictly ascends.
   pub ascent-exact : ascentTest L .no ≡ 0 ↔ Ascends L
   unfolding ascentTest Ascends
-  ascent-exact =
-      let e = elements-exact L (elementAscent L) 0 (length (L .counts)) in (
-        λ z s r i k h. element-exact r i .0 (e .0 z r i (omega arith) (rank-there L r i h) h) s k,
-        λ a. e .1 (λ r i _ _ h. element-exact r i .1 (λ s k. a s r i k h)),
-      )
+  ascent-exact = elements-exact L (elementAscent L) (AscendsAt L) (λ r i h. element-exact r i)
 
 -- In a listing whose lists ascend no list holds an index twice.
 pub ascends-distinct : (L : Listing) → Ascends L → Distinct L
 unfolding Ascends Distinct
-ascends-distinct L a s r i x k h = ascending-once x (side L s r i) (a s r i k h)
+ascends-distinct L a s r i x k h = ascending-once x (side L s r i) (a r i h s k)

@@ -11,7 +11,7 @@ use Rattle.listing.proofs.Answers.{or-no, no-or}
 use Rattle.listing.proofs.ShapeExact.{shape-exact}
 use Rattle.valid_incidence.specs.Incidence.{Incident}
 use Rattle.valid_incidence.proofs.IncidenceExact.{incidences-exact}
-use Rattle.valid_diamond.specs.Dyadic.{DiamondAt, Diamond, MetTwice}
+use Rattle.valid_diamond.specs.Dyadic.{DiamondAt, DiamondUpTo, MetTwice}
 use Rattle.valid_diamond.proofs.DyadicExact.{dyadic-counts, twice-diamond, dyadic-exact}
 use Rattle.valid.specs.Bounds.{Bounded}
 use Rattle.valid.specs.Ascent.{Ascends}
@@ -41,50 +41,51 @@ module _ (m : Limits) (L : Listing) where
           (no-or _ _ (bounded-exact L .1 (p .1))
           (no-or _ _ (incidences-exact L .1 (p .2)) (dyadic-counts L (p .2) (rank L - 1) .1 (p .3))))
 
+  tested-closed : closed m L .no ≡ 0 → Closed m L
+  unfolding closed
+  tested-closed e =
+      let s = or-no _ _ e in
+      let b = or-no _ _ (s .1) in
+      let i = or-no _ _ (b .1) in
+      let t = or-no _ _ (i .1) in
+      let I = incidences-exact L .0 (i .0) in
+      let A = ascent-exact L .0 (t .0) in
+      record {
+        shaped = shape-exact m L .0 (s .0);
+        bounded = bounded-exact L .0 (b .0);
+        incident = I;
+        ascends = A;
+        diamond = dyadic-exact L I (ascends-distinct L A) (rank L) .0 (t .1);
+      }
+
+  closed-tested : Closed m L → closed m L .no ≡ 0
+  unfolding closed
+  closed-tested c =
+      no-or _ _ (shape-exact m L .1 (c .shaped))
+      (no-or _ _ (bounded-exact L .1 (c .bounded))
+      (no-or _ _ (incidences-exact L .1 (c .incident))
+      (no-or _ _ (ascent-exact L .1 (c .ascends))
+      (dyadic-exact L (c .incident) (ascends-distinct L (c .ascends)) (rank L) .1 (c .diamond)))))
+
   -- The closed test answers 0 exactly if the listing is closed.
   pub closed-exact : closed m L .no ≡ 0 ↔ Closed m L
-  unfolding closed
-  closed-exact = (there, back)
-    where
-      there : closed m L .no ≡ 0 → Closed m L
-      there e =
-          let s = or-no _ _ e in
-          let b = or-no _ _ (s .1) in
-          let i = or-no _ _ (b .1) in
-          let t = or-no _ _ (i .1) in
-          let I = incidences-exact L .0 (i .0) in
-          let A = ascent-exact L .0 (t .0) in
-          record {
-            shaped = shape-exact m L .0 (s .0);
-            bounded = bounded-exact L .0 (b .0);
-            incident = I;
-            ascends = A;
-            diamond = dyadic-exact L I (ascends-distinct L A) (rank L) .0 (t .1);
-          }
-
-      back : Closed m L → closed m L .no ≡ 0
-      back c =
-          no-or _ _ (shape-exact m L .1 (c .shaped))
-          (no-or _ _ (bounded-exact L .1 (c .bounded))
-          (no-or _ _ (incidences-exact L .1 (c .incident))
-          (no-or _ _ (ascent-exact L .1 (c .ascends))
-          (dyadic-exact L (c .incident) (ascends-distinct L (c .ascends)) (rank L) .1 (c .diamond)))))
+  closed-exact = (tested-closed, closed-tested)
 
 -- one rank more; at the ranks 0 and 1 the diamond asks nothing, since nothing lies two ranks lower
-diamond-more : (L : Listing) (h : ℕ) → Incident L → Diamond L h ↔ (Diamond L (h - 1) × DiamondAt L h)
-unfolding Diamond DiamondAt
+diamond-more : (L : Listing) (h : ℕ) → Incident L → DiamondUpTo L h ↔ (DiamondUpTo L (h - 1) × DiamondAt L h)
+unfolding DiamondUpTo DiamondAt Incident
 diamond-more L h I = (there, back)
   where
-    there : Diamond L h → Diamond L (h - 1) × DiamondAt L h
+    there : DiamondUpTo L h → DiamondUpTo L (h - 1) × DiamondAt L h
     there d = (
       λ r low high. d r low (omega arith),
       λ i x s k b.
-          let p = I .sub-back h i s k (b .0) in
-          let q = I .sub-back (h - 1) s x (p .1) (b .1) in
+          let p = I h i k .lower .each s (b .0) in
+          let q = I (h - 1) s (p .1) .lower .each x (b .1) in
           d h (omega arith) (omega arith) i x s k b,
     )
 
-    back : Diamond L (h - 1) × DiamondAt L h → Diamond L h
+    back : DiamondUpTo L (h - 1) × DiamondAt L h → DiamondUpTo L h
     back p r low high = go (eq-or-lt-of-le high)
       where
         go : (r ≡ h) ⊎ (r < h) → DiamondAt L r

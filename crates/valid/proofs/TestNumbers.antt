@@ -2,16 +2,18 @@
 -- Assumes nothing.
 use mathlib.Core.Bool.{not, _&&_}
 use mathlib.Core.List.{List, [], _∷_}
-use Prim.Native.Nat.{ℕ, _+_, _-_, _*_, _≤_}
+use Prim.Native.Nat.{ℕ, _-_, _≤_}
 use lib.Dec.{leb, ltb, eqb}
 use lib.ListN.{length}
 use native.Mathlib.Omega.{arith}
 use Rattle.order.specs.Lists.{has, occurs}
 use Rattle.listing.specs.declared.Answer.{Answer}
 use Rattle.listing.specs.Answers.{refusal, fine, on}
-use Rattle.listing.specs.Listing.{Listing, rank, count, entries, side, subs, sups}
+use Rattle.listing.specs.Listing.{Listing, rank, count, side, subs, sups}
 use Rattle.listing.proofs.Among.{Among, among-fine, among-or, among-cond, among-is, among-on, among-in, among-of}
-use Rattle.valid_incidence.specs.Incidence.{entryTest, alongTest, elementTest, incidencesTest}
+use Rattle.valid_incidence.specs.declared.incidence.Way.{Way}
+use Rattle.valid_incidence.specs.Ways.{down, up, back, entryTest, alongTest, listTest}
+use Rattle.valid_incidence.specs.Incidence.{elementTest, incidencesTest}
 use Rattle.valid_diamond.specs.Dyadic.{walk, thirdTest, seenAfter, loneTest, sectionsTest, dyadicTest}
 use Rattle.valid.specs.Bounds.{boundedTest}
 use Rattle.valid.specs.Ascent.{climbs, sideAscent, elementAscent, ascentTest}
@@ -31,26 +33,25 @@ bounded-numbers L =
     (count L 0) (count L (rank L)) 0 0
 
 -- Test 2 refuses with a number from 11 to 16.
-entry-numbers : (n : ℕ) (back : List ℕ) (missing notBack r i x : ℕ) → 11 ≤ missing → missing ≤ 16 → 11 ≤ notBack
-    → notBack ≤ 16 → Among 11 16 (entryTest n back missing notBack r i x)
-unfolding entryTest
-entry-numbers n back missing notBack r i x p q u v =
-    among-cond (ltb x n) (on (not (has back i)) (refusal notBack r i x 0)) (refusal missing r i x 0)
-    (among-on notBack u v (not (has back i)) r i x 0) (among-is missing p q r i x 0)
+-- the refusals of a way do
+abbrev Numbered : Way → Type 0
+Numbered w =
+    (11 ≤ w .none) × (w .none ≤ 16) × (11 ≤ w .missing) × (w .missing ≤ 16) × (11 ≤ w .oneway) × (w .oneway ≤ 16)
 
-along-numbers : (ends inc : List ℕ) (n b s missing notBack r i : ℕ) (l : List ℕ) → 11 ≤ missing → missing ≤ 16
-    → 11 ≤ notBack → notBack ≤ 16 → Among 11 16 (alongTest ends inc n b s missing notBack r i l)
-unfolding alongTest
-along-numbers ends inc n b s missing notBack r i l p q u v =
-    among-in _ (λ x. entry-numbers n (entries ends inc (2 * (b + x) + s)) missing notBack r i x p q u v) l
+list-numbers : (ends inc : List ℕ) (w : Way) → Numbered w → (r i : ℕ) (l : List ℕ)
+    → Among 11 16 (listTest ends inc w r i l)
+unfolding listTest alongTest entryTest
+list-numbers ends inc w n r i l =
+    among-or (among-on (w .none) (n .0) (n .1) (w .asked && eqb (length l) 0) r i 0 0)
+    (among-in _ (λ x. among-cond (ltb x (w .size)) (on (not (has (back ends inc w x) i)) (refusal (w .oneway) r i x 0))
+    (refusal (w .missing) r i x 0) (among-on (w .oneway) (n .4) (n .5) (not (has (back ends inc w x) i)) r i x 0)
+    (among-is (w .missing) (n .2) (n .3) r i x 0)) l)
 
 element-numbers : (L : Listing) (r i : ℕ) → Among 11 16 (elementTest L r i)
 unfolding elementTest
 element-numbers L r i =
-    among-or (among-on 11 (omega arith) (omega arith) (ltb 0 r && eqb (length (subs L r i)) 0) r i 0 0)
-    (among-or (along-numbers _ _ _ _ _ 15 13 r i _ (omega arith) (omega arith) (omega arith) (omega arith))
-    (among-or (among-on 12 (omega arith) (omega arith) (ltb r (rank L) && eqb (length (sups L r i)) 0) r i 0 0)
-    (along-numbers _ _ _ _ _ 16 14 r i _ (omega arith) (omega arith) (omega arith) (omega arith))))
+    among-or (list-numbers _ _ (down L r) (omega arith) r i (subs L r i))
+    (list-numbers _ _ (up L r) (omega arith) r i (sups L r i))
 
 pub incidence-numbers : (L : Listing) → Among 11 16 (incidencesTest L)
 unfolding incidencesTest

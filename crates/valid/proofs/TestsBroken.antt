@@ -13,7 +13,7 @@ use Rattle.listing.proofs.Broken.{Tests, broken-last, broken-step, broken-inner
 use Rattle.listing.proofs.ShapeBroken.{or-nothing, shape-broken}
 use Rattle.valid_incidence.specs.Incidence.{Incident, incidencesTest}
 use Rattle.valid_incidence.proofs.IncidenceExact.{incidences-exact}
-use Rattle.valid_diamond.specs.Dyadic.{MetTwice, Diamond, dyadicTest}
+use Rattle.valid_diamond.specs.Dyadic.{MetTwice, DiamondUpTo, dyadicTest}
 use Rattle.valid_diamond.proofs.DyadicExact.{dyadic-counts, dyadic-exact}
 use Rattle.valid.specs.Bounds.{Bounded, boundedTest}
 use Rattle.valid.specs.Ascent.{Ascends, ascentTest}
@@ -40,7 +40,7 @@ module _ (L : Listing) where
     numbers = dyadic-numbers L (rank L - 1) .numbers;
   }
 
-  diamond-tested : Incident L → Ascends L → Tests 17 18 (Diamond L (rank L)) (dyadicTest L (rank L))
+  diamond-tested : Incident L → Ascends L → Tests 17 18 (DiamondUpTo L (rank L)) (dyadicTest L (rank L))
   diamond-tested I A = record {
     exact = dyadic-exact L I (ascends-distinct L A) (rank L);
     numbers = dyadic-numbers L (rank L) .numbers;

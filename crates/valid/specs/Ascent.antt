@@ -4,7 +4,8 @@
 -- sideAscent      refusal 19 at a list of an element that does not strictly ascend
 -- elementAscent   the same at an element: its subs, then its sups
 -- ascentTest      refusal 19 at the first list, by rank, index, subs before sups, that does not strictly ascend
--- Ascends         each list of each element strictly ascends
+-- AscendsAt       what the ascent test asks of an element: its subs and its sups strictly ascend
+-- Ascends         the same of every element
 use mathlib.Core.Bool.{Bool, true, not, _&&_}
 use mathlib.Core.List.{List, [], _∷_}
 use Prim.Native.Nat.{ℕ, _+_, _<_}
@@ -29,5 +30,8 @@ elementAscent L r i = sideAscent L r i 0 orElse sideAscent L r i 1
 unfoldable pub ascentTest : Listing → Answer
 ascentTest L = firstOf (λ r. firstOf (elementAscent L r) 0 (count L r)) 0 (length (L .counts))
 
+abbrev pub AscendsAt : Listing → ℕ → ℕ → Type 0
+AscendsAt L r i = (s : ℕ) → s < 2 → Ascending (side L s r i)
+
 unfoldable pub Ascends : Listing → Type 0
-Ascends L = (s r i : ℕ) → s < 2 → i < count L r → Ascending (side L s r i)
+Ascends L = (r i : ℕ) → i < count L r → AscendsAt L r i

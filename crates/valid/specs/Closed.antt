@@ -4,7 +4,7 @@
 use Rattle.listing.specs.Listing.{Listing, Limits, rank}
 use Rattle.listing.specs.Shape.{Shaped}
 use Rattle.valid_incidence.specs.Incidence.{Incident}
-use Rattle.valid_diamond.specs.Dyadic.{Diamond}
+use Rattle.valid_diamond.specs.Dyadic.{DiamondUpTo}
 use Rattle.valid.specs.Bounds.{Bounded}
 use Rattle.valid.specs.Ascent.{Ascends}
 
@@ -13,4 +13,4 @@ pub record Closed (m : Limits) (L : Listing) : Type 0 where
   pub bounded : Bounded L
   pub incident : Incident L
   pub ascends : Ascends L
-  pub diamond : Diamond L (rank L)
+  pub diamond : DiamondUpTo L (rank L)

@@ -12,7 +12,7 @@ use Rattle.listing.specs.Refusals.{notBounded, noSubs, supMissing, thirdBetween
 use Rattle.listing.specs.Listing.{Listing, Limits, rank}
 use Rattle.listing.specs.Rules.{Rule, rules, rule, shapeRules}
 use Rattle.valid_incidence.specs.Incidence.{Incident}
-use Rattle.valid_diamond.specs.Dyadic.{MetTwice, Diamond}
+use Rattle.valid_diamond.specs.Dyadic.{MetTwice, DiamondUpTo}
 use Rattle.valid.specs.Bounds.{Bounded}
 use Rattle.valid.specs.Ascent.{Ascends}
 
@@ -30,7 +30,7 @@ module _ (L : Listing) where
   belowTopRule = rules thirdBetween loneBetween (MetTwice L (rank L - 1))
 
   abbrev pub upToTopRule : Rule
-  upToTopRule = rules thirdBetween loneBetween (Diamond L (rank L))
+  upToTopRule = rules thirdBetween loneBetween (DiamondUpTo L (rank L))
 
 module _ (m : Limits) (L : Listing) where
   abbrev pub boundedRules : List Rule

@@ -35,7 +35,7 @@ fn check_side(
     inc: &[Index],
     here: usize,
     r: usize,
-    i: u16,
+    i: Index,
     s: usize,
 ) -> Answer
     requires { ⌜ Shaped limits (held counts ends inc) ⌝ }
@@ -47,9 +47,9 @@ fn check_side(
     } else {
         Answer {
             no: refusal::NOT_ASCENDING,
-            a: r as u16,
+            a: r as Index,
             b: i,
-            c: s as u16,
+            c: s as Index,
             d: 0,
         }
     }
@@ -62,7 +62,7 @@ fn check_element(
     inc: &[Index],
     here: usize,
     r: usize,
-    i: u16,
+    i: Index,
 ) -> Answer
     requires { ⌜ Shaped limits (held counts ends inc) ⌝ }
     requires { ⌜ (here ≡ before (now counts) r) × (i < getD (now counts) r 0) ⌝ }
@@ -84,7 +84,7 @@ fn check_rank(counts: &[Index], ends: &[Index], inc: &[Index], here: usize, r: u
         (getD (now (counts .entry)) r 0) ⌝ }
 {
     let n = counts[r];
-    let mut i: u16 = 0;
+    let mut i: Index = 0;
     while i < n {
         let a = check_element(counts, ends, inc, here, r, i);
         if a.no != 0 {

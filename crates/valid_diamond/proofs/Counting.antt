@@ -6,32 +6,18 @@ use mathlib.Core.Bool.{Bool, true, false}
 use mathlib.Core.List.{List, [], _∷_}
 use Prim.Native.Nat.{ℕ, _+_, _-_, _≤_, _<_}
 use native.Mathlib.Omega.{arith}
-use borrow.Author.Tests.{eqb-true, eqb-false, eq-eqb, ne-eqb, leb-false, lt-leb}
+use borrow.Author.Tests.{eqb-true, eqb-false, ne-eqb, leb-false, lt-leb}
 use lib.Dec.{leb, eqb}
 use Rattle.order.specs.Lists.{In, occurs}
-use Rattle.order.proofs.Lists.{in?, occurs-none, occurs-some, occurs-append}
+use Rattle.order.proofs.Lists.{in?, occurs-none, occurs-some, occurs-nil, occurs-cons, occurs-own, occurs-apart}
 use Rattle.listing.specs.declared.Answer.{Answer}
 use Rattle.listing.specs.Answers.{on}
 use Rattle.listing.specs.Listing.{Listing, count}
 use Rattle.listing.proofs.Answers.{or-no, no-or, on-no, on-off, of-each, of-all}
-use Rattle.valid_diamond.specs.Dyadic.{walk, thirdTest, seenAfter, loneTest, third, lone, sectionsTest}
+use Rattle.valid_diamond.specs.Dyadic.{walk, thirdTest, seenAfter, loneTest, third, lone}
+use Rattle.valid_diamond.specs.Dyadic.{sectionsTest, MetTwiceAt}
 
 -- ---- occurrences
-
-pub occurs-nil : (x : ℕ) → occurs x [] ≡ 0
-unfolding occurs
-occurs-nil x = refl
-
-pub occurs-cons : (x y : ℕ) (l : List ℕ) → occurs x (y ∷ l) ≡ occurs x (y ∷ []) + occurs x l
-occurs-cons x y l = occurs-append x (y ∷ []) l
-
-pub occurs-own : (x : ℕ) → occurs x (x ∷ []) ≡ 1
-unfolding occurs
-occurs-own x = rw (eq-eqb x x refl)
-
-occurs-other : (x y : ℕ) → (y ≡ x → ⊥) → occurs x (y ∷ []) ≡ 0
-unfolding occurs
-occurs-other x y h = rw (ne-eqb y x h)
 
 seen-occurs : (x : ℕ) (s l : List ℕ) → occurs x (seenAfter s l) ≡ occurs x s + occurs x l
 unfolding seenAfter
@@ -46,7 +32,7 @@ still x y s h k = go (eqb y x) refl
     go true e =
         let q = ap (λ (z : ℕ). occurs z (y ∷ s)) (eqb-true y x e) in
         omega (arith, q, occurs-cons y y s, occurs-own y)
-    go false e = omega (arith, occurs-cons x y s, occurs-other x y (eqb-false y x e))
+    go false e = omega (arith, occurs-cons x y s, occurs-apart x y (eqb-false y x e))
 
 -- ---- the two tests of a walk, for refusals that are refusals
 
@@ -82,14 +68,11 @@ module _ (f : ℕ → Answer) (bad : (x : ℕ) → f x .no ≡ 0 → ⊥) where
 -- ---- one element
 
 module _ (L : Listing) (r i : ℕ) where
-  abbrev Met : Type 0
-  Met = (x : ℕ) → In x (walk L r i) → occurs x (walk L r i) ≡ 2
-
   -- what has been seen at the end of the walk
   pub all-seen : (x : ℕ) → occurs x (seenAfter [] (walk L r i)) ≡ occurs x (walk L r i)
   all-seen x = omega (arith, seen-occurs x [] (walk L r i), occurs-nil x)
 
-  met-all : sectionsTest L r i .no ≡ 0 → ((x : ℕ) → In x (walk L r i) → x < count L (r - 2)) → Met
+  met-all : sectionsTest L r i .no ≡ 0 → ((x : ℕ) → In x (walk L r i) → x < count L (r - 2)) → MetTwiceAt L r i
   unfolding sectionsTest
   met-all e there x m =
       let p = or-no _ _ e in
@@ -98,14 +81,14 @@ module _ (L : Listing) (r i : ℕ) where
       let c : occurs x (walk L r i) ≡ 1 → ⊥ = λ q. b (all-seen x ∙ q) in
       omega (arith, occurs-some x (walk L r i) .1 m, occurs-nil x)
 
-  none-or-two : Met → (x : ℕ) → (occurs x (walk L r i) ≡ 0) ⊎ (occurs x (walk L r i) ≡ 2)
+  none-or-two : MetTwiceAt L r i → (x : ℕ) → (occurs x (walk L r i) ≡ 0) ⊎ (occurs x (walk L r i) ≡ 2)
   none-or-two a x = go (in? x (walk L r i))
     where
       go : Dec (In x (walk L r i)) → (occurs x (walk L r i) ≡ 0) ⊎ (occurs x (walk L r i) ≡ 2)
       go (yes m) = inr (a x m)
       go (no m) = inl (occurs-none x (walk L r i) .1 m)
 
-  all-met : Met → sectionsTest L r i .no ≡ 0
+  all-met : MetTwiceAt L r i → sectionsTest L r i .no ≡ 0
   unfolding sectionsTest
   all-met a =
       no-or _ _ (third-all (third r i) (λ y z. omega arith) [] (walk L r i) few)
@@ -119,5 +102,5 @@ module _ (L : Listing) (r i : ℕ) where
 
   -- the premise: what the walk meets is there
   pub sections-exact : ((x : ℕ) → In x (walk L r i) → x < count L (r - 2))
-      → sectionsTest L r i .no ≡ 0 ↔ ((x : ℕ) → In x (walk L r i) → occurs x (walk L r i) ≡ 2)
+      → sectionsTest L r i .no ≡ 0 ↔ MetTwiceAt L r i
   sections-exact there = (λ e. met-all e there, all-met)

@@ -2,7 +2,7 @@
 -- where moreover no list holds an index twice, exactly if the diamond holds at the ranks that it looks at.
 -- Assumes nothing.
 use mathlib.Core.Path.{_≡_, refl, sym, _∙_}
-use mathlib.Core.Logic.{_↔_, Iff·symm, Iff·trans, _⊎_, inl, inr}
+use mathlib.Core.Logic.{_↔_, Iff·trans, _⊎_, inl, inr}
 use mathlib.Core.Bool.{Bool, true, false, cond}
 use mathlib.Core.List.{List, [], _∷_}
 use Prim.Native.Nat.{ℕ, _+_, _-_, _≤_, _<_}
@@ -10,15 +10,18 @@ use native.Mathlib.Omega.{arith}
 use lib.ListN.{length}
 use Rattle.order.specs.Lists.{In, has, occurs}
 use Rattle.order.proofs.Lists.{append-in, in-left, in-right, has-yes, has-no}
-use Rattle.order.proofs.Lists.{occurs-none, occurs-some, occurs-append}
+use Rattle.order.proofs.Lists.{occurs-none, occurs-some, occurs-append, occurs-nil}
+use Rattle.order.proofs.Once.{Once, keep, in-keep, once-keep}
 use Rattle.listing.specs.Listing.{Listing, count, before, subs}
 use Rattle.valid_incidence.specs.Incidence.{Incident}
-use Rattle.valid_incidence.proofs.Sequences.{elements-exact}
+use Rattle.order.specs.Diamond.{OneOther}
+use Rattle.order.proofs.Renumbering.{OneOther·same}
+use Rattle.listing.proofs.Elements.{ranks-exact}
 use Rattle.valid_diamond.specs.Dyadic.{subsOfAll, walk, sectionsTest, dyadicTest}
-use Rattle.valid_diamond.specs.Dyadic.{Between, Two, DiamondAt, Diamond, Distinct, MetTwice}
+use Rattle.valid_diamond.specs.Dyadic.{LiesBetween, DiamondAt, DiamondUpTo, Distinct, MetTwiceAt, MetTwice}
 use Rattle.valid_diamond.proofs.Walks.{subsOf}
-use Rattle.valid_diamond.proofs.Counting.{occurs-nil, sections-exact}
-use Rattle.valid_diamond.proofs.Twos.{Once, keep, in-keep, once-keep, two-exact, two-map}
+use Rattle.valid_diamond.proofs.Counting.{sections-exact}
+use Rattle.valid_diamond.proofs.Twos.{two-exact}
 
 -- ---- what a walk meets
 
@@ -65,28 +68,28 @@ module _ (ends inc : List ℕ) (b x : ℕ) where
 module _ (L : Listing) (I : Incident L) where
   -- what lies two ranks lower is there
   pub there : (r i x : ℕ) → i < count L r → In x (walk L r i) → x < count L (r - 2)
+  unfolding Incident
   there r i x h m =
       let p = in-walk (L .ends) (L .inc) (before (L .counts) (r - 1)) x (subs L r i) m in
+      let k = I r i h .lower .each (p .0) (p .1) .1 in
       let e : r - 1 - 1 ≡ r - 2 = omega arith in
-      rw e at (I .sub-back (r - 1) (p .0) x (I .sub-back r i (p .0) h (p .1) .1) (p .2) .1)
+      rw e at (I (r - 1) (p .0) k .lower .each x (p .2) .1)
 
   -- Where test 2 passes, test 3 answers 0 exactly if each index that a walk meets is met twice.
   pub dyadic-counts : (h : ℕ) → dyadicTest L h .no ≡ 0 ↔ MetTwice L h
   unfolding dyadicTest MetTwice
   dyadic-counts h =
-      let e = elements-exact L (sectionsTest L) 2 (h + 1) in (
-        λ z r i x low high k m. sections-exact L r i (λ y. there r i y k) .0 (e .0 z r i low (omega arith) k) x m,
-        λ a. e .1 (λ r i low high k.
-            sections-exact L r i (λ y. there r i y k) .1 (λ x m. a r i x low (omega arith) k m)),
-      )
+      let e = ranks-exact L (sectionsTest L) (MetTwiceAt L) (λ r i k. sections-exact L r i (λ y. there r i y k))
+      2 (h + 1) in
+      (λ z r i low high. e .0 z r i low (omega arith), λ a. e .1 (λ r i low high. a r i low (omega arith)))
 
 -- ---- the diamond
 
 -- an element's subs that lie over x
-abbrev pub over : Listing → ℕ → ℕ → ℕ → List ℕ
-over L r i x = keep (λ s. has (subs L (r - 1) s) x) (subs L r i)
+abbrev pub subsOver : Listing → ℕ → ℕ → ℕ → List ℕ
+subsOver L r i x = keep (λ s. has (subs L (r - 1) s) x) (subs L r i)
 
-pub over-between : (L : Listing) (r i x s : ℕ) → In s (over L r i x) ↔ Between L r i x s
+pub over-between : (L : Listing) (r i x s : ℕ) → In s (subsOver L r i x) ↔ LiesBetween L r i x s
 over-between L r i x s = (
   λ m. let p = in-keep _ s (subs L r i) .0 m in (p .0, has-yes x (subs L (r - 1) s) .0 (p .1)),
   λ b. in-keep _ s (subs L r i) .1 (b .0, has-yes x (subs L (r - 1) s) .1 (b .1)),
@@ -94,35 +97,41 @@ over-between L r i x s = (
 
 module _ (L : Listing) (I : Incident L) (D : Distinct L) where
   module _ (r i x : ℕ) (k : i < count L r) where
-    pub over-once : Once (over L r i x)
+    pub over-once : Once (subsOver L r i x)
     unfolding Distinct
     over-once = once-keep _ (subs L r i) (λ s. D 0 r i s (omega arith) k)
 
-    pub met-over : occurs x (walk L r i) ≡ length (over L r i x)
-    unfolding Distinct
+    pub met-over : occurs x (walk L r i) ≡ length (subsOver L r i x)
+    unfolding Distinct Incident
     met-over =
         walk-occurs (L .ends) (L .inc) (before (L .counts) (r - 1)) x (subs L r i)
-        (λ s m. D 0 (r - 1) s x (omega arith) (I .sub-back r i s k m .1))
+        (λ s m. D 0 (r - 1) s x (omega arith) (I r i k .lower .each s m .1))
 
-    -- met twice: exactly two lie between
-    twice-two : occurs x (walk L r i) ≡ 2 ↔ Two (Between L r i x)
-    twice-two =
-        let t = two-exact (over L r i x) over-once in (
-          λ e. two-map (over-between L r i x) (t .0 (sym met-over ∙ e)),
-          λ p. met-over ∙ t .1 (two-map (λ s. Iff·symm (over-between L r i x s)) p),
+    -- met twice: beside one that lies between, exactly one other does
+    twice-two : (s : ℕ) → LiesBetween L r i x s → occurs x (walk L r i) ≡ 2 ↔ OneOther (LiesBetween L r i x) s
+    twice-two s b =
+        let e = over-between L r i x in
+        let t = two-exact (subsOver L r i x) over-once s (e s .1 b) in (
+          λ w.
+              OneOther·same (λ y. In y (subsOver L r i x)) (LiesBetween L r i x) s (λ y. e y .0) (λ y. e y .1)
+              (t .0 (sym met-over ∙ w)),
+          λ o.
+              met-over
+              ∙ t .1
+              (OneOther·same (LiesBetween L r i x) (λ y. In y (subsOver L r i x)) s (λ y. e y .1) (λ y. e y .0) o),
         )
 
-  pub twice-diamond : (h : ℕ) → MetTwice L h ↔ Diamond L h
-  unfolding MetTwice Diamond DiamondAt
+  pub twice-diamond : (h : ℕ) → MetTwice L h ↔ DiamondUpTo L h
+  unfolding MetTwice DiamondUpTo DiamondAt
   twice-diamond h = (
     λ a r low high i x s k b.
         let m = walk-in (L .ends) (L .inc) _ x s (subs L r i) (b .0) (b .1) in
-        twice-two r i x k .0 (a r i x low high k m),
-    λ a r i x low high k m.
+        twice-two r i x k s b .0 (a r i low high k x m),
+    λ a r i low high k x m.
         let p = in-walk (L .ends) (L .inc) (before (L .counts) (r - 1)) x (subs L r i) m in
-        twice-two r i x k .1 (a r low high i x (p .0) k (p .1, p .2)),
+        twice-two r i x k (p .0) (p .1, p .2) .1 (a r low high i x (p .0) k (p .1, p .2)),
   )
 
   -- Where test 2 passes and no list holds an index twice, test 3 answers 0 exactly if the diamond holds.
-  pub dyadic-exact : (h : ℕ) → dyadicTest L h .no ≡ 0 ↔ Diamond L h
+  pub dyadic-exact : (h : ℕ) → dyadicTest L h .no ≡ 0 ↔ DiamondUpTo L h
   dyadic-exact h = Iff·trans (dyadic-counts L I h) (twice-diamond h)

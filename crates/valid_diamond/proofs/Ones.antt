@@ -4,15 +4,15 @@
 use mathlib.Core.Path.{_≡_, refl, sym, ap, _∙_}
 use mathlib.Core.Bool.{Bool, true, false, cond}
 use mathlib.Core.List.{List, [], _∷_}
-use Prim.Native.Nat.{ℕ, zero, suc, _+_, _-_, _*_, _≤_, _<_}
+use Prim.Native.Nat.{ℕ, zero, suc, _+_, _*_, _≤_, _<_}
 use native.Mathlib.Nat.{le-of-suc-le-suc}
 use native.Mathlib.Omega.{arith}
 use borrow.Author.Tests.{ne-eqb}
 use lib.Dec.{eqb}
 use lib.ListN.{length, getD, set, length-set, replicate, length-replicate}
 use Rattle.listing.specs.declared.Answer.{Answer}
-use Rattle.listing.specs.Answers.{fine, on, firstFor, firstOf}
-use Rattle.listing.proofs.Answers.{or-fine}
+use Rattle.listing.specs.Answers.{fine, on}
+use Rattle.listing.proofs.Answers.{of-fine}
 use Rattle.valid_diamond.specs.Tally.{ones, LoneCount, loneIn}
 
 -- what one count adds
@@ -89,13 +89,8 @@ module _ {n : ℕ} (t : List ℕ) (k : ℕ) (C : LoneCount n t k) where
 
 -- ---- where none is 1
 
-all-fine : (f : ℕ → Answer) → ((k : ℕ) → f k ≡ fine) → (d i : ℕ) → firstFor f i d ≡ fine
-unfolding firstFor
-all-fine f e zero i = refl
-all-fine f e (suc d) i = or-fine (f i) _ (ap (λ (a : Answer). a .no) (e i)) ∙ all-fine f e d (suc i)
-
 pub lone-none : {n : ℕ} (f : ℕ → Answer) (t : List ℕ) (m : ℕ) → LoneCount n t 0 → loneIn f t m ≡ fine
-unfolding loneIn firstOf
+unfolding loneIn
 lone-none f t m C =
     let z = sym (C .once) in
-    all-fine _ (λ x. ap (λ (b : Bool). on b (f x)) (ne-eqb (getD t x 0) 1 (none-one t x z))) (m - 0) 0
+    of-fine _ (λ x. ap (λ (b : Bool). on b (f x)) (ne-eqb (getD t x 0) 1 (none-one t x z))) 0 m

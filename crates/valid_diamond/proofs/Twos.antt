@@ -1,67 +1,14 @@
--- Lists that hold each number once: what a test keeps of them, and when they hold exactly two.
+-- Exactly two numbers: of a list that holds each number once, and the other of the two.
 -- Assumes nothing.
 use mathlib.Core.Path.{_≡_, refl, sym, ap, _∙_}
-use mathlib.Core.Logic.{_↔_, _⊎_, inl, inr, ⊎-elim}
-use mathlib.Core.Bool.{Bool, true, false, true≢false, cond}
+use mathlib.Core.Logic.{_↔_, _⊎_, inl, inr, ⊎-elim, ⊎-swap}
 use mathlib.Core.List.{List, [], _∷_}
-use Prim.Native.Nat.{ℕ, _≤_}
+use Prim.Native.Nat.{ℕ}
 use native.Mathlib.Omega.{arith}
 use lib.ListN.{length}
-use Rattle.order.specs.Lists.{In, occurs}
-use Rattle.order.proofs.Lists.{occurs-some}
-use Rattle.valid_diamond.specs.Dyadic.{Two}
-use Rattle.valid_diamond.proofs.Counting.{occurs-cons, occurs-own}
-
--- no number more than once
-abbrev pub Once : List ℕ → Type 0
-Once l = (x : ℕ) → occurs x l ≤ 1
-
-pub once-tail : (y : ℕ) (l : List ℕ) → Once (y ∷ l) → Once l
-once-tail y l h x = omega (arith, h x, occurs-cons x y l)
-
--- the head does not come again
-pub once-head : (x : ℕ) (l : List ℕ) → Once (x ∷ l) → ¬ In x l
-once-head x l h m = omega (arith, h x, occurs-cons x x l, occurs-own x, occurs-some x l .1 m)
-
--- ---- what a test keeps
-
-module _ (P : ℕ → Bool) where
-  unfoldable pub keep : List ℕ → List ℕ
-  keep [] = []
-  keep (x ∷ l) = cond (P x) (x ∷ keep l) (keep l)
-
-  pub in-keep : (s : ℕ) (l : List ℕ) → In s (keep l) ↔ (In s l × (P s ≡ true))
-  unfolding keep In
-  in-keep s [] = (λ m. absurd m, λ p. p .0)
-  in-keep s (x ∷ l) = go (P x) refl (in-keep s l)
-    where
-      go : (b : Bool) → P x ≡ b → In s (keep l) ↔ (In s l × (P s ≡ true))
-          → In s (cond (P x) (x ∷ keep l) (keep l)) ↔ (((s ≡ x) ⊎ In s l) × (P s ≡ true))
-      go true e ih =
-          rw e (
-            ⊎-elim (λ q. (inl q, rw q e)) (λ m. let p = ih .0 m in (inr (p .0), p .1)),
-            λ p. ⊎-elim (λ q. inl q) (λ m. inr (ih .1 (m, p .1))) (p .0),
-          )
-      go false e ih =
-          rw e (
-            λ m. let p = ih .0 m in (inr (p .0), p .1),
-            λ p. ⊎-elim (λ q. absurd (true≢false (sym (p .1) ∙ ap P q ∙ e))) (λ m. ih .1 (m, p .1)) (p .0),
-          )
-
-  occurs-keep : (s : ℕ) (l : List ℕ) → occurs s (keep l) ≤ occurs s l
-  unfolding keep
-  occurs-keep s [] = omega arith
-  occurs-keep s (x ∷ l) = go (P x) refl (occurs-keep s l)
-    where
-      go : (b : Bool) → P x ≡ b → occurs s (keep l) ≤ occurs s l
-          → occurs s (cond (P x) (x ∷ keep l) (keep l)) ≤ occurs s (x ∷ l)
-      go true e ih = rw e (omega (arith, occurs-cons s x l, occurs-cons s x (keep l)))
-      go false e ih = rw e (omega (arith, occurs-cons s x l))
-
-  pub once-keep : (l : List ℕ) → Once l → Once (keep l)
-  once-keep l h x = omega (arith, h x, occurs-keep x l)
-
--- ---- exactly two
+use Rattle.order.specs.Lists.{In}
+use Rattle.order.specs.Diamond.{OneOther}
+use Rattle.order.proofs.Once.{Once, once-tail, once-head}
 
 -- of three numbers that are one of two, two are equal
 pigeons : (p q a b c : ℕ) → (a ≡ p) ⊎ (a ≡ q) → (b ≡ p) ⊎ (b ≡ q) → (c ≡ p) ⊎ (c ≡ q)
@@ -73,55 +20,56 @@ pigeons p q a b c (inr x) (inl y) (inl z) = inr (inr (y ∙ sym z))
 pigeons p q a b c (inr x) (inl y) (inr z) = inr (inl (x ∙ sym z))
 pigeons p q a b c (inr x) (inr y) z = inl (x ∙ sym y)
 
-two-of : (l : List ℕ) → Once l → length l ≡ 2 → Two (λ x. In x l)
+two-of : (l : List ℕ) → Once l → length l ≡ 2 → (y : ℕ) → In y l → OneOther (λ x. In x l) y
 unfolding In
-two-of [] h e = absurd (omega arith)
-two-of (a ∷ []) h e = absurd (omega arith)
-two-of (a ∷ b ∷ []) h e = record {
-  one = a;
-  two = b;
-  apart = λ q. once-head a (b ∷ []) h (inl q);
-  first = inl refl;
-  second = inr (inl refl);
-  no-third = go;
-}
+two-of [] h e y m = absurd m
+two-of (a ∷ []) h e y m = absurd (omega arith)
+two-of (a ∷ b ∷ []) h e y m = go m
   where
-    go : (w : ℕ) → In w (a ∷ b ∷ []) → (w ≡ a) ⊎ (w ≡ b)
-    go w (inl q) = inl q
-    go w (inr (inl q)) = inr q
-    go w (inr (inr m)) = absurd m
-two-of (a ∷ b ∷ c ∷ l) h e = absurd (omega arith)
+    apart : a ≡ b → ⊥
+    apart q = once-head a (b ∷ []) h (inl q)
 
-of-two : (l : List ℕ) → Once l → Two (λ x. In x l) → length l ≡ 2
+    either : (w : ℕ) → In w (a ∷ b ∷ []) → (w ≡ a) ⊎ (w ≡ b)
+    either w (inl q) = inl q
+    either w (inr (inl q)) = inr q
+    either w (inr (inr n)) = absurd n
+
+    go : In y (a ∷ b ∷ []) → OneOther (λ x. In x (a ∷ b ∷ [])) y
+    go (inl p) = record {
+      other = b;
+      differs = λ q. apart (sym (q ∙ p));
+      holds = inr (inl refl);
+      only = λ w k. rw p (either w k);
+    }
+    go (inr (inl p)) = record {
+      other = a;
+      differs = λ q. apart (q ∙ p);
+      holds = inl refl;
+      only = λ w k. rw p (⊎-swap (either w k));
+    }
+    go (inr (inr n)) = absurd n
+two-of (a ∷ b ∷ c ∷ l) h e y m = absurd (omega arith)
+
+of-two : (l : List ℕ) → Once l → (y : ℕ) → In y l → OneOther (λ x. In x l) y → length l ≡ 2
 unfolding In
-of-two [] h t = absurd (t .first)
-of-two (a ∷ []) h t = absurd (go (t .first) (t .second))
+of-two [] h y m o = absurd m
+of-two (a ∷ []) h y m o = absurd (go m (o .holds))
   where
-    go : (t .one ≡ a) ⊎ ⊥ → (t .two ≡ a) ⊎ ⊥ → ⊥
-    go (inl p) (inl q) = t .apart (p ∙ sym q)
-    go (inl p) (inr m) = m
-    go (inr m) q = m
-of-two (a ∷ b ∷ []) h t = refl
-of-two (a ∷ b ∷ c ∷ l) h t =
-    let p = t .no-third a (inl refl) in
-    let q = t .no-third b (inr (inl refl)) in
-    absurd (go (pigeons _ _ a b c p q (t .no-third c (inr (inr (inl refl))))))
+    go : (y ≡ a) ⊎ ⊥ → (o .other ≡ a) ⊎ ⊥ → ⊥
+    go (inl p) (inl q) = o .differs (q ∙ sym p)
+    go (inl p) (inr n) = n
+    go (inr n) q = n
+of-two (a ∷ b ∷ []) h y m o = refl
+of-two (a ∷ b ∷ c ∷ l) h y m o =
+    let p = o .only a (inl refl) in
+    let q = o .only b (inr (inl refl)) in
+    absurd (go (pigeons _ _ a b c p q (o .only c (inr (inr (inl refl))))))
   where
     go : (a ≡ b) ⊎ ((a ≡ c) ⊎ (b ≡ c)) → ⊥
     go (inl e) = once-head a (b ∷ c ∷ l) h (inl e)
     go (inr (inl e)) = once-head a (b ∷ c ∷ l) h (inr (inl e))
     go (inr (inr e)) = once-head b (c ∷ l) (once-tail a (b ∷ c ∷ l) h) (inl e)
 
--- A list that holds each number once has length two exactly if exactly two numbers stand in it.
-pub two-exact : (l : List ℕ) → Once l → length l ≡ 2 ↔ Two (λ x. In x l)
-two-exact l h = (two-of l h, of-two l h)
-
-pub two-map : {P Q : ℕ → Type 0} → ((x : ℕ) → P x ↔ Q x) → Two P → Two Q
-two-map e t = record {
-  one = t .one;
-  two = t .two;
-  apart = t .apart;
-  first = e (t .one) .0 (t .first);
-  second = e (t .two) .0 (t .second);
-  no-third = λ w q. t .no-third w (e w .1 q);
-}
+-- A list that holds each number once has length two exactly if beside one of its numbers exactly one other stands in it.
+pub two-exact : (l : List ℕ) → Once l → (y : ℕ) → In y l → length l ≡ 2 ↔ OneOther (λ x. In x l) y
+two-exact l h y m = (λ e. two-of l h e y m, of-two l h y m)

@@ -11,16 +11,15 @@ use borrow.Author.Tests.{eqb-true, eqb-false, eq-eqb, ne-eqb, le-leb, lt-leb}
 use lib.Dec.{leb, eqb}
 use lib.ListN.{length, getD, take, drop, set, length-set, replicate, length-replicate, getD-replicate}
 use lib.Seq.{take-suc, take-all, split-at, getD-set-same, getD-set-other}
-use Rattle.order.specs.Lists.{occurs}
+use Rattle.order.specs.Lists.{In, occurs}
 use Rattle.listing.specs.Answers.{fine, on, _orElse_, firstOf}
 use Rattle.listing.specs.Listing.{Listing, Limits, count, before, entries, subs}
 use Rattle.listing.specs.Shape.{Shaped}
 use Rattle.listing.specs.declared.Answer.{Answer}
 use Rattle.listing.proofs.Answers.{or-fine, or-stop, or-no, no-or, on-off, stops, then-stop, then-go}
-use Rattle.listing.proofs.Answers.{of-stop, of-next, of-end}
+use Rattle.listing.proofs.Answers.{of-stop, of-next, of-end, or-assoc, of-same}
 use Rattle.valid_incidence.specs.Incidence.{Incident}
-use Rattle.valid_incidence.proofs.Places.{side-fits, few-in-rank}
-use Rattle.valid_incidence.proofs.Sequences.{or-assoc, of-same}
+use Rattle.listing.proofs.Places.{side-fits, few-in-rank}
 use Rattle.valid_diamond.specs.Dyadic.{subsOfAll, walk, thirdTest, seenAfter, loneTest, third, lone}
 use Rattle.valid_diamond.specs.Dyadic.{sectionsTest, dyadicTest}
 use Rattle.valid_diamond.specs.Tally.{Tally, Tallied, loneIn, Walkable}
@@ -37,7 +36,7 @@ module _ (f : ℕ → Answer) where
   unfolding thirdTest seenAfter
   third-append s [] b = sym (or-fine fine _ refl)
   third-append s (x ∷ a) b =
-      ap (λ (t : Answer). on (leb 2 (occurs x s)) (f x) orElse t) (third-append (x ∷ s) a b) ∙ sym (or-assoc _ _ _)
+      ap (λ (t : Answer). on (leb 2 (occurs x s)) (f x) orElse t) (third-append (x ∷ s) a b) ∙ or-assoc _ _ _
 
   -- with no refusal there is nothing to carry
   third-fine : (s l : List ℕ) → thirdTest f s l .no ≡ 0 → thirdTest f s l ≡ fine
@@ -194,12 +193,15 @@ module _ (ends inc : List ℕ) (b : ℕ) where
 -- where test 2 passes, the subs of an element's subs can be walked
 pub walkable : {m : Limits} (L : Listing) → Shaped m L → Incident L → (r i : ℕ) → i < count L r
     → Walkable (L .ends) (L .inc) (before (L .counts) (r - 1)) (m .elements) (subs L r i)
-walkable L S I r i h = record {
-  there = λ s k. side-fits L S (r - 1) s 0 (I .sub-back r i s h k .1) (omega arith);
-  inside = λ s x k g.
-      let b = I .sub-back (r - 1) s x (I .sub-back r i s h k .1) g .1 in
-      omega (arith, few-in-rank L S (r - 1 - 1));
-}
+unfolding Incident
+walkable L S I r i h =
+    let sub : (s : ℕ) → In s (subs L r i) → s < count L (r - 1) = λ s k. I r i h .lower .each s k .1 in
+    record {
+      there = λ s k. side-fits L S (r - 1) s 0 (sub s k) (omega arith);
+      inside = λ s x k g.
+          let b = I (r - 1) s (sub s k) .lower .each x g .1 in
+          omega (arith, few-in-rank L S (r - 1 - 1));
+    }
 
 -- ---- the indices met once
 

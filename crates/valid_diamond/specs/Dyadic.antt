@@ -9,18 +9,18 @@
 -- lone           the refusal of a section under element i of rank r: its index x is met once
 -- sectionsTest   one element: 17 at the first third occurrence on the walk, then 18 at the smallest index met once
 -- dyadicTest     all elements of the ranks 2 to h, by rank and then index
--- Between        s lies between x, two ranks lower, and element i of rank r
--- Two            exactly two numbers have a property
--- DiamondAt      the book's rule at rank r: whenever some element lies between, exactly two do
--- Diamond        the book's rule at the ranks 2 to h
+-- LiesBetween        s lies between x, two ranks lower, and element i of rank r
+-- DiamondAt      the book's rule at rank r: whenever some element lies between, exactly one other does, which makes two
+-- DiamondUpTo        the book's rule at the ranks 2 to h
 -- Distinct       no list of the listing holds an index twice
--- MetTwice       what the test counts where lists repeat: each index that a walk meets is met twice, by occurrence
+-- MetTwiceAt     what test 3 asks of an element, also where lists repeat: each index that its walk meets is met twice
+-- MetTwice       the same of each element of the ranks 2 to h
 use mathlib.Core.Path.{_≡_}
-use mathlib.Core.Logic.{_≢_, _⊎_}
 use mathlib.Core.List.{List, [], _∷_, _++_}
 use Prim.Native.Nat.{ℕ, _+_, _-_, _*_, _≤_, _<_}
 use lib.Dec.{leb, eqb}
 use Rattle.order.specs.Lists.{In, occurs}
+use Rattle.order.specs.Diamond.{OneOther}
 use Rattle.listing.specs.declared.Answer.{Answer}
 use Rattle.listing.specs.Refusals.{thirdBetween, loneBetween}
 use Rattle.listing.specs.Answers.{refusal, fine, on, _orElse_, firstOf}
@@ -58,25 +58,20 @@ sectionsTest L r i =
 unfoldable pub dyadicTest : Listing → ℕ → Answer
 dyadicTest L h = firstOf (λ r. firstOf (sectionsTest L r) 0 (count L r)) 2 (h + 1)
 
-abbrev pub Between : Listing → ℕ → ℕ → ℕ → ℕ → Type 0
-Between L r i x s = In s (subs L r i) × In x (subs L (r - 1) s)
-
-pub record Two (P : ℕ → Type 0) : Type 0 where
-  pub one : ℕ
-  pub two : ℕ
-  pub apart : one ≢ two
-  pub first : P one
-  pub second : P two
-  pub no-third : (w : ℕ) → P w → (w ≡ one) ⊎ (w ≡ two)
+abbrev pub LiesBetween : Listing → ℕ → ℕ → ℕ → ℕ → Type 0
+LiesBetween L r i x s = In s (subs L r i) × In x (subs L (r - 1) s)
 
 unfoldable pub DiamondAt : Listing → ℕ → Type 0
-DiamondAt L r = (i x s : ℕ) → i < count L r → Between L r i x s → Two (Between L r i x)
+DiamondAt L r = (i x s : ℕ) → i < count L r → LiesBetween L r i x s → OneOther (LiesBetween L r i x) s
 
-unfoldable pub Diamond : Listing → ℕ → Type 0
-Diamond L h = (r : ℕ) → 2 ≤ r → r ≤ h → DiamondAt L r
+unfoldable pub DiamondUpTo : Listing → ℕ → Type 0
+DiamondUpTo L h = (r : ℕ) → 2 ≤ r → r ≤ h → DiamondAt L r
 
 unfoldable pub Distinct : Listing → Type 0
 Distinct L = (s r i x : ℕ) → s < 2 → i < count L r → occurs x (side L s r i) ≤ 1
 
+abbrev pub MetTwiceAt : Listing → ℕ → ℕ → Type 0
+MetTwiceAt L r i = (x : ℕ) → In x (walk L r i) → occurs x (walk L r i) ≡ 2
+
 unfoldable pub MetTwice : Listing → ℕ → Type 0
-MetTwice L h = (r i x : ℕ) → 2 ≤ r → r ≤ h → i < count L r → In x (walk L r i) → occurs x (walk L r i) ≡ 2
+MetTwice L h = (r i : ℕ) → 2 ≤ r → r ≤ h → i < count L r → MetTwiceAt L r i

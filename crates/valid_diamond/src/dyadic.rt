@@ -1,5 +1,6 @@
 // Test 3, on a listing that is known to be shaped and incident.
 use listing::Answer;
+use listing::Element;
 use listing::Index;
 use listing::inner;
 use listing::limit;
@@ -19,11 +20,11 @@ ghost use Rattle.valid_diamond.specs.Tally.{LoneCount, Tally, Tallied, l
 // What a walk leaves: its answer, and how many indices it has met exactly once.
 struct Met {
     answer: Answer,
-    once: u16,
+    once: Index,
 }
 
 // How many indices have been met once, when one more is met that had been met `before` times.
-fn once_after(once: u16, before: u8) -> u16
+fn once_after(once: Index, before: u8) -> Index
     requires { ⌜ (before < 2) × (before ≤ once) × (once + 1 < width) ⌝ }
     ensures { λ n. ⌜ n + 2 * before ≡ once + 1 ⌝ }
 {
@@ -32,11 +33,12 @@ fn once_after(once: u16, before: u8) -> u16
 
 // Counts the subs of one of an element's subs, and refuses the first that is met a third time. Before, `once` indices
 // have been met once.
-fn tally_list(tally: &mut [u8; limit::ELEMENTS], subs: &[Index], once: u16, r: u16, i: u16) -> Met
+fn tally_list(tally: &mut [u8; limit::ELEMENTS], subs: &[Index], once: Index, of: Element) -> Met
     requires { ⌜ ((x : ℕ) → In x (now subs) → x < limits .elements) ⌝ }
-    requires { ⌜ (2 ≤ r) × LoneCount (limits .elements) (now tally) once ⌝ }
+    requires { ⌜ (2 ≤ of .rank) × LoneCount (limits .elements) (now tally) once ⌝ }
     ensures { λ m. ⌜ ((seen : List ℕ) → Tally (limits .elements) (now (tally .entry)) seen
-        → Tallied (limits .elements) (now (tally .exit)) (third r i) seen (now (subs .entry)) (m .answer)) ⌝ }
+        → Tallied (limits .elements) (now (tally .exit)) (third (of .rank) (of .index)) seen
+        (now (subs .entry)) (m .answer)) ⌝ }
     ensures { λ m. ⌜ LoneCount (limits .elements) (now (tally .exit)) (m .once) ⌝ }
 {
     let mut n = once;
@@ -45,12 +47,13 @@ fn tally_list(tally: &mut [u8; limit::ELEMENTS], subs: &[Index], once: u16, r: u
         let sub_sub = subs[j];
         let at = inner::wide(sub_sub);
         if 2 <= tally[at] {
+            let low = of.rank - 2;
             let answer = Answer {
                 no: refusal::THIRD_BETWEEN,
-                a: r - 2,
+                a: low,
                 b: sub_sub,
-                c: r,
-                d: i,
+                c: of.rank,
+                d: of.index,
             };
             return Met { answer, once: n };
         }
@@ -72,26 +75,24 @@ fn tally_all(
     inc: &[Index],
     b: usize,
     subs: &[Index],
-    r: u16,
-    i: u16,
+    of: Element,
 ) -> Met
     requires { ⌜ Ends (now ends) (now inc) ⌝ }
     requires { ⌜ Walkable (now ends) (now inc) b (limits .elements) (now subs) ⌝ }
-    requires { ⌜ (2 ≤ r) × LoneCount (limits .elements) (now tally) 0 ⌝ }
+    requires { ⌜ (2 ≤ of .rank) × LoneCount (limits .elements) (now tally) 0 ⌝ }
     ensures { λ m. ⌜ ((seen : List ℕ) → Tally (limits .elements) (now (tally .entry)) seen
-        → Tallied (limits .elements) (now (tally .exit)) (third r i) seen
+        → Tallied (limits .elements) (now (tally .exit)) (third (of .rank) (of .index)) seen
         (subsOfAll (now (ends .entry)) (now (inc .entry)) b (now (subs .entry))) (m .answer)) ⌝ }
     ensures { λ m. ⌜ LoneCount (limits .elements) (now (tally .exit)) (m .once) ⌝ }
 {
-    let mut once: u16 = 0;
+    let mut once: Index = 0;
     let mut j: usize = 0;
     while j < subs.len() {
         let m = tally_list(
             &mut *tally,
             inner::side_of(ends, inc, b, subs[j], 0),
             once,
-            r,
-            i,
+            of,
         );
         if m.answer.no != 0 {
             return m;
@@ -106,20 +107,21 @@ fn tally_all(
 }
 
 // The smallest index below n that was met once.
-fn check_once(tally: &[u8; limit::ELEMENTS], n: u16, r: u16, i: u16) -> Answer
+fn check_once(tally: &[u8; limit::ELEMENTS], n: Index, of: Element) -> Answer
     requires { ⌜ n ≤ limits .elements ⌝ }
-    requires { ⌜ 2 ≤ r ⌝ }
-    ensures { λ a. ⌜ a ≡ loneIn (lone r i) (now (tally .entry)) n ⌝ }
+    requires { ⌜ 2 ≤ of .rank ⌝ }
+    ensures { λ a. ⌜ a ≡ loneIn (lone (of .rank) (of .index)) (now (tally .entry)) n ⌝ }
 {
-    let mut x: u16 = 0;
+    let mut x: Index = 0;
     while x < n {
         if tally[inner::wide(x)] == 1 {
+            let low = of.rank - 2;
             return Answer {
                 no: refusal::LONE_BETWEEN,
-                a: r - 2,
+                a: low,
                 b: x,
-                c: r,
-                d: i,
+                c: of.rank,
+                d: of.index,
             };
         }
         x += 1;
@@ -129,15 +131,15 @@ fn check_once(tally: &[u8; limit::ELEMENTS], n: u16, r: u16, i: u16) -> Answer
 
 // The smallest index below n that was met once, where `once` of the whole tally were: it is looked for only if some
 // were.
-fn check_lone(tally: &[u8; limit::ELEMENTS], once: u16, n: u16, r: u16, i: u16) -> Answer
+fn check_lone(tally: &[u8; limit::ELEMENTS], once: Index, n: Index, of: Element) -> Answer
     requires { ⌜ n ≤ limits .elements ⌝ }
-    requires { ⌜ (2 ≤ r) × LoneCount (limits .elements) (now tally) once ⌝ }
-    ensures { λ a. ⌜ a ≡ loneIn (lone r i) (now (tally .entry)) n ⌝ }
+    requires { ⌜ (2 ≤ of .rank) × LoneCount (limits .elements) (now tally) once ⌝ }
+    ensures { λ a. ⌜ a ≡ loneIn (lone (of .rank) (of .index)) (now (tally .entry)) n ⌝ }
 {
     if once == 0 {
         return inner::plain(0);
     }
-    check_once(tally, n, r, i)
+    check_once(tally, n, of)
 }
 
 // The sections under element i of rank r, in a tally of its own. The rank below begins at place b.
@@ -147,7 +149,7 @@ fn check_sections(
     inc: &[Index],
     b: usize,
     r: usize,
-    i: u16,
+    i: Index,
 ) -> Answer
     requires { ⌜ Shaped limits (held counts ends inc) ⌝ }
     requires { ⌜ Incident (held counts ends inc) ⌝ }
@@ -156,12 +158,14 @@ fn check_sections(
 {
     let here = b + inner::wide(inner::count_at(counts, r - 1));
     let subs = inner::side_of(ends, inc, here, i, 0);
+    let rank = r as Index;
+    let of = Element { rank, index: i };
     let mut tally = [0u8; limit::ELEMENTS];
-    let m = tally_all(&mut tally, ends, inc, b, subs, r as u16, i);
+    let m = tally_all(&mut tally, ends, inc, b, subs, of);
     if m.answer.no != 0 {
         return m.answer;
     }
-    check_lone(&tally, m.once, inner::count_at(counts, r - 2), r as u16, i)
+    check_lone(&tally, m.once, inner::count_at(counts, r - 2), of)
 }
 
 // The elements of rank r. The rank below begins at place b.
@@ -174,7 +178,7 @@ fn check_rank(counts: &[Index], ends: &[Index], inc: &[Index], b: usize, r: usiz
         (getD (now (counts .entry)) r 0) ⌝ }
 {
     let n = counts[r];
-    let mut i: u16 = 0;
+    let mut i: Index = 0;
     while i < n {
         let a = check_sections(counts, ends, inc, b, r, i);
         if a.no != 0 {

@@ -1,4 +1,3 @@
-pub mod Sequences
-pub mod Places
+pub mod Ways
 pub mod Entries
 pub mod IncidenceExact

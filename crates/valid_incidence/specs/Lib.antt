@@ -1,2 +1,2 @@
-pub mod Incidence
 pub mod Ways
+pub mod Incidence

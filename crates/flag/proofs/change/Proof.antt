@@ -1,15 +1,21 @@
 -- `change`: the refusal of check_change with a flag of 0s, or the changed flag.
 -- Assumes nothing.
-use mathlib.Core.Path.{refl}
+use mathlib.Core.Path.{refl, ap, _∙_}
+use Prim.Native.Nat.{ℕ}
 use borrow.Author.Needs.{needs}
 use Rattle.listing.specs.Listing.{Listing, listing, limits}
 use Rattle.listing.proofs.Answers.{no-of}
+use Rattle.flag_change.specs.Change.{changeAt, padded}
 use Rattle.flag.proofs.ChangeAnswers.{change-exact, changed-none, changed-some}
 use Rattle.flag.proofs.change.Statement.{statement}
 use Rattle.flag.proofs.change.Tie as tie
 
 abbrev L : tie.Start → Listing
 L s = listing (s .args .counts .now) (s .args .ends .now) (s .args .inc .now)
+
+-- where the function began, seen from where nothing is refused
+abbrev begun : tie.Else1 → tie.Start
+begun c = c .before .before .before .before .before .before .before
 
 check-change-requires : tie.Need-check-change-requires
 check-change-requires c κs = search needs
@@ -23,7 +29,7 @@ wide-requires c κs = search needs
 changed-at-requires : tie.Need-changed-at-requires
 changed-at-requires c κs =
     let d = c .before in
-    let s = d .before .before .before .before .before .before .before in
+    let s = begun d in
     let z = no-of (d .before .before .check-change .ensures) (d .if1 .left) in
     let p = change-exact limits (L s) (s .args .flag .now) (s .args .r) .0 z in
     (p .0, (p .1, rw (c .wide .ensures .0) (p .2, p .3)))
@@ -31,10 +37,11 @@ changed-at-requires c κs =
 returns-2 : tie.Need-returns-2
 returns-2 c =
     let d = c .before .before in
-    let s = d .before .before .before .before .before .before .before in
-    let e = d .before .before .check-change .ensures in
-    changed-some limits (L s) (s .args .flag .now) (s .args .r) e (d .if1 .left)
-    (rw (← c .before .wide .ensures .0) (c .changed-at .ensures))
+    let s = begun d in
+    let f = s .args .flag .now in
+    let new = ap (λ (k : ℕ). padded (changeAt (L s) k f)) (c .before .wide .ensures .0) in
+    changed-some limits (L s) f (s .args .r) (d .before .before .check-change .ensures) (d .if1 .left)
+    (c .changed-at .ensures ∙ new)
 
 pub change-spec : {M : Type 1} → statement M
 change-spec =

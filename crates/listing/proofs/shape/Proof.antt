@@ -19,8 +19,8 @@ plain-requires-2 c κs = search needs
 returns-2 : tie.Need-returns-2
 returns-2 c = c .plain2 .ensures ∙ sym (shape-2 _ _ (omega arith) (omega arith))
 
-elements-to-requires : tie.Need-elements-to-requires
-elements-to-requires c κs = search needs
+elements-before-requires : tie.Need-elements-before-requires
+elements-before-requires c κs = search needs
 
 plain-requires-3 : tie.Need-plain-requires-3
 plain-requires-3 c κs = search needs
@@ -73,7 +73,7 @@ shape-spec =
     returns
     plain-requires-2
     returns-2
-    elements-to-requires
+    elements-before-requires
     plain-requires-3
     returns-3
     mul-if4

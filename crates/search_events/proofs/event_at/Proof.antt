@@ -4,18 +4,18 @@ use mathlib.Core.Path.{_≡_, sym, _∙_}
 use mathlib.Core.Bool.{Bool}
 use native.Mathlib.Omega.{arith}
 use borrow.Author.Needs.{needs}
-use Rattle.search_events.specs.Events.{within}
+use Rattle.search_events.specs.Events.{marked}
 use Rattle.search_events.proofs.EventRow.{flag-before, at-place, flag-after, past-after, flag-plain, past-plain}
 use Rattle.search_events.proofs.event_at.Statement.{statement}
 use Rattle.search_events.proofs.event_at.Tie as tie
 
--- what is_within said
-told : (c : tie.After-is-within) {t : Bool} → c .is-within .result ≡ t
-    → within (c .before .args .count) (c .before .args .place) ≡ t
-told c e = sym (c .is-within .ensures) ∙ e
+-- what is_marked said
+told : (c : tie.After-is-marked) {t : Bool} → c .is-marked .result ≡ t
+    → marked (c .before .args .count) (c .before .args .place) ≡ t
+told c e = sym (c .is-marked .ensures) ∙ e
 
-is-within-requires : tie.Need-is-within-requires
-is-within-requires c κs = search needs
+is-marked-requires : tie.Need-is-marked-requires
+is-marked-requires c κs = search needs
 
 cast-t8 : tie.Need-cast-t8
 cast-t8 c = search needs
@@ -56,7 +56,7 @@ pub event-at-spec : {M : Type 1} → statement M
 event-at-spec =
     tie.close
     (tie.spec
-    is-within-requires
+    is-marked-requires
     cast-t8
     returns
     returns-2

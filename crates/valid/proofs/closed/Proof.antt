@@ -9,6 +9,10 @@ use Rattle.valid.specs.Tests.{closed}
 use Rattle.valid.proofs.closed.Statement.{statement}
 use Rattle.valid.proofs.closed.Tie as tie
 
+-- where the shape had passed, seen from where test 2 had
+abbrev shape-passed : tie.Else3 → tie.Else1
+shape-passed i = i .before .before .before .before .before .before
+
 shape-requires : tie.Need-shape-requires
 shape-requires c κs = search needs
 
@@ -41,13 +45,13 @@ returns-4 c =
 
 sub-check-up-to : tie.Need-sub-check-up-to
 sub-check-up-to c =
-    let d = c .before .before .before .before .before .before .before .before .before in
+    let d = shape-passed (c .before .before .before) in
     shaped _ _ (no-of (d .before .before .shape .ensures) (d .if1 .left)) .some-rank
 
 check-up-to-requires : tie.Need-check-up-to-requires
 check-up-to-requires c κs =
     let d = c .before .before .before in
-    let b = d .before .before .before .before .before .before in
+    let b = shape-passed d in
     let S = shaped _ _ (no-of (b .before .before .shape .ensures) (b .if1 .left)) in
     let I = incidences-exact _ .0 (no-of (d .before .before .check-all .ensures) (d .if3 .left)) in
     (S, (I, omega (arith, S)))

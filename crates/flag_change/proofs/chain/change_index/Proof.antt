@@ -5,17 +5,21 @@ use native.Mathlib.Omega.{arith}
 use borrow.Author.Needs.{needs}
 use Rattle.listing.specs.Listing.{Listing, listing}
 use Rattle.listing.proofs.ShapeExact.{shaped-ends}
-use Rattle.valid_incidence.proofs.Places.{side-fits, side-at}
+use Rattle.listing.proofs.Places.{side-fits, side-at}
 use Rattle.valid.specs.Ascent.{Ascends}
-use Rattle.flag_change.specs.Change.{between, Neighbours}
+use Rattle.flag_change.specs.Change.{between, Flanked}
 use Rattle.flag_change.proofs.chain.change_index.Statement.{statement}
 use Rattle.flag_change.proofs.chain.change_index.Tie as tie
 
 abbrev L : tie.Start → Listing
 L s = listing (s .args .counts .now) (s .args .ends .now) (s .args .inc .now)
 
-near : (s : tie.Start) → Neighbours (L s) (s .args .flag .now) (s .args .r)
+near : (s : tie.Start) → Flanked (L s) (s .args .flag .now) (s .args .r)
 near s = s .pre .1 .1 .1
+
+-- where the function began, seen from the sups of the lower element
+abbrev begun : tie.After-side-of → tie.Start
+begun c = c .before .before .before .before .before .before
 
 sub-side-of : tie.Need-sub-side-of
 sub-side-of c = search needs
@@ -44,7 +48,7 @@ shared-slice-read-side-of-2 c = search needs
 
 side-of-requires-2 : tie.Need-side-of-requires-2
 side-of-requires-2 c κs =
-    let s = c .before .before .before .before .before .before .before in (
+    let s = begun (c .before) in (
       shaped-ends (L s) (s .pre .0),
       rw (s .pre .1 .1 .0 .1) (side-fits (L s) (s .pre .0) _ _ 0 (near s .upper) (omega arith)),
     )
@@ -59,18 +63,18 @@ other-between-requires : tie.Need-other-between-requires
 unfolding Ascends
 other-between-requires c κs =
     let d = c .before .before .before in
-    let s = d .before .before .before .before .before .before in
+    let s = begun d in
     let l = d .side-of .ensures ∙ side-at (L s) _ _ _ _ (s .pre .1 .1 .0 .0) in
     let h = c .before .side-of2 .ensures ∙ side-at (L s) _ _ _ _ (s .pre .1 .1 .0 .1) in (
-      rw l (s .pre .1 .0 1 _ _ (omega arith) (near s .lower)),
-      rw h (s .pre .1 .0 0 _ _ (omega arith) (near s .upper)),
+      rw l (s .pre .1 .0 _ _ (near s .lower) 1 (omega arith)),
+      rw h (s .pre .1 .0 _ _ (near s .upper) 0 (omega arith)),
     )
 
 returns : tie.Need-returns
 unfolding between
 returns c =
     let d = c .before .before .before .before in
-    let s = d .before .before .before .before .before .before in
+    let s = begun d in
     let l = d .side-of .ensures ∙ side-at (L s) _ _ _ _ (s .pre .1 .1 .0 .0) in
     let h = c .before .before .side-of2 .ensures ∙ side-at (L s) _ _ _ _ (s .pre .1 .1 .0 .1) in
     rw (← l, ← h) (c .other-between .ensures)

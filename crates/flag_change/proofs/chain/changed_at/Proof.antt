@@ -1,15 +1,13 @@
 -- `changed_at`: the flag as a record, with the number that change_index gives at rank r.
 -- Assumes nothing.
-use Prim.Native.Nat.{_+_, _-_}
 use native.Mathlib.Omega.{arith}
 use borrow.Author.Needs.{needs}
 use Rattle.listing.specs.Listing.{Listing, listing, limits}
-use Rattle.valid_incidence.proofs.Places.{few-before}
 use Rattle.valid.specs.Closed.{Closed}
 use Rattle.flag_change.specs.Flags.{IsFlag}
 use Rattle.flag_change.specs.Change.{changeAt}
 use Rattle.flag_change.proofs.Padding.{padded-set}
-use Rattle.flag_change.proofs.Replaced.{flag-neighbours}
+use Rattle.flag_change.proofs.Replaced.{flag-flanked}
 use Rattle.flag_change.proofs.chain.changed_at.Statement.{statement}
 use Rattle.flag_change.proofs.chain.changed_at.Tie as tie
 
@@ -22,31 +20,35 @@ cell s = s .pre .0
 chain : (s : tie.Start) → IsFlag (L s) (s .args .flag .now)
 chain s = s .pre .1 .0
 
-sub-place-of : tie.Need-sub-place-of
-sub-place-of c = search needs
+-- where the function began, seen from the two places
+abbrev begun : tie.After-elements-before2 → tie.Start
+begun c = c .before .before .before .before .before .before
 
-place-of-requires : tie.Need-place-of-requires
-place-of-requires c κs =
+sub-elements-before : tie.Need-sub-elements-before
+sub-elements-before c = search needs
+
+elements-before-requires : tie.Need-elements-before-requires
+elements-before-requires c κs =
     let s = c .before .before .before .before in
-    (omega arith, omega (arith, few-before (L s) (cell s .shaped) (s .args .r - 1)))
+    omega (arith, cell s .shaped)
 
-add-place-of : tie.Need-add-place-of
-add-place-of c = search needs
+add-elements-before : tie.Need-add-elements-before
+add-elements-before c = search needs
 
-place-of-requires-2 : tie.Need-place-of-requires-2
-place-of-requires-2 c κs =
+elements-before-requires-2 : tie.Need-elements-before-requires-2
+elements-before-requires-2 c κs =
     let s = c .before .before .before .before .before in
-    (omega arith, omega (arith, few-before (L s) (cell s .shaped) (s .args .r + 1)))
+    omega (arith, cell s .shaped)
 
 change-index-requires : tie.Need-change-index-requires
 change-index-requires c κs =
-    let s = c .before .before .before .before .before .before in
-    let n = flag-neighbours (L s) _ _ (s .pre .1 .1 .0) (s .pre .1 .1 .1) (chain s) in
-    (cell s .shaped, (cell s .ascends, ((c .before .place-of .ensures, c .place-of2 .ensures), n)))
+    let s = begun c in
+    let n = flag-flanked (L s) _ _ (s .pre .1 .1 .0) (s .pre .1 .1 .1) (chain s) in
+    (cell s .shaped, (cell s .ascends, ((c .before .elements-before .ensures, c .elements-before2 .ensures), n)))
 
 pad-requires : tie.Need-pad-requires
 pad-requires c κs =
-    let s = c .before .before .before .before .before .before .before in
+    let s = begun (c .before) in
     omega (arith, cell s .shaped, chain s .one-each)
 
 mul-new : tie.Need-mul-new
@@ -58,7 +60,7 @@ array-write-new c = search needs
 returns : tie.Need-returns
 unfolding changeAt
 returns c =
-    let s = c .before .before .before .before .before .before .before .before in
+    let s = begun (c .before .before) in
     rw (c .pad .ensures, c .before .change-index .ensures)
     (padded-set (s .args .flag .now) _ _ (omega (arith, chain s .one-each)))
 
@@ -66,10 +68,10 @@ pub changed-at-spec : {M : Type 1} → statement M
 changed-at-spec =
     tie.close
     (tie.spec
-    sub-place-of
-    place-of-requires
-    add-place-of
-    place-of-requires-2
+    sub-elements-before
+    elements-before-requires
+    add-elements-before
+    elements-before-requires-2
     change-index-requires
     pad-requires
     mul-new

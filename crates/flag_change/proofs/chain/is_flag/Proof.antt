@@ -10,7 +10,7 @@ use borrow.Author.Tests.{not-true, not-false}
 use lib.ListN.{length}
 use Rattle.listing.specs.Listing.{Listing, listing, before}
 use Rattle.listing.proofs.Listing.{before-zero, before-next}
-use Rattle.valid_incidence.proofs.Places.{few-before}
+use Rattle.listing.proofs.Places.{few-before}
 use Rattle.order.specs.Tests.{every}
 use Rattle.flag_change.specs.Flags.{flagAt}
 use Rattle.order.proofs.Tests.{every-next, every-stop}
@@ -28,6 +28,10 @@ abbrev μ-loop : tie.MeasureT-loop
 abbrev L : tie.Start Inv-loop μ-loop → Listing
 L s = listing (s .args .counts .now) (s .args .ends .now) (s .args .inc .now)
 
+-- where the function began, seen from where the lengths are the same
+abbrev begun : tie.Else1 Inv-loop μ-loop → tie.Start Inv-loop μ-loop
+begun c = c .before .before .before .before .before
+
 returns : tie.Need-returns Inv-loop μ-loop
 returns c = sym (other-length (L (c .before .before .before .before .before)) _ (λ e. omega arith))
 
@@ -41,7 +45,7 @@ stands-at-requires c κs = search needs
 returns-2 : tie.Need-returns-2 Inv-loop μ-loop
 returns-2 c =
     let d = c .before .before .before .before in
-    let s = d .before .before .before .before .before in
+    let s = begun d in
     let t = sym (c .before .stands-at .ensures) ∙ not-true _ (c .if2 .taken) in
     sym (same-length (L s) _ (d .if1 .left) ∙ every-stop _ _ _ (c .before .before .loop-test .taken) t)
 
@@ -57,7 +61,7 @@ wide-requires c κs = search needs
 add-here : tie.Need-add-here Inv-loop μ-loop
 add-here c =
     let d = c .before .before .before .before .before in
-    let s = d .before .before .before .before .before .before in
+    let s = begun (d .before) in
     omega (arith, few-before (L s) (s .pre) (d .loop .r))
 
 add-r : tie.Need-add-r Inv-loop μ-loop
@@ -77,7 +81,7 @@ loop-again c =
 
 returns-3 : tie.Need-returns-3 Inv-loop μ-loop
 returns-3 c =
-    let s = c .before .before .before .before .before .before .before in
+    let s = begun (c .before .before) in
     let z : c .before .loop .r ≡ length (s .args .counts .now) = omega arith in
     sym (same-length (L s) _ (c .before .before .if1 .left) ∙ rw (← z) (c .before .loop .inv .2))
 

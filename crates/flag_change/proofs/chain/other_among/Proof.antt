@@ -36,13 +36,13 @@ loop-again c =
     let d = c .before .before in
     d .before .loop .inv ∙ same-next _ _ _ _ (d .loop-test .taken) (c .if1 .taken)
 
-holds-requires : tie.Need-holds-requires Inv-loop μ-loop
-holds-requires c κs = search needs
+ascending-contains-requires : tie.Need-ascending-contains-requires Inv-loop μ-loop
+ascending-contains-requires c κs = search needs
 
 returns : tie.Need-returns Inv-loop μ-loop
 returns c =
     let d = c .before .before .before .before in
-    let k = sym (c .before .holds .ensures) ∙ c .if2 .taken in
+    let k = sym (c .before .ascending-contains .ensures) ∙ c .if2 .taken in
     sym (d .before .loop .inv ∙ held-found _ _ _ _ (d .loop-test .taken) k (c .before .before .if1 .left))
 
 add-i-2 : tie.Need-add-i-2 Inv-loop μ-loop
@@ -54,7 +54,7 @@ loop-less-2 c = search needs
 loop-again-2 : tie.Need-loop-again-2 Inv-loop μ-loop
 loop-again-2 c =
     let d = c .before .before .before .before in
-    let k = sym (c .before .holds .ensures) ∙ c .if2 .left in
+    let k = sym (c .before .ascending-contains .ensures) ∙ c .if2 .left in
     d .before .loop .inv ∙ lacked-next _ _ _ _ (d .loop-test .taken) k
 
 returns-2 : tie.Need-returns-2 Inv-loop μ-loop
@@ -74,7 +74,7 @@ other-among-spec =
     add-i
     loop-less
     loop-again
-    holds-requires
+    ascending-contains-requires
     returns
     add-i-2
     loop-less-2

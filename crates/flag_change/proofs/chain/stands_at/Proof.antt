@@ -9,13 +9,17 @@ use lib.ListN.{getD}
 use Rattle.order.specs.Lists.{has}
 use Rattle.listing.specs.Listing.{Listing, listing}
 use Rattle.listing.proofs.ShapeExact.{shaped-ends}
-use Rattle.valid_incidence.proofs.Places.{side-fits, side-at}
+use Rattle.listing.proofs.Places.{side-fits, side-at}
 use Rattle.flag_change.proofs.FlagExact.{missing-at, lowest-at, higher-at}
 use Rattle.flag_change.proofs.chain.stands_at.Statement.{statement}
 use Rattle.flag_change.proofs.chain.stands_at.Tie as tie
 
 abbrev L : tie.Start → Listing
 L s = listing (s .args .counts .now) (s .args .ends .now) (s .args .inc .now)
+
+-- where the function began, seen from the look through the subs
+abbrev begun : tie.Else2 → tie.Start
+begun c = c .before .before .before .before .before .before .before .before
 
 mul-x : tie.Need-mul-x
 mul-x c = search needs
@@ -37,7 +41,7 @@ returns-2 c = sym (lowest-at _ _ _ (c .before .if1 .left) (c .if2 .taken))
 
 side-of-requires : tie.Need-side-of-requires
 side-of-requires c κs =
-    let s = c .before .before .before .before .before .before .before .before in (
+    let s = begun c in (
       shaped-ends (L s) (s .pre .0),
       rw (s .pre .1 .0 .0) (side-fits (L s) (s .pre .0) (s .args .r) _ 0 (c .before .if1 .left) (omega arith)),
     )
@@ -56,12 +60,12 @@ contains-requires c κs = search needs
 
 returns-3 : tie.Need-returns-3
 returns-3 c =
-    let d = c .before .before .before .before in
-    let s = d .before .before .before .before .before .before .before in
+    let d = c .before .before .before in
+    let s = begun d in
     let l = c .before .before .side-of .ensures ∙ side-at (L s) _ _ _ _ (s .pre .1 .0 .0) in
     c .contains .ensures
     ∙ ap (λ (l : List ℕ). has l (getD (s .args .flag .now) (s .args .r - 1) 0)) l
-    ∙ sym (higher-at (L s) _ _ (d .if1 .left) (c .before .before .before .if2 .left))
+    ∙ sym (higher-at (L s) _ _ (d .before .if1 .left) (d .if2 .left))
 
 pub stands-at-spec : {M : Type 1} → statement M
 stands-at-spec =

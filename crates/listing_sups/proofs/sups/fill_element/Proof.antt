@@ -11,7 +11,8 @@ use Rattle.order.specs.Lists.{occurs}
 use Rattle.listing_sups.specs.Sups.{Raised, Strewn, between}
 use Rattle.listing_sups.proofs.Gathering.{element-read, element-room, element-raised, element-strewn}
 use Rattle.listing_sups.proofs.Strewing.{strewn-none}
-use Rattle.listing_sups.proofs.Raising.{occurs-nil, raised-none}
+use Rattle.order.proofs.Lists.{occurs-nil}
+use Rattle.listing_sups.proofs.Raising.{raised-none}
 use Rattle.listing_sups.proofs.sups.fill_element.Statement.{statement}
 use Rattle.listing_sups.proofs.sups.fill_element.Tie as tie
 

@@ -8,7 +8,8 @@ use lib.ListN.{length, take}
 use borrow.Author.Needs.{needs}
 use Rattle.order.specs.Lists.{occurs}
 use Rattle.listing_sups.specs.Sups.{Raised}
-use Rattle.listing_sups.proofs.Raising.{occurs-nil, occurs-take, raised-none, raised-then, list-few}
+use Rattle.order.proofs.Lists.{occurs-nil}
+use Rattle.listing_sups.proofs.Raising.{occurs-take, raised-none, raised-then, list-few}
 use Rattle.listing_sups.proofs.sups.tally_list.Statement.{statement}
 use Rattle.listing_sups.proofs.sups.tally_list.Tie as tie
 

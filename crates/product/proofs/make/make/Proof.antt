@@ -5,7 +5,7 @@ use borrow.Author.Needs.{needs}
 use Rattle.listing.proofs.Answers.{no-of, stops}
 use Rattle.product.proofs.Chain.{factors-decide, rest-decides, made-outcome}
 use Rattle.product.proofs.Tests.{factors-valid}
-use Rattle.product.proofs.Made.{made-refused}
+use Rattle.listing.proofs.Output.{made-refused}
 use Rattle.product.proofs.make.make.Statement.{statement}
 use Rattle.product.proofs.make.make.Tie as tie
 
@@ -19,8 +19,8 @@ returns : tie.Need-returns
 returns c =
     let e = c .before .before .before .check-factors .ensures in
     let h = c .before .if1 .taken in
-    made-outcome _ _ _ _ _ _ _ _ _ _ _ _ (e ∙ factors-decide _ _ _ _ _ _ _ _ (stops e h))
-    (made-refused _ _ h _ refl _ _ _ _ (c .refused .ensures _ h))
+    made-outcome _ _ _ _ _ _ _ _ (e ∙ factors-decide _ _ _ _ _ _ _ _ (stops e h))
+    (made-refused _ _ h _ refl _ _ (c .refused .ensures _ h))
 
 product-of-valid-requires : tie.Need-product-of-valid-requires
 product-of-valid-requires c κs =
@@ -41,7 +41,7 @@ returns-2 c =
     let b = c .before .before .before .before .before .before in
     let d = b .before .before .before .before in
     let z = no-of (d .before .before .check-factors .ensures) (d .if1 .left) in
-    made-outcome _ _ _ _ _ _ _ _ _ _ _ _ (rest-decides _ _ _ _ _ _ _ _ z) (b .product-of-valid .ensures)
+    made-outcome _ _ _ _ _ _ _ _ (rest-decides _ _ _ _ _ _ _ _ z) (b .product-of-valid .ensures)
 
 pub make-spec : {M : Type 1} → statement M
 make-spec =

@@ -12,13 +12,24 @@ use Rattle.product_sizes.specs.Sizing.{Measures}
 use Rattle.product_sizes.proofs.Planned.{built-is, build-asked}
 use Rattle.product_sizes.proofs.Parts.{usable-shaped, usable-high}
 use Rattle.product_sizes.proofs.Tested.{Passed, sizes-passed}
-use Rattle.product.proofs.Made.{made-refused, made-written}
+use Rattle.listing.proofs.Output.{made-refused, made-written}
 use Rattle.product.proofs.make.product.Statement.{statement}
 use Rattle.product.proofs.make.product.Tie as tie
 
--- where the function began
+-- where the function began, seen from where its slices are known, and from the test
+abbrev begun : tie.After-shared-slice-known6 → tie.Start
+begun c = c .before .before .before .before .before .before
+
 abbrev start : tie.After-check-sizes → tie.Start
-start c = c .before .before .before .before .before .before .before .before .before .before .before .before .before
+start c = begun (c .before .before .before .before .before .before .before)
+
+-- past the test, seen from where the product is written
+abbrev tried : tie.After-build → tie.Else1
+tried c = c .before .before .before .before .before .before
+
+-- where it is written, seen from the end
+abbrev done : tie.After-slice-known6 → tie.After-build
+done c = c .before .before .before .before .before .before
 
 -- the factors, and their product
 abbrev left : tie.Start → Listing
@@ -68,7 +79,7 @@ refused-requires c κs = search needs
 returns : tie.Need-returns
 returns c =
     let h = c .before .if1 .taken in
-    made-refused _ _ h _ (tested (c .before .before .before)) _ _ _ _ (c .refused .ensures _ h)
+    made-refused _ _ h _ (tested (c .before .before .before)) _ _ (c .refused .ensures _ h)
 
 range-requires : tie.Need-range-requires
 range-requires c κs =
@@ -82,16 +93,18 @@ range-requires-2 c κs =
 
 build-requires : tie.Need-build-requires
 build-requires c κs =
-    let s = start (c .before .before .before .before .before .before .before) in
+    let r = c .before .before .before in
+    let d = r .before .before in
+    let s = start (d .before .before) in
     let a = s .args in
-    let h = passed (c .before .before .before .before .before) in
-    let p = c .before .before .before .before .range .ensures in
-    let q = c .before .before .before .range2 .ensures in
+    let h = passed d in
+    let p = r .before .range .ensures in
+    let q = r .range2 .ensures in
     build-asked _ _ _ _ (s .pre .0) (s .pre .1) _ _ p q (a .counts .now) (a .ends .now) (a .inc .now) h
 
 written-requires : tie.Need-written-requires
 written-requires c κs =
-    let d = c .before .before .before .before .before .before .before .before .before .before .before .before in
+    let d = tried (done c) in
     let m = measures (d .before .before) in
     omega (arith, m, passed d)
 
@@ -106,16 +119,15 @@ same-length-3 c = search needs
 
 returns-2 : tie.Need-returns-2
 returns-2 c =
-    let b = c .before .before .before .before .before .before .before in
-    let d = b .before .before .before .before .before .before in
+    let b = done (c .before) in
+    let r = b .before .before .before .before in
+    let d = tried b in
     let t = d .before .before in
     let s = start t in
     let z = d .if1 .left in
     let w = c .written .ensures _ (measures t) z in
-    let p = b .before .before .before .before .before .range .ensures in
-    let q = b .before .before .before .before .range2 .ensures in
-    let e = built-is _ _ _ _ (s .pre .0) (s .pre .1) _ _ p q in
-    made-written _ _ z _ (tested t) _ _ _ _ _ _ _ w
+    let e = built-is _ _ _ _ (s .pre .0) (s .pre .1) _ _ (r .before .range .ensures) (r .range2 .ensures) in
+    made-written _ _ z _ (tested t) _ _ _ w
     (rw e at (b .build .ensures .0)) (rw e at (b .build .ensures .1 .0)) (rw e at (b .build .ensures .1 .1))
 
 pub product-spec : {M : Type 1} → statement M

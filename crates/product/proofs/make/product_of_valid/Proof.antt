@@ -11,13 +11,26 @@ use Rattle.product_closure.proofs.Results.{needed}
 use Rattle.product_closure.specs.Result.{nullCase, combCase}
 use Rattle.product_sizes.specs.Sizing.{Usable}
 use Rattle.product.proofs.Chain.{comb-decides, null-made, first-made, second-made}
-use Rattle.product.proofs.Made.{made-refused}
+use Rattle.listing.proofs.Output.{made-refused}
 use Rattle.product.proofs.make.product_of_valid.Statement.{statement}
 use Rattle.product.proofs.make.product_of_valid.Tie as tie
 
--- where the function began, seen from the first test
+-- where the function began, seen from where its slices are known, and from the first test
+abbrev begun : tie.After-slice-known2 → tie.Start
+begun c = c .before .before .before .before .before .before .before .before
+
 abbrev start : tie.After-is-null → tie.Start
-start c = c .before .before .before .before .before .before .before .before .before .before
+start c = begun (c .before .before)
+
+-- where the nullitope, and where the product is written, seen from the end
+abbrev nulled : tie.After-slice-known5 → tie.After-put-nullitope
+nulled c = c .before .before .before .before
+
+abbrev done : tie.After-slice-known8 → tie.After-product
+done c = c .before .before .before .before .before .before
+
+abbrev done-2 : tie.After-slice-known11 → tie.After-product2
+done-2 c = c .before .before .before .before .before .before
 
 -- the factors
 abbrev left : tie.Start → Listing
@@ -46,13 +59,11 @@ usable c =
 
 sub-p : tie.Need-sub-p
 sub-p c =
-    let v = c .before .before .before .before .before .before .before .before .before .pre .0 in
-    omega (arith, valid-exact _ _ .0 v .0 .some-rank)
+    omega (arith, valid-exact _ _ .0 (begun (c .before) .pre .0) .0 .some-rank)
 
 sub-q : tie.Need-sub-q
 sub-q c =
-    let v = c .before .before .before .before .before .before .before .before .before .pre .1 in
-    omega (arith, valid-exact _ _ .0 v .0 .some-rank)
+    omega (arith, valid-exact _ _ .0 (begun (c .before) .pre .1) .0 .some-rank)
 
 is-null-requires : tie.Need-is-null-requires
 is-null-requires c κs = search needs
@@ -71,9 +82,10 @@ same-length-3 c = search needs
 
 returns : tie.Need-returns
 returns c =
-    let d = c .before .before .before .before .before .before .before .before in
+    let b = nulled c in
+    let d = b .before .before .before .before in
     let n = sym (d .before .is-null .ensures _ _ refl refl) ∙ d .if1 .taken in
-    null-made _ _ _ _ _ _ _ _ _ _ _ n (c .before .before .before .before .put-nullitope .ensures)
+    null-made _ _ _ _ _ _ _ n (b .put-nullitope .ensures)
 
 is-comb-of-point-requires : tie.Need-is-comb-of-point-requires
 is-comb-of-point-requires c κs = search needs
@@ -90,7 +102,7 @@ returns-2 c =
     let k = c .before .plain .ensures in
     let h : c .before .plain .result .no ≡ 0 → ⊥ = λ z. omega (arith, ap (λ (a : Answer). a .no) k) in
     let y = sym (d .is-comb-of-point .ensures _ _ refl refl (no-null (d .before))) ∙ c .before .before .if2 .taken in
-    made-refused _ _ h _ (k ∙ comb-decides _ _ _ _ _ _ _ _ y) _ _ _ _ (c .refused .ensures _ h)
+    made-refused _ _ h _ (k ∙ comb-decides _ _ _ _ _ _ _ _ y) _ _ (c .refused .ensures _ h)
 
 product-requires : tie.Need-product-requires
 product-requires c κs = usable (c .before .before .before .before)
@@ -106,10 +118,10 @@ same-length-6 c = search needs
 
 returns-3 : tie.Need-returns-3
 returns-3 c =
-    let b = c .before .before .before .before .before .before in
+    let b = done c in
     let t = b .before .before .before .before in
     let d = t .before in
-    first-made _ _ _ _ _ _ _ _ _ _ _ (no-null (d .before .before)) (no-comb d) (t .if3 .taken) (b .product .ensures)
+    first-made _ _ _ _ _ _ _ (no-null (d .before .before)) (no-comb d) (t .if3 .taken) (b .product .ensures)
 
 product-requires-2 : tie.Need-product-requires-2
 product-requires-2 c κs =
@@ -127,34 +139,14 @@ same-length-9 c = search needs
 
 returns-4 : tie.Need-returns-4
 returns-4 c =
-    let b = c .before .before .before .before .before .before in
+    let b = done-2 c in
     let t = b .before .before .before .before in
     let d = t .before in
-    second-made _ _ _ _ _ _ _ _ _ _ _ (no-null (d .before .before)) (no-comb d) (t .if3 .left) (b .product2 .ensures)
+    second-made _ _ _ _ _ _ _ (no-null (d .before .before)) (no-comb d) (t .if3 .left) (b .product2 .ensures)
 
 pub product-of-valid-spec : {M : Type 1} → statement M
 product-of-valid-spec =
     tie.close
-    (tie.spec
-    sub-p
-    sub-q
-    is-null-requires
-    put-nullitope-requires
-    same-length
-    same-length-2
-    same-length-3
-    returns
-    is-comb-of-point-requires
-    plain-requires
-    refused-requires
-    returns-2
-    product-requires
-    same-length-4
-    same-length-5
-    same-length-6
-    returns-3
-    product-requires-2
-    same-length-7
-    same-length-8
-    same-length-9
-    returns-4)
+    (tie.spec sub-p sub-q is-null-requires put-nullitope-requires same-length same-length-2 same-length-3 returns
+    is-comb-of-point-requires plain-requires refused-requires returns-2 product-requires same-length-4 same-length-5
+    same-length-6 returns-3 product-requires-2 same-length-7 same-length-8 same-length-9 returns-4)

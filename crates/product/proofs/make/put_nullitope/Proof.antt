@@ -9,7 +9,8 @@ use Rattle.listing.proofs.Answers.{no-of}
 use Rattle.listing.specs.Cells.{nullitope}
 use Rattle.product_sizes.proofs.Tested.{Passed, sizes-passed}
 use Rattle.product_sizes.specs.Sizing.{sizeTest}
-use Rattle.product.proofs.Made.{made-refused, made-written, nullitope-measures, one-set, two-set}
+use Rattle.listing.proofs.Output.{made-refused, made-written}
+use Rattle.product.proofs.Made.{nullitope-measures, one-set, two-set}
 use Rattle.product.proofs.make.put_nullitope.Statement.{statement}
 use Rattle.product.proofs.make.put_nullitope.Tie as tie
 
@@ -33,7 +34,7 @@ refused-requires c κs = search needs
 returns : tie.Need-returns
 returns c =
     let h = c .before .if1 .taken in
-    made-refused _ nullitope h _ (tested (c .before .before .before)) _ _ _ _ (c .refused .ensures nullitope h)
+    made-refused _ nullitope h _ (tested (c .before .before .before)) _ _ (c .refused .ensures nullitope h)
 
 slice-write-counts : tie.Need-slice-write-counts
 slice-write-counts c = omega (arith, passed c)
@@ -60,7 +61,7 @@ returns-2 c =
     let z = c .before .if1 .left in
     let q = passed (c .before) in
     let w = c .written .ensures nullitope nullitope-measures z in
-    made-written _ nullitope z _ t _ _ _ _ _ _ _ w
+    made-written _ nullitope z _ t _ _ _ w
     (one-set (a .counts .now) 1 (q .room-counts)) (two-set (a .ends .now) 0 0 (q .room-ends)) refl
 
 pub put-nullitope-spec : {M : Type 1} → statement M

@@ -3,8 +3,7 @@
 use mathlib.Core.Path.{sym, _∙_}
 use native.Mathlib.Omega.{arith}
 use borrow.Author.Needs.{needs}
-use Rattle.product_sizes.proofs.Tested.{over-ranks, over-elements, over-incidences}
-use Rattle.product_sizes.proofs.Tested.{short-counts, short-ends, short-inc, sizes-fine}
+use Rattle.product_sizes.proofs.Tested.{over-ranks, over-elements, over-incidences, room-decides}
 use Rattle.product_sizes.proofs.sizes.check_sizes.Statement.{statement}
 use Rattle.product_sizes.proofs.sizes.check_sizes.Tie as tie
 
@@ -26,39 +25,16 @@ plain-requires-3 c κs = search needs
 returns-3 : tie.Need-returns-3
 returns-3 c = λ R z. c .plain3 .ensures ∙ sym (over-incidences _ R _ _ _ (omega arith) (omega arith) (omega arith))
 
-plain-requires-4 : tie.Need-plain-requires-4
-plain-requires-4 c κs = search needs
+mul-two-each : tie.Need-mul-two-each
+mul-two-each c = search needs
+
+check-room-requires : tie.Need-check-room-requires
+check-room-requires c κs = search needs
 
 returns-4 : tie.Need-returns-4
 returns-4 c = λ R z.
-    c .plain4 .ensures ∙ sym (short-counts _ R _ _ _ (omega arith) (omega arith) (omega arith) (omega arith))
-
-mul-if5 : tie.Need-mul-if5
-mul-if5 c = search needs
-
-plain-requires-5 : tie.Need-plain-requires-5
-plain-requires-5 c κs = search needs
-
-returns-5 : tie.Need-returns-5
-returns-5 c = λ R z.
-    c .plain5 .ensures
-    ∙ sym (short-ends _ R _ _ _ (omega arith) (omega arith) (omega arith) (omega arith) (omega arith))
-
-plain-requires-6 : tie.Need-plain-requires-6
-plain-requires-6 c κs = search needs
-
-returns-6 : tie.Need-returns-6
-returns-6 c = λ R z.
-    c .plain6 .ensures
-    ∙ sym (short-inc _ R _ _ _ (omega arith) (omega arith) (omega arith) (omega arith) (omega arith) (omega arith))
-
-plain-requires-7 : tie.Need-plain-requires-7
-plain-requires-7 c κs = search needs
-
-returns-7 : tie.Need-returns-7
-returns-7 c = λ R z.
-    c .plain7 .ensures
-    ∙ sym (sizes-fine _ R _ _ _ (omega arith) (omega arith) (omega arith) (omega arith) (omega arith) (omega arith))
+    c .check-room .ensures R (z .ranks) (z .ends) (z .incidences)
+    ∙ sym (room-decides _ R _ _ _ (omega arith) (omega arith) (omega arith))
 
 pub check-sizes-spec : {M : Type 1} → statement M
 check-sizes-spec =
@@ -70,12 +46,6 @@ check-sizes-spec =
     returns-2
     plain-requires-3
     returns-3
-    plain-requires-4
-    returns-4
-    mul-if5
-    plain-requires-5
-    returns-5
-    plain-requires-6
-    returns-6
-    plain-requires-7
-    returns-7)
+    mul-two-each
+    check-room-requires
+    returns-4)

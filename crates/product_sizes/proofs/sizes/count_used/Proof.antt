@@ -18,8 +18,10 @@ range-requires c κs =
 bit-of-requires : tie.Need-bit-of-requires
 bit-of-requires c κs = search needs
 
-elements-to-requires : tie.Need-elements-to-requires
-elements-to-requires c κs = search needs
+elements-before-requires : tie.Need-elements-before-requires
+elements-before-requires c κs =
+    let d = c .before in
+    omega (arith, room _ _ _ (d .before .before .before .before .pre) _ (d .range .ensures))
 
 shared-slice-read-wide : tie.Need-shared-slice-read-wide
 shared-slice-read-wide c =
@@ -54,8 +56,8 @@ add-subs-listed c =
 add-subs-listed-2 : tie.Need-add-subs-listed-2
 add-subs-listed-2 c =
     let d = c .before .before .before .before .before in
-    let b = bit-le (d .before .before .before .before .before .args .min) in
-    omega (arith, d .bit-of .ensures, c .before .before .before .before .elements-to .ensures)
+    let r = room _ _ _ (d .before .before .before .before .before .pre) _ (d .before .range .ensures) in
+    omega (arith, d .bit-of .ensures, c .before .before .before .before .elements-before .ensures, r .3)
 
 subs-listed-requires : tie.Need-subs-listed-requires
 subs-listed-requires c κs =
@@ -63,7 +65,7 @@ subs-listed-requires c κs =
     let u = d .before .before .before .before .before .before .pre in
     let S = usable-shaped _ _ _ u in
     let r = room _ _ _ u _ (d .before .before .range .ensures) in
-    let n = d .elements-to .ensures in
+    let n = d .elements-before .ensures in
     let b = d .before .bit-of .ensures in (
       shaped-ends _ S,
       (
@@ -78,7 +80,7 @@ returns : tie.Need-returns
 returns c =
     let d = c .before .before .before .before .before in
     let u = d .before .before .before .before .before .before .pre in
-    let n = d .elements-to .ensures in
+    let n = d .elements-before .ensures in
     let l = c .before .before .before .wide .ensures .0 in
     let h = c .before .wide2 .ensures .0 in
     let k = d .before .before .range .ensures in
@@ -93,7 +95,7 @@ count-used-spec =
     (tie.spec
     range-requires
     bit-of-requires
-    elements-to-requires
+    elements-before-requires
     shared-slice-read-wide
     wide-requires
     sub-wide

@@ -8,7 +8,7 @@ use lib.ListN.{length}
 use Rattle.listing.specs.Listing.{Listing, listing, side}
 use Rattle.listing.proofs.Listing.{rank-there}
 use Rattle.listing.proofs.ShapeExact.{shaped-ends}
-use Rattle.valid_incidence.proofs.Places.{side-fits, side-at}
+use Rattle.listing.proofs.Places.{side-fits, side-at}
 use Rattle.valid.proofs.AscentExact.{side-climbs, side-falls}
 use Rattle.valid.proofs.ascent.check_side.Statement.{statement}
 use Rattle.valid.proofs.ascent.check_side.Tie as tie

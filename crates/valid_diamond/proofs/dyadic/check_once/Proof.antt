@@ -15,11 +15,12 @@ use Rattle.valid_diamond.proofs.dyadic.check_once.Statement.{statement}
 use Rattle.valid_diamond.proofs.dyadic.check_once.Tie as tie
 
 abbrev Inv-loop : tie.InvT-loop
-Inv-loop tally n r i x₀ x =
-    loneIn (lone r i) tally n ≡ firstOf (λ y. on (eqb (getD tally y 0) 1) (lone r i y)) x n
+Inv-loop tally n of x₀ x =
+    let f = lone (of .rank) (of .index) in
+    loneIn f tally n ≡ firstOf (λ y. on (eqb (getD tally y 0) 1) (f y)) x n
 
 abbrev μ-loop : tie.MeasureT-loop
-μ-loop tally n r i x₀ x = n - x
+μ-loop tally n of x₀ x = n - x
 
 loop-holds : tie.Need-loop-holds Inv-loop μ-loop
 unfolding loneIn
@@ -31,16 +32,17 @@ wide-requires c κs = search needs
 element-copy-out-if1 : tie.Need-element-copy-out-if1 Inv-loop μ-loop
 element-copy-out-if1 c = search needs
 
-sub-t11 : tie.Need-sub-t11 Inv-loop μ-loop
-sub-t11 c = search needs
+sub-low : tie.Need-sub-low Inv-loop μ-loop
+sub-low c = search needs
 
 returns : tie.Need-returns Inv-loop μ-loop
 returns c =
-    let d = c .before .before .before in
+    let o = c .before in
+    let d = o .before .before .before in
     let a = d .before .before .args in
     let x = d .before .loop .x in
-    lone-stop _ (lone (a .r) (a .i)) (a .tally .now) x (a .n) (d .before .loop .inv) (d .loop-test .taken)
-    _ (c .before .before .wide .ensures .0) (c .if1 .taken) (λ z. omega arith)
+    lone-stop _ (lone (a .of .rank) (a .of .index)) (a .tally .now) x (a .n) (d .before .loop .inv)
+    (d .loop-test .taken) _ (o .before .before .wide .ensures .0) (o .if1 .taken) (λ z. omega arith)
 
 add-x : tie.Need-add-x Inv-loop μ-loop
 add-x c = search needs
@@ -53,8 +55,8 @@ loop-again c =
     let d = c .before .before .before in
     let a = d .before .before .args in
     let x = d .before .loop .x in
-    lone-next _ (lone (a .r) (a .i)) (a .tally .now) x (a .n) (d .before .loop .inv) (d .loop-test .taken)
-    _ (c .before .before .wide .ensures .0) (c .if1 .left)
+    lone-next _ (lone (a .of .rank) (a .of .index)) (a .tally .now) x (a .n) (d .before .loop .inv)
+    (d .loop-test .taken) _ (c .before .before .wide .ensures .0) (c .if1 .left)
 
 plain-requires : tie.Need-plain-requires Inv-loop μ-loop
 plain-requires c κs = search needs
@@ -71,7 +73,7 @@ check-once-spec =
     loop-holds
     wide-requires
     element-copy-out-if1
-    sub-t11
+    sub-low
     returns
     add-x
     loop-less

@@ -8,9 +8,9 @@ use native.Mathlib.Omega.{arith}
 use borrow.Author.Needs.{needs}
 use lib.ListN.{length}
 use Rattle.listing.specs.Listing.{Listing, listing, limits, before, subs}
-use Rattle.listing.proofs.Listing.{rank-there}
+use Rattle.listing.proofs.Listing.{rank-there, before-step}
 use Rattle.listing.proofs.ShapeExact.{shaped-ends}
-use Rattle.valid_incidence.proofs.Places.{side-fits, side-at, before-step, few-before, few-in-rank}
+use Rattle.listing.proofs.Places.{side-fits, side-at, few-before, few-in-rank}
 use Rattle.valid_diamond.specs.Dyadic.{walk, third, lone}
 use Rattle.valid_diamond.specs.Tally.{loneIn, Tallied}
 use Rattle.valid_diamond.proofs.Walks.{walk-same, tally-zero, walkable, lone-same, sections-stop, sections-go}
@@ -50,6 +50,10 @@ tallied c =
     rw (walk-same (s .args .ends .now) (s .args .inc .now) (s .args .b) (s .pre .1 .1 .0) l)
     at (c .tally-all .ensures .0 [] (tally-zero (limits .elements)))
 
+-- where the function began, seen from there
+abbrev begun : tie.After-tally-all → tie.Start
+begun d = d .before .before .before .before .before .before .before .before
+
 sub-count-at : tie.Need-sub-count-at
 sub-count-at c = search needs
 
@@ -70,9 +74,9 @@ side-of-requires c κs =
     let f = side-fits (L s) (s .pre .0) (s .args .r) (s .args .i) 0 (s .pre .1 .1 .2) (omega arith) in
     (shaped-ends (L s) (s .pre .0), rw (here c) f)
 
-cast-tally-all : tie.Need-cast-tally-all
-cast-tally-all c =
-    let s = c .before .before .before .before .before .before .before in
+cast-rank : tie.Need-cast-rank
+cast-rank c =
+    let s = c .before .before .before .before .before .before in
     omega (arith, there s, s .pre .0)
 
 tally-all-requires : tie.Need-tally-all-requires
@@ -91,14 +95,9 @@ sub-count-at-2 c = search needs
 count-at-requires-2 : tie.Need-count-at-requires-2
 count-at-requires-2 c κs = search needs
 
-cast-check-lone : tie.Need-cast-check-lone
-cast-check-lone c =
-    let s = c .before .before .before .before .before .before .before .before .before .before .before .before in
-    omega (arith, there s, s .pre .0)
-
 check-lone-requires : tie.Need-check-lone-requires
 check-lone-requires c κs =
-    let s = c .before .before .before .before .before .before .before .before .before .before .before .before in
+    let s = begun (c .before .before .before .before) in
     let f = few-in-rank (L s) (s .pre .0) (s .args .r - 2) in
     let C = c .before .before .before .before .tally-all .ensures .1 in
     (omega (arith, f, c .count-at2 .ensures), (s .pre .1 .1 .1, C))
@@ -106,7 +105,7 @@ check-lone-requires c κs =
 returns-2 : tie.Need-returns-2
 returns-2 c =
     let d = c .before .before .before .before .before in
-    let s = d .before .before .before .before .before .before .before .before in
+    let s = begun d in
     let t = tallied d in
     let z = c .before .before .before .if1 .left in
     let f = lone (s .args .r) (s .args .i) in
@@ -123,11 +122,10 @@ check-sections-spec =
     wide-requires
     add-here
     side-of-requires
-    cast-tally-all
+    cast-rank
     tally-all-requires
     returns
     sub-count-at-2
     count-at-requires-2
-    cast-check-lone
     check-lone-requires
     returns-2)

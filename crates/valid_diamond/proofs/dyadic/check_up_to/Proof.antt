@@ -9,8 +9,8 @@ use lib.ListN.{getD}
 use Rattle.listing.specs.Answers.{firstOf}
 use Rattle.listing.specs.Listing.{listing, before}
 use Rattle.listing.proofs.Answers.{of-return, of-turn, of-done}
-use Rattle.listing.proofs.Listing.{before-zero, before-next}
-use Rattle.valid_incidence.proofs.Places.{before-step, few-before}
+use Rattle.listing.proofs.Listing.{before-zero, before-next, before-step}
+use Rattle.listing.proofs.Places.{few-before}
 use Rattle.valid_diamond.specs.Dyadic.{sectionsTest, dyadicTest}
 use Rattle.valid_diamond.proofs.dyadic.check_up_to.Statement.{statement}
 use Rattle.valid_diamond.proofs.dyadic.check_up_to.Tie as tie
@@ -24,6 +24,10 @@ Inv-loop counts ends inc high b₀ r₀ b r =
 
 abbrev μ-loop : tie.MeasureT-loop
 μ-loop counts ends inc high b₀ r₀ b r = high + 1 - r
+
+-- where the function began, seen from the loop
+abbrev begun : tie.At-loop Inv-loop μ-loop → tie.Start Inv-loop μ-loop
+begun l = l .before .before .before .before .before .before
 
 shared-slice-read-wide : tie.Need-shared-slice-read-wide Inv-loop μ-loop
 shared-slice-read-wide c = search needs
@@ -39,7 +43,7 @@ loop-holds c =
 
 check-rank-requires : tie.Need-check-rank-requires Inv-loop μ-loop
 check-rank-requires c κs =
-    let s = c .before .before .before .before .before .before .before in
+    let s = begun (c .before) in
     let v = c .before .loop .inv in
     (s .pre .0, (s .pre .1 .0, (v .1, v .0, omega arith)))
 
@@ -62,9 +66,10 @@ wide-requires-2 c κs = search needs
 
 add-b : tie.Need-add-b Inv-loop μ-loop
 add-b c =
-    let s = c .before .before .before .before .before .before .before .before .before .before .before .before in
+    let o = c .before .before .before .before .before .before in
+    let s = begun o in
     let l = s .args .counts .now in
-    let r = c .before .before .before .before .before .before .loop .r in
+    let r = o .loop .r in
     let f = few-before (listing l (s .args .ends .now) (s .args .inc .now)) (s .pre .0) r in
     omega (arith, before-step l r (omega arith), f)
 
@@ -77,10 +82,11 @@ loop-less c = search needs
 loop-again : tie.Need-loop-again Inv-loop μ-loop
 loop-again c =
     let d = c .before .before .before .before in
-    let l = d .before .before .before .before .before .before .before .before .args .counts .now in
-    let r = d .before .before .loop .r in
+    let o = d .before .before in
+    let l = begun o .args .counts .now in
+    let r = o .loop .r in
     let e : r + 1 - 1 ≡ r = omega arith in
-    let t = of-turn _ _ _ _ _ (d .before .before .loop .inv .2) (d .check-rank .ensures) in
+    let t = of-turn _ _ _ _ _ (o .loop .inv .2) (d .check-rank .ensures) in
     (omega arith, rw e (omega (arith, before-step l r (omega arith))), t (omega arith) (c .before .before .if1 .left))
 
 plain-requires : tie.Need-plain-requires Inv-loop μ-loop

@@ -6,27 +6,32 @@ use Prim.Native.Nat.{ℕ, _-_}
 use borrow.Author.Needs.{needs}
 use lib.ListN.{length, getD, take}
 use Rattle.listing.specs.Listing.{limits}
-use Rattle.valid_incidence.proofs.Sequences.{in-at}
+use Rattle.order.proofs.Positions.{in-at}
 use Rattle.valid_diamond.specs.Dyadic.{subsOfAll, seenAfter, third}
 use Rattle.valid_diamond.specs.Tally.{LoneCount, Tally, Tallied}
-use Rattle.valid_diamond.proofs.Walks.{subsOf, Walked, walked-none, walk-more, walk-stop, walk-all, tallied-walked}
+use Rattle.valid_diamond.proofs.Walks.{subsOf, Walked, walked-none, walk-more, walk-stop, walk-all}
+use Rattle.valid_diamond.proofs.Walks.{tallied-walked}
 use Rattle.valid_diamond.proofs.dyadic.tally_all.Statement.{statement}
 use Rattle.valid_diamond.proofs.dyadic.tally_all.Tie as tie
 
 abbrev Inv-loop : tie.InvT-loop
-Inv-loop tally₀ ends inc b subs r i once₀ j₀ tally once j =
+Inv-loop tally₀ ends inc b subs of once₀ j₀ tally once j =
     LoneCount (limits .elements) tally once
     × ((seen : List ℕ) → Tally (limits .elements) tally₀ seen
-    → Walked (limits .elements) (third r i) tally seen (subsOfAll ends inc b (take j subs)))
+    → Walked (limits .elements) (third (of .rank) (of .index)) tally seen (subsOfAll ends inc b (take j subs)))
 
 abbrev μ-loop : tie.MeasureT-loop
-μ-loop tally₀ ends inc b subs r i once₀ j₀ tally once j = length subs - j
+μ-loop tally₀ ends inc b subs of once₀ j₀ tally once j = length subs - j
 
 abbrev Here : Type 0
 Here = tie.After-tally-list Inv-loop μ-loop
 
+-- where the function began, seen from the list at hand
+abbrev begun : tie.After-side-of Inv-loop μ-loop → tie.Start Inv-loop μ-loop
+begun d = d .before .before .before .before .before .before .before .before
+
 abbrev start : Here → tie.Start Inv-loop μ-loop
-start c = c .before .before .before .before .before .before .before .before .before
+start c = begun (c .before)
 
 abbrev at : Here → ℕ
 at c = c .before .before .before .before .before .loop .j
@@ -44,7 +49,7 @@ list c =
 
 -- what was tallied for the list at hand
 one : (c : Here) (seen : List ℕ) → Tally (limits .elements) (start c .args .tally .now) seen
-    → Tallied (limits .elements) (c .tally-list .last .0) (third (start c .args .r) (start c .args .i))
+    → Tallied (limits .elements) (c .tally-list .last .0) (third (start c .args .of .rank) (start c .args .of .index))
     (seenAfter seen (done c)) (list c) (c .tally-list .result .answer)
 one c seen T =
     let w = c .before .before .before .before .before .loop .inv .1 seen T in

@@ -7,7 +7,7 @@ use native.Mathlib.Omega.{arith}
 use borrow.Author.Needs.{needs}
 use lib.ListN.{length, getD, take}
 use Rattle.listing.specs.Listing.{limits}
-use Rattle.valid_incidence.proofs.Sequences.{in-at}
+use Rattle.order.proofs.Positions.{in-at}
 use Rattle.valid_diamond.specs.Dyadic.{third}
 use Rattle.valid_diamond.specs.Tally.{LoneCount, Tally}
 use Rattle.valid_diamond.proofs.Ones.{lone-le, lone-at, lone-more}
@@ -16,13 +16,13 @@ use Rattle.valid_diamond.proofs.dyadic.tally_list.Statement.{statement}
 use Rattle.valid_diamond.proofs.dyadic.tally_list.Tie as tie
 
 abbrev Inv-loop : tie.InvT-loop
-Inv-loop tally₀ subs once r i n₀ j₀ tally n j =
+Inv-loop tally₀ subs once of n₀ j₀ tally n j =
     LoneCount (limits .elements) tally n
     × ((seen : List ℕ) → Tally (limits .elements) tally₀ seen
-    → Walked (limits .elements) (third r i) tally seen (take j subs))
+    → Walked (limits .elements) (third (of .rank) (of .index)) tally seen (take j subs))
 
 abbrev μ-loop : tie.MeasureT-loop
-μ-loop tally₀ subs once r i n₀ j₀ tally n j = length subs - j
+μ-loop tally₀ subs once of n₀ j₀ tally n j = length subs - j
 
 -- the index has a place in the tally
 inside : (c : tie.After-wide Inv-loop μ-loop) → c .wide .result < limits .elements
@@ -52,15 +52,16 @@ wide-requires c κs = search needs
 element-copy-out-if1 : tie.Need-element-copy-out-if1 Inv-loop μ-loop
 element-copy-out-if1 c = inside c
 
-sub-t18 : tie.Need-sub-t18 Inv-loop μ-loop
-sub-t18 c = search needs
+sub-low : tie.Need-sub-low Inv-loop μ-loop
+sub-low c = search needs
 
 returns : tie.Need-returns Inv-loop μ-loop
 returns c =
-    let d = c .before .before in
+    let o = c .before in
+    let d = o .before .before in
     let v = d .before .before .before .loop .inv in
     let x = d .wide .ensures .0 in
-    let h : 2 ≤ getD (d .before .before .before .loop .tally) (d .wide .result) 0 = omega (arith, c .if1 .taken) in (
+    let h : 2 ≤ getD (d .before .before .before .loop .tally) (d .wide .result) 0 = omega (arith, o .if1 .taken) in (
       λ seen T.
           list-stop _ seen _ _ (v .1 seen T) (d .before .before .loop-test .taken) _ x (inside d) h (λ z. omega arith),
       v .0,
@@ -121,7 +122,7 @@ tally-list-spec =
     shared-slice-read-sub-sub
     wide-requires
     element-copy-out-if1
-    sub-t18
+    sub-low
     returns
     element-copy-out-once-after
     once-after-requires

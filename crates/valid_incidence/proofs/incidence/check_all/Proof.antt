@@ -11,7 +11,7 @@ use Rattle.listing.specs.Listing.{listing, before}
 use Rattle.listing.proofs.Answers.{of-return, of-turn, of-done}
 use Rattle.listing.proofs.Listing.{before-zero, before-next}
 use Rattle.valid_incidence.specs.Incidence.{elementTest, incidencesTest}
-use Rattle.valid_incidence.proofs.Places.{few-before}
+use Rattle.listing.proofs.Places.{few-before}
 use Rattle.valid_incidence.proofs.incidence.check_all.Statement.{statement}
 use Rattle.valid_incidence.proofs.incidence.check_all.Tie as tie
 
@@ -24,13 +24,17 @@ Inv-loop counts ends inc here₀ r₀ here r =
 abbrev μ-loop : tie.MeasureT-loop
 μ-loop counts ends inc here₀ r₀ here r = length counts - r
 
+-- where the function began, seen from the loop
+abbrev begun : tie.At-loop Inv-loop μ-loop → tie.Start Inv-loop μ-loop
+begun l = l .before .before .before .before
+
 loop-holds : tie.Need-loop-holds Inv-loop μ-loop
 unfolding incidencesTest
 loop-holds c = (sym (before-zero (c .before .before .before .args .counts .now)), refl)
 
 check-rank-requires : tie.Need-check-rank-requires Inv-loop μ-loop
 check-rank-requires c κs =
-    let s = c .before .before .before .before .before in
+    let s = begun (c .before) in
     (s .pre, (c .before .loop .inv .0, c .loop-test .taken))
 
 returns : tie.Need-returns Inv-loop μ-loop
@@ -47,9 +51,10 @@ wide-requires c κs = search needs
 
 add-here : tie.Need-add-here Inv-loop μ-loop
 add-here c =
-    let s = c .before .before .before .before .before .before .before .before .before .before in
+    let o = c .before .before .before .before .before .before in
+    let s = begun o in
     let l = s .args .counts .now in
-    let r = c .before .before .before .before .before .before .loop .r in
+    let r = o .loop .r in
     let f = few-before (listing l (s .args .ends .now) (s .args .inc .now)) (s .pre) (r + 1) in
     omega (arith, f, before-next l r)
 
@@ -62,9 +67,9 @@ loop-less c = search needs
 loop-again : tie.Need-loop-again Inv-loop μ-loop
 loop-again c =
     let d = c .before .before .before .before in
-    let l = d .before .before .before .before .before .before .args .counts .now in
-    let b = before-next l (d .before .before .loop .r) in
-    let t = of-turn _ _ _ _ _ (d .before .before .loop .inv .1) (d .check-rank .ensures) in
+    let o = d .before .before in
+    let b = before-next (begun o .args .counts .now) (o .loop .r) in
+    let t = of-turn _ _ _ _ _ (o .loop .inv .1) (d .check-rank .ensures) in
     (omega arith, t (d .before .loop-test .taken) (c .before .before .if1 .left))
 
 plain-requires : tie.Need-plain-requires Inv-loop μ-loop

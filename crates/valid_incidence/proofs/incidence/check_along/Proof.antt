@@ -5,17 +5,16 @@ use Prim.Native.Nat.{_-_}
 use borrow.Author.Needs.{needs}
 use lib.ListN.{length, drop}
 use Rattle.listing.proofs.Answers.{in-next, in-stop, in-end, no-of, stops}
-use Rattle.valid_incidence.specs.Incidence.{alongTest}
+use Rattle.valid_incidence.specs.Ways.{alongTest}
 use Rattle.valid_incidence.proofs.incidence.check_along.Statement.{statement}
 use Rattle.valid_incidence.proofs.incidence.check_along.Tie as tie
 
 abbrev Inv-loop : tie.InvT-loop
-Inv-loop ends inc way r i list j₀ j =
-    let f = alongTest ends inc (way .n) (way .b) (way .s) (way .missing) (way .oneway) r i in
-    f list ≡ f (drop j list)
+Inv-loop ends inc way of list j₀ j =
+    alongTest ends inc way (of .rank) (of .index) list ≡ alongTest ends inc way (of .rank) (of .index) (drop j list)
 
 abbrev μ-loop : tie.MeasureT-loop
-μ-loop ends inc way r i list j₀ j = length list - j
+μ-loop ends inc way of list j₀ j = length list - j
 
 loop-holds : tie.Need-loop-holds Inv-loop μ-loop
 loop-holds c = search needs

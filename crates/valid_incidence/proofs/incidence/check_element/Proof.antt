@@ -9,7 +9,8 @@ use Rattle.listing.specs.Listing.{Listing, listing}
 use Rattle.listing.proofs.Listing.{rank-there}
 use Rattle.listing.proofs.ShapeExact.{shaped-ends}
 use Rattle.valid_incidence.proofs.Entries.{list-same, lower, element-stop, element-go}
-use Rattle.valid_incidence.proofs.Places.{side-fits, down-fits, up-fits, side-at, few-before}
+use Rattle.listing.proofs.Places.{side-fits, side-at, few-before}
+use Rattle.valid_incidence.proofs.Ways.{down-fits, up-fits}
 use Rattle.valid_incidence.proofs.incidence.check_element.Statement.{statement}
 use Rattle.valid_incidence.proofs.incidence.check_element.Tie as tie
 
@@ -24,14 +25,23 @@ there s = rank-there (L s) (s .args .r) (s .args .i) (s .pre .1 .1)
 fits : (s : tie.Start) (k : ℕ) → k < 2 → 2 * (s .args .here + s .args .i) + k < length (s .args .ends .now)
 fits s k h = rw (s .pre .1 .0) (side-fits (L s) (s .pre .0) (s .args .r) (s .args .i) k (s .pre .1 .1) h)
 
+-- where the function began, seen from the answer for the subs
+abbrev begun : tie.After-check-list → tie.Start
+begun d = d .before .before .before .before .before .before
+
 -- what was answered for the subs
-low : (c : tie.After-check-list) → let s = c .before .before .before .before .before .before in
+low : (c : tie.After-check-list) → let s = begun c in
     c .check-list .result ≡ lower (L s) (s .args .r) (s .args .i)
 low c =
-    let s = c .before .before .before .before .before .before in
+    let s = begun c in
     let l = c .before .before .side-of .ensures ∙ side-at (L s) _ _ _ _ (s .pre .1 .0) in
     let w = c .before .way-down .ensures (s .args .ends .now) (s .args .inc .now) in
     c .check-list .ensures ∙ list-same _ _ _ _ _ _ w l
+
+cast-rank : tie.Need-cast-rank
+cast-rank c =
+    let s = c .before .before .before in
+    omega (arith, there s, s .pre .0)
 
 side-of-requires : tie.Need-side-of-requires
 side-of-requires c κs =
@@ -40,11 +50,6 @@ side-of-requires c κs =
 
 way-down-requires : tie.Need-way-down-requires
 way-down-requires c κs = search needs
-
-cast-check-list : tie.Need-cast-check-list
-cast-check-list c =
-    let s = c .before .before .before .before .before in
-    omega (arith, there s, s .pre .0)
 
 check-list-requires : tie.Need-check-list-requires
 check-list-requires c κs =
@@ -57,29 +62,24 @@ returns c = element-stop _ _ _ (low (c .before .before)) (c .if1 .taken)
 
 side-of-requires-2 : tie.Need-side-of-requires-2
 side-of-requires-2 c κs =
-    let s = c .before .before .before .before .before .before .before .before in
+    let s = begun (c .before .before) in
     (shaped-ends (L s) (s .pre .0), fits s 1 (omega arith))
 
 way-up-requires : tie.Need-way-up-requires
 way-up-requires c κs =
-    let s = c .before .before .before .before .before .before .before .before .before in
+    let s = begun (c .before .before .before) in
     (s .pre .1 .0, (there s, omega (arith, few-before (L s) (s .pre .0) (s .args .r))))
-
-cast-check-list-2 : tie.Need-cast-check-list-2
-cast-check-list-2 c =
-    let s = c .before .before .before .before .before .before .before .before .before .before in
-    omega (arith, there s, s .pre .0)
 
 check-list-requires-2 : tie.Need-check-list-requires-2
 check-list-requires-2 c κs =
-    let s = c .before .before .before .before .before .before .before .before .before .before in
+    let s = begun (c .before .before .before .before) in
     let e = c .way-up .ensures (s .args .ends .now) (s .args .inc .now) in
     (shaped-ends (L s) (s .pre .0), (rw e (up-fits (L s) (s .pre .0) (s .args .r)), rw e (omega arith)))
 
 returns-2 : tie.Need-returns-2
 returns-2 c =
     let d = c .before .before .before .before .before in
-    let s = d .before .before .before .before .before .before in
+    let s = begun d in
     let l = c .before .before .side-of2 .ensures ∙ side-at (L s) _ _ _ _ (s .pre .1 .0) in
     let w = c .before .way-up .ensures (s .args .ends .now) (s .args .inc .now) in
     element-go (L s) (s .args .r) (s .args .i) (low d) (c .before .before .before .if1 .left)
@@ -89,13 +89,12 @@ pub check-element-spec : {M : Type 1} → statement M
 check-element-spec =
     tie.close
     (tie.spec
+    cast-rank
     side-of-requires
     way-down-requires
-    cast-check-list
     check-list-requires
     returns
     side-of-requires-2
     way-up-requires
-    cast-check-list-2
     check-list-requires-2
     returns-2)

@@ -20,16 +20,16 @@ returns c =
     let d = c .before .before in
     let h = sym (d .contains .ensures) ∙ c .before .if2 .taken in
     c .plain .ensures
-    ∙ sym (entry-fine _ _ _ _ _ _ _ (d .before .before .if1 .taken) (rw (← d .before .side-of .ensures) h))
+    ∙ sym (entry-fine _ _ _ _ _ _ (d .before .before .if1 .taken) (rw (← d .before .side-of .ensures) h))
 
 returns-2 : tie.Need-returns-2
 returns-2 c =
     let d = c .before in
     let h = sym (d .contains .ensures) ∙ c .if2 .left in
-    sym (entry-oneway _ _ _ _ _ _ _ (d .before .before .if1 .taken) (rw (← d .before .side-of .ensures) h))
+    sym (entry-oneway _ _ _ _ _ _ (d .before .before .if1 .taken) (rw (← d .before .side-of .ensures) h))
 
 returns-3 : tie.Need-returns-3
-returns-3 c = sym (entry-missing _ _ _ _ _ _ _ (c .if1 .left))
+returns-3 c = sym (entry-missing _ _ _ _ _ _ (c .if1 .left))
 
 pub check-entry-spec : {M : Type 1} → statement M
 check-entry-spec =

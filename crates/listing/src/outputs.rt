@@ -1,0 +1,45 @@
+// Output slices that a caller lends: whether they have room for a listing, and what is answered at a refusal.
+use crate::Answer;
+use crate::Built;
+use crate::inner;
+use crate::refusal;
+ghost use mathlib.Core.Path.{_≡_};
+ghost use lib.ListN.{length};
+ghost use Rattle.listing.specs.Listing.{Listing};
+ghost use Rattle.listing.specs.Output.{roomTest, builtOf};
+
+// How many numbers the three slices of a listing take, or have room for.
+pub struct Room {
+    pub counts: usize,
+    pub ends: usize,
+    pub inc: usize,
+}
+
+// Whether slices with this much room can hold a listing that needs so much.
+pub fn check_room(need: Room, room: Room) -> Answer
+    ensures { λ r. ⌜ ((R : Listing) → length (R .counts) ≡ need .counts → length (R .ends) ≡ need .ends
+        → length (R .inc) ≡ need .inc → r ≡ roomTest R (room .counts) (room .ends) (room .inc)) ⌝ }
+{
+    if room.counts < need.counts {
+        return inner::plain(refusal::OUTPUT_SHORT);
+    }
+    if room.ends < need.ends {
+        return inner::plain(refusal::OUTPUT_SHORT);
+    }
+    if room.inc < need.inc {
+        return inner::plain(refusal::OUTPUT_SHORT);
+    }
+    inner::plain(0)
+}
+
+// What is answered at a refusal: nothing is written.
+pub fn refused(answer: Answer) -> Built
+    ensures { λ r. ⌜ ((R : Listing) → (answer .no ≡ 0 → ⊥) → r ≡ builtOf answer R) ⌝ }
+{
+    Built {
+        answer,
+        counts: 0,
+        ends: 0,
+        inc: 0,
+    }
+}
