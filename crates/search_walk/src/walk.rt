@@ -24,7 +24,7 @@ ghost use Rattle.search_store.specs.Rows.{rowOf, sameList};
 ghost use Rattle.search_store.specs.Held.{stateOf, Held, Moved};
 ghost use Rattle.search_masks.specs.Masks.{InnerRanks};
 ghost use Rattle.search_walk.specs.Searched.{maskChanges, foundBy};
-ghost use Rattle.search_walk.specs.Ready.{Ended, AllFlags, Places, Ready, AtHand};
+ghost use Rattle.search_walk.specs.Ready.{Ended, Places, Ready, Walks, AtHand};
 
 // The byte of the other orientation.
 fn flipped(byte: u8) -> u8
@@ -114,10 +114,8 @@ fn work(
     room: usize,
     start: Progress,
 ) -> Progress
-    requires { ⌜ Ready (held counts ends inc) (now places) (now weights) ⌝ }
-    requires { ⌜ InnerRanks (rank (held counts ends inc)) mask ⌝ }
-    requires { ⌜ Held (length (now counts)) room (now table) (now bytes) (now heads) (now next) (start .count) ⌝ }
-    requires { ⌜ AllFlags (held counts ends inc) (now table) (start .count) ⌝ }
+    requires { ⌜ Walks (held counts ends inc) (now places) (now weights) mask room (now table) (now bytes) (now heads)
+        (now next) (start .count) ⌝ }
     requires { ⌜ (k < start .count) × (start .overflow ≡ false) ⌝ }
     ensures { λ p. ⌜ Moved (length (now (counts .entry))) room (now (table .entry)) (now (bytes .entry)) start
         (now (table .exit)) (now (bytes .exit)) (now (heads .exit)) (now (next .exit)) p
@@ -176,10 +174,8 @@ fn run(
     room: usize,
     start: Progress,
 ) -> Progress
-    requires { ⌜ Ready (held counts ends inc) (now places) (now weights) ⌝ }
-    requires { ⌜ InnerRanks (rank (held counts ends inc)) mask ⌝ }
-    requires { ⌜ Held (length (now counts)) room (now table) (now bytes) (now heads) (now next) (start .count) ⌝ }
-    requires { ⌜ AllFlags (held counts ends inc) (now table) (start .count) ⌝ }
+    requires { ⌜ Walks (held counts ends inc) (now places) (now weights) mask room (now table) (now bytes) (now heads)
+        (now next) (start .count) ⌝ }
     ensures { λ p. ⌜ ((a : List ℕ) → Moved (length (now (counts .entry))) room (now (table .entry)) (now (bytes .entry))
         start (now (table .exit)) (now (bytes .exit)) (now (heads .exit)) (now (next .exit)) p
         (runIn sameList room (maskChanges (held (counts .entry) (ends .entry) (inc .entry)) mask) a

@@ -32,7 +32,7 @@ turned c = c .before .before .before .before
 loop-holds : tie.Need-loop-holds Inv-loop μ-loop
 loop-holds c =
     let s = c .before .before .before .before .before in
-    running-start (L s) (s .pre .0 .closed) _ _ (s .pre .1 .0) (s .pre .1 .1 .0) (s .pre .1 .1 .1)
+    running-start (L s) (s .pre .ready .closed) _ _ (s .pre .inner) (s .pre .rows) (s .pre .flags)
 
 same-length : tie.Need-same-length Inv-loop μ-loop
 same-length c = looped (c .before) .loop .inv .moved .rest .long
@@ -44,15 +44,17 @@ returns : tie.Need-returns Inv-loop μ-loop
 returns c =
     let l = looped (c .before) in
     let s = begun l in
-    running-stop (L s) (s .pre .0 .closed) _ _ (s .pre .1 .0) (l .loop .inv) (c .if2 .taken)
+    running-stop (L s) (s .pre .ready .closed) _ _ (s .pre .inner) (l .loop .inv) (c .if2 .taken)
 
 work-requires : tie.Need-work-requires Inv-loop μ-loop
 work-requires c κs =
     let t = turned c in
     let l = looped (t .before) in
     let s = begun l in
-    let K = l .loop .inv in
-    (s .pre .0, (s .pre .1 .0, (K .moved .held, (K .flags, (t .before .if1 .taken, t .if2 .left)))))
+    let K = l .loop .inv in (
+      record { ready = s .pre .ready; inner = s .pre .inner; rows = K .moved .held; flags = K .flags },
+      (t .before .if1 .taken, t .if2 .left),
+    )
 
 add-k : tie.Need-add-k Inv-loop μ-loop
 add-k c =
@@ -70,7 +72,7 @@ loop-again c =
     let t = turned (c .before .before .before .before .before) in
     let l = looped (t .before) in
     let s = begun l in
-    running-next (L s) (s .pre .0 .closed) _ _ (s .pre .1 .0) (l .loop .inv) (t .if2 .left) (t .before .if1 .taken)
+    running-next (L s) (s .pre .ready .closed) _ _ (s .pre .inner) (l .loop .inv) (t .if2 .left) (t .before .if1 .taken)
     (c .before .before .before .before .work .ensures)
 
 same-length-3 : tie.Need-same-length-3 Inv-loop μ-loop
@@ -82,7 +84,7 @@ same-length-4 c = c .before .before .loop .inv .moved .rest .bytes-long
 returns-2 : tie.Need-returns-2 Inv-loop μ-loop
 returns-2 c =
     let s = begun (c .before .before) in
-    running-end (L s) (s .pre .0 .closed) _ _ (s .pre .1 .0) (c .before .before .loop .inv) (c .if1 .left)
+    running-end (L s) (s .pre .ready .closed) _ _ (s .pre .inner) (c .before .before .loop .inv) (c .if1 .left)
 
 pub run-spec : {M : Type 1} → statement M
 run-spec =

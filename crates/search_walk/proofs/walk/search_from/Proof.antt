@@ -86,10 +86,17 @@ run-requires c κs =
     let m = met (c .before .before) in
     let p = padded (m .before) in
     let s = began p in
-    let M = first-met m in (
-      record { closed = s .pre .0; begins = p .before .before .places-of .ensures; weighs = p .before .weights .ensures },
-      (s .pre .1 .1 .0, (M .held, first-flags (L s) (s .args .room) (s .args .mask) _ _ _ M (s .pre .1 .0))),
-    )
+    let M = first-met m in
+    record {
+      ready = record {
+        closed = s .pre .0;
+        begins = p .before .before .places-of .ensures;
+        weighs = p .before .weights .ensures;
+      };
+      inner = s .pre .1 .1 .0;
+      rows = M .held;
+      flags = first-flags (L s) (s .args .room) (s .args .mask) _ _ _ M (s .pre .1 .0);
+    }
 
 same-length : tie.Need-same-length
 same-length c = search needs

@@ -60,7 +60,7 @@ row-inside : (s : tie.Start Inv-loop μ-loop) → let w = length (s .args .count
     s .args .k * w + w ≤ length (s .args .table .now)
 row-inside s =
     let w = length (s .args .counts .now) in
-    omega (arith, row-end (s .args .k) (s .args .start .count) w (s .pre .1 .1 .1 .1 .0), s .pre .1 .1 .0 .indexed .fits)
+    omega (arith, row-end (s .args .k) (s .args .start .count) w (s .pre .1 .0), s .pre .0 .rows .indexed .fits)
 
 abbrev row : tie.Start Inv-loop μ-loop → List ℕ
 row s = rowOf (length (s .args .counts .now)) (s .args .table .now) (s .args .k)
@@ -77,7 +77,7 @@ row-is : (c : tie.At-loop Inv-loop μ-loop) → let s = began (c .before) in
     take (length (s .args .counts .now)) (c .loop .flag) ≡ row s
 row-is c =
     let s = began (c .before) in
-    rw (flag-is c) (array-first _ (row s) (row-long s) (s .pre .0 .closed .shaped .few-ranks))
+    rw (flag-is c) (array-first _ (row s) (row-long s) (s .pre .0 .ready .closed .shaped .few-ranks))
 
 byte-is : (c : tie.At-loop Inv-loop μ-loop) → let s = began (c .before) in
     c .before .flipped .result ≡ 1 - getD (s .args .bytes .now) (s .args .k) 0
@@ -87,8 +87,8 @@ hand : (c : tie.At-loop Inv-loop μ-loop) → AtHand (L (began (c .before))) (c 
 hand c =
     let s = began (c .before) in
     record {
-      long = rw (flag-is c) (array-long _ (row s) (row-long s) (s .pre .0 .closed .shaped .few-ranks));
-      is-flag = rw (row-is c) (s .pre .1 .1 .1 .0 (s .args .k) (s .pre .1 .1 .1 .1 .0));
+      long = rw (flag-is c) (array-long _ (row s) (row-long s) (s .pre .0 .ready .closed .shaped .few-ranks));
+      is-flag = rw (row-is c) (s .pre .0 .flags (s .args .k) (s .pre .1 .0));
       sum-is = rw (c .loop .inv .0) (c .before .before .before .sum-of .ensures .0);
       small = c .before .before .before .sum-of .ensures .1;
     }
@@ -105,14 +105,14 @@ wide-requires c κs = search needs
 get-row-requires : tie.Need-get-row-requires Inv-loop μ-loop
 get-row-requires c κs =
     let s = begun c in
-    (s .pre .0 .closed .shaped .few-ranks, rw (c .before .before .wide .ensures .0) (row-inside s), refl)
+    (s .pre .0 .ready .closed .shaped .few-ranks, rw (c .before .before .wide .ensures .0) (row-inside s), refl)
 
 sum-of-requires : tie.Need-sum-of-requires Inv-loop μ-loop
 sum-of-requires c κs =
     let s = begun (c .before .before) in
-    let few = s .pre .0 .closed .shaped .few-ranks in
+    let few = s .pre .0 .ready .closed .shaped .few-ranks in
     let e = rw (c .before .before .before .before .wide .ensures .0) at (c .before .get-row .ensures) in
-    (few, rw e (array-long _ (row s) (row-long s) few), s .pre .0 .weighs)
+    (few, rw e (array-long _ (row s) (row-long s) few), s .pre .0 .ready .weighs)
 
 slice-read-flipped : tie.Need-slice-read-flipped Inv-loop μ-loop
 slice-read-flipped c =
@@ -120,9 +120,9 @@ slice-read-flipped c =
     omega (
       arith,
       c .before .before .before .before .before .before .wide .ensures .0,
-      s .pre .1 .1 .1 .1 .0,
-      s .pre .1 .1 .0 .fits,
-      s .pre .1 .1 .0 .room-bytes,
+      s .pre .1 .0,
+      s .pre .0 .rows .fits,
+      s .pre .0 .rows .room-bytes,
     )
 
 flipped-requires : tie.Need-flipped-requires Inv-loop μ-loop
@@ -131,7 +131,7 @@ flipped-requires c κs = search needs
 loop-holds : tie.Need-loop-holds Inv-loop μ-loop
 loop-holds c =
     let s = begun (c .before .before .before .before .before) in
-    (refl, working-start (L s) _ _ _ (s .args .mask) (s .pre .1 .1 .0) (omega arith) (s .pre .1 .0))
+    (refl, working-start (L s) _ _ _ (s .args .mask) (s .pre .0 .rows) (omega arith) (s .pre .0 .inner))
 
 any-left-requires : tie.Need-any-left-requires Inv-loop μ-loop
 any-left-requires c κs = search needs
@@ -162,7 +162,7 @@ try-next-requires c κs =
     let s = began (l .before) in
     let K = l .loop .inv .1 in
     let r = working-rank K (some-left (t .before)) (t .lowest .result) (t .lowest .ensures .0) in
-    (s .pre .0, (hand l, (r, (K .moved .held, t .before .if2 .left))))
+    (s .pre .0 .ready, (hand l, (r, (K .moved .held, t .before .if2 .left))))
 
 loop-less : tie.Need-loop-less Inv-loop μ-loop
 loop-less c =
