@@ -3,7 +3,7 @@
 -- Assumes nothing.
 use mathlib.Core.Path.{_≡_, refl, sym, ap, _∙_}
 use mathlib.Core.List.{List, [], _∷_}
-use mathlib.Core.Logic.{_↔_, Iff·symm, _≢_, _⊎_, inl, inr}
+use mathlib.Core.Logic.{_↔_, _≢_, _⊎_, inl, inr}
 use Prim.Native.Nat.{ℕ, _+_, _-_, _<_}
 use native.Mathlib.Omega.{arith}
 use native.Mathlib.Decide.{ℕ-discrete}
@@ -14,6 +14,7 @@ use Rattle.order.specs.Steps.{ChangedAt}
 use Rattle.order.specs.Diamond.{OneOther}
 use Rattle.order.proofs.Renumbering.{OneOther·same}
 use Rattle.listing.specs.Listing.{Listing, Limits, count, rank, subs}
+use Rattle.valid_incidence.specs.Incidence.{Incident}
 use Rattle.valid_diamond.specs.Dyadic.{LiesBetween, DiamondAt, DiamondUpTo}
 use Rattle.valid.specs.Closed.{Closed}
 use Rattle.flag_change.specs.Flags.{IsFlag}

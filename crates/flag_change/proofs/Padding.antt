@@ -29,7 +29,8 @@ module _ (f : List ℕ) where
   pub padded-length : length f ≤ limits .ranks → length (padded f) ≡ limits .ranks
   unfolding padded
   padded-length h =
-      omega (arith, length-append f (replicate (limits .ranks - length f) 0), length-replicate {A = ℕ} (limits .ranks - length f) 0)
+      let n = limits .ranks - length f in
+      omega (arith, length-append f (replicate n 0), length-replicate {A = ℕ} n 0)
 
   pub padded-set : (r x : ℕ) → r < length f → set (padded f) r x ≡ padded (set f r x)
   unfolding padded

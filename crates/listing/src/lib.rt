@@ -1,8 +1,8 @@
 // Listings: cells in three lent slices. Here are their answers and refusals, the shape test and the four counts.
 pub mod inner;
 pub mod limit;
-pub mod outputs;
 pub mod membership;
+pub mod outputs;
 pub mod refusal;
 
 ghost use mathlib.Core.Path.{_≡_};
