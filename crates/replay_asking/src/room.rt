@@ -1,5 +1,5 @@
-// Arrays to read into and to lend, full of the largest number, each a little larger than its limit, and how much of them
-// is lent. Each contract fixes what is returned, and then gives the length, which lending an array needs.
+// Arrays to read into and to lend, full of the largest number, each a little larger than its limit, and how much of
+// them is lent. Each contract fixes what is returned, and then gives the length, which lending an array needs.
 use listing::Index;
 use listing::limit;
 use replay_saying::say;

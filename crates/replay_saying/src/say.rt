@@ -148,7 +148,8 @@ fn byte_at(list: &[u8], i: usize) -> u64 {
     }
 }
 
-// The numbers of flag i of a table, where each flag has w numbers, one for each rank; none where the table has no such flag.
+// The numbers of flag i of a table, where each flag has w numbers, one for each rank; none where the table has no such
+// flag.
 fn row<'a>(table: &'a [Index], i: u16, w: usize) -> &'a [Index] {
     if limit::RANKS < w {
         return &table[0..0];
