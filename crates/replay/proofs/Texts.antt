@@ -11,17 +11,17 @@ use lib.Dec.{eqb}
 use lib.ListN.{length, getD, take, drop, length-drop, drop-of-length-le}
 use lib.Seq.{drop-cons, take-all}
 use Rattle.replay.specs.declared.text.Item.{Item}
-use Rattle.replay.specs.Text.{before, opened, listed, outside, goesOn, gap, next, pending, read}
+use Rattle.replay.specs.Text.{until, opened, bracketed, afterLists, goesOn, gap, withByte, pending, read}
 
 module _ (t : List ℕ) (i : ℕ) (h : i < length t) where
-  pub before-stop : (b : ℕ) → getD t i 0 ≡ b → length (before b (drop i t)) ≡ 0
-  unfolding before
-  before-stop b e = rw (drop-cons t i 0 h, eq-eqb _ _ e)
+  pub until-stop : (b : ℕ) → getD t i 0 ≡ b → length (until b (drop i t)) ≡ 0
+  unfolding until
+  until-stop b e = rw (drop-cons t i 0 h, eq-eqb _ _ e)
 
-  pub before-on : (b : ℕ) → (getD t i 0 ≡ b → ⊥)
-      → length (before b (drop i t)) ≡ suc (length (before b (drop (i + 1) t)))
-  unfolding before
-  before-on b e = rw (add-one, drop-cons t i 0 h, ne-eqb _ _ e)
+  pub until-on : (b : ℕ) → (getD t i 0 ≡ b → ⊥)
+      → length (until b (drop i t)) ≡ suc (length (until b (drop (i + 1) t)))
+  unfolding until
+  until-on b e = rw (add-one, drop-cons t i 0 h, ne-eqb _ _ e)
 
   pub opened-here : (k : ℕ) → getD t i 0 ≡ 91 → k ≡ 0 → opened k (drop i t) ≡ drop (i + 1) t
   unfolding opened
@@ -35,17 +35,17 @@ module _ (t : List ℕ) (i : ℕ) (h : i < length t) where
   unfolding opened
   opened-on k e = rw (add-one, drop-cons t i 0 h, ne-eqb _ _ e)
 
-  pub outside-past : (l : List ℕ) → getD t i 0 ≡ 93
-      → outside l (drop i t) ≡ outside (drop (i + 1) t) (drop (i + 1) t)
-  unfolding outside
-  outside-past l e = rw (add-one, drop-cons t i 0 h, eq-eqb _ _ e)
+  pub after-lists-past : (l : List ℕ) → getD t i 0 ≡ 93
+      → afterLists l (drop i t) ≡ afterLists (drop (i + 1) t) (drop (i + 1) t)
+  unfolding afterLists
+  after-lists-past l e = rw (add-one, drop-cons t i 0 h, eq-eqb _ _ e)
 
-  pub outside-on : (l : List ℕ) → (getD t i 0 ≡ 93 → ⊥) → outside l (drop i t) ≡ outside l (drop (i + 1) t)
-  unfolding outside
-  outside-on l e = rw (add-one, drop-cons t i 0 h, ne-eqb _ _ e)
+  pub after-lists-on : (l : List ℕ) → (getD t i 0 ≡ 93 → ⊥) → afterLists l (drop i t) ≡ afterLists l (drop (i + 1) t)
+  unfolding afterLists
+  after-lists-on l e = rw (add-one, drop-cons t i 0 h, ne-eqb _ _ e)
 
   pub read-on : (m : ℕ) (s : Item) → goesOn (getD t i 0) ≡ true
-      → read m s (drop i t) ≡ read m (next s (getD t i 0)) (drop (i + 1) t)
+      → read m s (drop i t) ≡ read m (withByte s (getD t i 0)) (drop (i + 1) t)
   unfolding read
   read-on m s e = rw (add-one, drop-cons t i 0 h, e)
 
@@ -55,30 +55,30 @@ module _ (t : List ℕ) (i : ℕ) (h : i < length t) where
   read-off m s e = rw (add-one, drop-cons t i 0 h, e)
 
 module _ (t : List ℕ) (i : ℕ) (h : length t ≤ i) where
-  pub before-end : (b : ℕ) → length (before b (drop i t)) ≡ 0
-  unfolding before
-  before-end b = rw (drop-of-length-le t h)
+  pub until-end : (b : ℕ) → length (until b (drop i t)) ≡ 0
+  unfolding until
+  until-end b = rw (drop-of-length-le t h)
 
   pub opened-end : (k : ℕ) → opened k (drop i t) ≡ drop i t
   unfolding opened
   opened-end k = rw (drop-of-length-le t h)
 
-  pub outside-end : (l : List ℕ) → outside l (drop i t) ≡ l
-  unfolding outside
-  outside-end l = rw (drop-of-length-le t h)
+  pub after-lists-end : (l : List ℕ) → afterLists l (drop i t) ≡ l
+  unfolding afterLists
+  after-lists-end l = rw (drop-of-length-le t h)
 
   pub read-end : (m : ℕ) (s : Item) → read m s (drop i t) ≡ pending m s
   unfolding read
   read-end m s = rw (drop-of-length-le t h)
 
 -- so many bytes as stand before b are those before b
-pub take-before : (b : ℕ) (t : List ℕ) → take (length (before b t)) t ≡ before b t
-unfolding before
-take-before b [] = refl
-take-before b (x ∷ t) = go (eqb x b) (take-before b t)
+pub take-until : (b : ℕ) (t : List ℕ) → take (length (until b t)) t ≡ until b t
+unfolding until
+take-until b [] = refl
+take-until b (x ∷ t) = go (eqb x b) (take-until b t)
   where
-    go : (q : Bool) → take (length (before b t)) t ≡ before b t
-        → take (length (cond q [] (x ∷ before b t))) (x ∷ t) ≡ cond q [] (x ∷ before b t)
+    go : (q : Bool) → take (length (until b t)) t ≡ until b t
+        → take (length (cond q [] (x ∷ until b t))) (x ∷ t) ≡ cond q [] (x ∷ until b t)
     go true e = refl
     go false e = ap (λ (r : List ℕ). x ∷ r) e
 
@@ -87,8 +87,8 @@ pub take-rest : (n : ℕ) (t : List ℕ) → take (length t - n) (drop n t) ≡ 
 take-rest n t = take-all (length t - n) (drop n t) (omega (arith, length-drop n t))
 
 -- the text of a list, between its two brackets
-pub listed-is : (from to k : ℕ) (t : List ℕ) → to ≡ from + length (before 93 (drop from t)) → drop from t ≡ opened k t
-    → take (to - from) (drop from t) ≡ listed k t
-listed-is from to k t e o =
-    let n : to - from ≡ length (before 93 (drop from t)) = omega arith in
-    rw n (take-before 93 (drop from t)) ∙ ap (before 93) o
+pub bracketed-is : (from to k : ℕ) (t : List ℕ) → to ≡ from + length (until 93 (drop from t)) → drop from t ≡ opened k t
+    → take (to - from) (drop from t) ≡ bracketed k t
+bracketed-is from to k t e o =
+    let n : to - from ≡ length (until 93 (drop from t)) = omega arith in
+    rw n (take-until 93 (drop from t)) ∙ ap (until 93) o

@@ -6,15 +6,15 @@ ghost use Prim.Native.Nat.{_+_, _-_, _≤_, min};
 ghost use lib.ListN.{length, getD, drop, replicate};
 ghost use Rattle.io.specs.Counts.{Counts};
 ghost use Rattle.listing.specs.Listing.{width};
-ghost use Rattle.replay.specs.Text.{before, opened, listed, outside, most, grown as grownBy, goesOn};
-ghost use Rattle.replay.specs.Text.{next as nextOf, numbers, Stored};
+ghost use Rattle.replay.specs.Text.{until, opened, bracketed, afterLists, largest, withDigit, goesOn};
+ghost use Rattle.replay.specs.Text.{withByte, numbersIn, Stored};
 
 // The largest numbers of 32, 16 and 8 bits: any above them is taken for them.
-const MOST: u32 = 4294967295;
+const LARGEST: u32 = 4294967295;
 
-const MOST_INDEX: Index = 65535;
+const LARGEST_INDEX: Index = 65535;
 
-const MOST_BYTE: u8 = 255;
+const LARGEST_BYTE: u8 = 255;
 
 // A number that is being read: its value, how often it stands, and whether a star has come, after which the digits say
 // how often.
@@ -23,6 +23,13 @@ pub struct Item {
     pub times: u32,
     pub star: bool,
 }
+
+// No number is being read.
+const GAP: Item = Item {
+    value: 0,
+    times: 0,
+    star: false,
+};
 
 // The letter at a place of a line, 0 past its end.
 pub fn letter(line: &[u8], at: usize) -> u8
@@ -35,10 +42,10 @@ pub fn letter(line: &[u8], at: usize) -> u8
 pub fn narrow(v: u32) -> Index
     ensures { λ r. ⌜ r ≡ min v (width - 1) ⌝ }
 {
-    if v < MOST_INDEX as u32 {
+    if v < LARGEST_INDEX as u32 {
         v as Index
     } else {
-        MOST_INDEX
+        LARGEST_INDEX
     }
 }
 
@@ -46,17 +53,17 @@ pub fn narrow(v: u32) -> Index
 pub fn byte(v: u32) -> u8
     ensures { λ r. ⌜ r ≡ min v 255 ⌝ }
 {
-    if v < MOST_BYTE as u32 {
+    if v < LARGEST_BYTE as u32 {
         v as u8
     } else {
-        MOST_BYTE
+        LARGEST_BYTE
     }
 }
 
 // Where a byte stands first from a place on, or the end of the text.
 pub fn find(text: &[u8], from: usize, b: u8) -> usize
     requires { ⌜ from ≤ length (now text) ⌝ }
-    ensures { λ r. ⌜ r ≡ from + length (before b (drop from (now (text .entry)))) ⌝ }
+    ensures { λ r. ⌜ r ≡ from + length (until b (drop from (now (text .entry)))) ⌝ }
     ensures { λ r. ⌜ (from ≤ r) × (r ≤ length (now (text .entry))) ⌝ }
 {
     let mut i = from;
@@ -92,7 +99,7 @@ fn opening(line: &[u8], k: usize) -> usize
 // The place after the last list.
 fn tail(line: &[u8]) -> usize
     ensures { λ r. ⌜ (r ≤ length (now (line .entry))) × (drop r (now (line .entry))
-        ≡ outside (now (line .entry)) (now (line .entry))) ⌝ }
+        ≡ afterLists (now (line .entry)) (now (line .entry))) ⌝ }
 {
     let mut at = 0;
     let mut i = 0;
@@ -128,16 +135,20 @@ fn digit(b: u8) -> u64
 }
 
 // A number with one digit more.
-fn grown(v: u32, b: u8) -> u32
-    ensures { λ r. ⌜ r ≡ grownBy v b ⌝ }
+fn with_digit(v: u32, b: u8) -> u32
+    ensures { λ r. ⌜ r ≡ withDigit v b ⌝ }
 {
     let w = v as u64 * 10 + digit(b);
-    if w < MOST as u64 { w as u32 } else { MOST }
+    if w < LARGEST as u64 {
+        w as u32
+    } else {
+        LARGEST
+    }
 }
 
 // The number that is being read, with one byte more.
-fn next(s: Item, b: u8) -> Item
-    ensures { λ r. ⌜ r ≡ nextOf s b ⌝ }
+fn with_byte(s: Item, b: u8) -> Item
+    ensures { λ r. ⌜ r ≡ withByte s b ⌝ }
 {
     if b == b'*' {
         return Item {
@@ -149,12 +160,12 @@ fn next(s: Item, b: u8) -> Item
     if s.star {
         return Item {
             value: s.value,
-            times: grown(s.times, b),
+            times: with_digit(s.times, b),
             star: true,
         };
     }
     Item {
-        value: grown(s.value, b),
+        value: with_digit(s.value, b),
         times: 1,
         star: false,
     }
@@ -180,27 +191,19 @@ fn put(out: &mut [Index], from: usize, v: Index, times: u32) -> usize
 
 // The numbers of a text, into the start of a slice; says how many there are.
 fn fill(text: &[u8], out: &mut [Index]) -> usize
-    ensures { λ r. ⌜ Stored (numbers (width - 1) (now (text .entry))) 0 (now (out .entry)) (now (out .exit)) r ⌝ }
+    ensures { λ r. ⌜ Stored (numbersIn (width - 1) (now (text .entry))) 0 (now (out .entry)) (now (out .exit)) r ⌝ }
 {
-    let mut s = Item {
-        value: 0,
-        times: 0,
-        star: false,
-    };
+    let mut s = GAP;
     let mut n = 0;
     let mut i = 0;
     while i < text.len() {
         let b = text[i];
         if goes_on(b) {
-            s = next(s, b);
+            s = with_byte(s, b);
             i += 1;
         } else {
             n = put(&mut *out, n, narrow(s.value), s.times);
-            s = Item {
-                value: 0,
-                times: 0,
-                star: false,
-            };
+            s = GAP;
             i += 1;
         }
     }
@@ -209,7 +212,7 @@ fn fill(text: &[u8], out: &mut [Index]) -> usize
 
 // A list of the line, the first being 0, into the start of a slice; says how many numbers it has.
 pub fn list(line: &[u8], k: usize, out: &mut [Index]) -> usize
-    ensures { λ r. ⌜ Stored (numbers (width - 1) (listed k (now (line .entry)))) 0 (now (out .entry))
+    ensures { λ r. ⌜ Stored (numbersIn (width - 1) (bracketed k (now (line .entry)))) 0 (now (out .entry))
         (now (out .exit)) r ⌝ }
     ensures { λ r. ⌜ Counts r (now (out .exit)) ⌝ }
 {
@@ -220,19 +223,15 @@ pub fn list(line: &[u8], k: usize, out: &mut [Index]) -> usize
 
 // A number of a text, the first being 0; 0 where there is none.
 fn number_at(text: &[u8], k: usize) -> u32
-    ensures { λ r. ⌜ r ≡ getD (numbers most (now (text .entry))) k 0 ⌝ }
+    ensures { λ r. ⌜ r ≡ getD (numbersIn largest (now (text .entry))) k 0 ⌝ }
 {
-    let mut s = Item {
-        value: 0,
-        times: 0,
-        star: false,
-    };
+    let mut s = GAP;
     let mut left = k;
     let mut i = 0;
     while i < text.len() {
         let b = text[i];
         if goes_on(b) {
-            s = next(s, b);
+            s = with_byte(s, b);
             i += 1;
         } else {
             let times = s.times as usize;
@@ -240,11 +239,7 @@ fn number_at(text: &[u8], k: usize) -> u32
                 return s.value;
             }
             left -= times;
-            s = Item {
-                value: 0,
-                times: 0,
-                star: false,
-            };
+            s = GAP;
             i += 1;
         }
     }
@@ -253,7 +248,7 @@ fn number_at(text: &[u8], k: usize) -> u32
 
 // A number of the line after its lists, the first being 0.
 pub fn plain(line: &[u8], k: usize) -> u32
-    ensures { λ r. ⌜ r ≡ getD (numbers most (outside (now (line .entry)) (now (line .entry)))) k 0 ⌝ }
+    ensures { λ r. ⌜ r ≡ getD (numbersIn largest (afterLists (now (line .entry)) (now (line .entry)))) k 0 ⌝ }
 {
     let from = tail(line);
     number_at(&line[from..], k)

@@ -8,6 +8,7 @@ ghost use Prim.Native.Nat.{_+_, _-_, _*_, min};
 ghost use lib.ListN.{length, replicate};
 ghost use Rattle.io.specs.Counts.{Counts};
 ghost use Rattle.listing.specs.Listing.{width, limits};
+ghost use Rattle.replay_saying.specs.Room.{spare};
 
 // What the arrays are full of: numbers that no product or search would write.
 const FULL: Index = 65535;
@@ -26,40 +27,40 @@ const TABLE: usize = limit::RANKS * (limit::FLAGS + SPARE);
 
 // Room for counts, or for a flag.
 pub fn few() -> [Index; FEW]
-    ensures { λ r. ⌜ r ≡ replicate (limits .ranks + 16) (width - 1) ⌝ }
-    ensures { λ r. ⌜ limits .ranks + 16 ≡ length r ⌝ }
+    ensures { λ r. ⌜ r ≡ replicate (limits .ranks + spare) (width - 1) ⌝ }
+    ensures { λ r. ⌜ limits .ranks + spare ≡ length r ⌝ }
 {
     [FULL; FEW]
 }
 
 // Room for ends.
 pub fn some() -> [Index; SOME]
-    ensures { λ r. ⌜ r ≡ replicate (2 * limits .elements + 16) (width - 1) ⌝ }
-    ensures { λ r. ⌜ 2 * limits .elements + 16 ≡ length r ⌝ }
+    ensures { λ r. ⌜ r ≡ replicate (2 * limits .elements + spare) (width - 1) ⌝ }
+    ensures { λ r. ⌜ 2 * limits .elements + spare ≡ length r ⌝ }
 {
     [FULL; SOME]
 }
 
 // Room for incidences.
 pub fn many() -> [Index; MANY]
-    ensures { λ r. ⌜ r ≡ replicate (limits .incidences + 16) (width - 1) ⌝ }
-    ensures { λ r. ⌜ limits .incidences + 16 ≡ length r ⌝ }
+    ensures { λ r. ⌜ r ≡ replicate (limits .incidences + spare) (width - 1) ⌝ }
+    ensures { λ r. ⌜ limits .incidences + spare ≡ length r ⌝ }
 {
     [FULL; MANY]
 }
 
 // Room for flags.
 pub fn table() -> [Index; TABLE]
-    ensures { λ r. ⌜ r ≡ replicate (limits .ranks * (limits .flags + 16)) (width - 1) ⌝ }
-    ensures { λ r. ⌜ limits .ranks * (limits .flags + 16) ≡ length r ⌝ }
+    ensures { λ r. ⌜ r ≡ replicate (limits .ranks * (limits .flags + spare)) (width - 1) ⌝ }
+    ensures { λ r. ⌜ limits .ranks * (limits .flags + spare) ≡ length r ⌝ }
 {
     [FULL; TABLE]
 }
 
 // Room for orientations.
 pub fn orientations() -> [u8; say::BYTES]
-    ensures { λ r. ⌜ r ≡ replicate (limits .flags + 16) 255 ⌝ }
-    ensures { λ r. ⌜ limits .flags + 16 ≡ length r ⌝ }
+    ensures { λ r. ⌜ r ≡ replicate (limits .flags + spare) 255 ⌝ }
+    ensures { λ r. ⌜ limits .flags + spare ≡ length r ⌝ }
 {
     [FULL_BYTE; say::BYTES]
 }

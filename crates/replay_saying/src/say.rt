@@ -8,6 +8,7 @@ ghost use mathlib.Core.Path.{_≡_};
 ghost use Prim.Native.Nat.{_+_, _<_};
 ghost use lib.ListN.{length};
 ghost use Rattle.listing.specs.Listing.{width, limits};
+ghost use Rattle.replay_saying.specs.Room.{spare};
 ghost use Rattle.io.specs.Counts.{Counts};
 
 // Lists up to this length are written out.
@@ -16,8 +17,10 @@ const LONGEST: usize = 300;
 const FACTOR: u64 = 257;
 
 const MODULUS: u64 = 4294967291;
+// How many more numbers an array has than its limit.
+pub const SPARE: usize = 16;
 // Lists of bytes are written up to this length: a little more than a search has flags.
-pub const BYTES: usize = limit::FLAGS + 16;
+pub const BYTES: usize = limit::FLAGS + SPARE;
 
 // A number after a space.
 pub fn number(n: u64) {
@@ -127,7 +130,7 @@ fn widen(list: &[u8], out: &mut [Index]) -> usize
 
 // Room for the bytes of a list as wider numbers.
 fn room() -> [Index; BYTES]
-    ensures { λ r. ⌜ limits .flags + 16 ≡ length r ⌝ }
+    ensures { λ r. ⌜ limits .flags + spare ≡ length r ⌝ }
 {
     [0; BYTES]
 }

@@ -2,7 +2,7 @@
 -- text. Assumes nothing.
 use Rattle.replay.proofs.Stores.{stored-length, stored-on, stored-up}
 use Rattle.replay.proofs.Texts.{read-on, read-off, read-end}
-use Rattle.replay.specs.Text.{read, numbers, gap}
+use Rattle.replay.specs.Text.{read, numbersIn, gap}
 use Rattle.listing.specs.Listing.{width}
 use lib.Seq.{sets}
 use lib.ListN.{length, drop}
@@ -19,8 +19,8 @@ Inv-loop text out₀ s₀ n₀ i₀ out s n i =
     × (n ≤ length out)
     × (length out ≡ length out₀)
     × (min (n + length (read (width - 1) s (drop i text))) (length out₀)
-    ≡ min (length (numbers (width - 1) text)) (length out₀))
-    × (sets out n (read (width - 1) s (drop i text)) ≡ sets out₀ 0 (numbers (width - 1) text))
+    ≡ min (length (numbersIn (width - 1) text)) (length out₀))
+    × (sets out n (read (width - 1) s (drop i text)) ≡ sets out₀ 0 (numbersIn (width - 1) text))
 
 abbrev μ-loop : tie.MeasureT-loop
 μ-loop text out₀ s₀ n₀ i₀ out s n i = length text - i
@@ -34,8 +34,8 @@ shared-slice-read-b c = search needs
 goes-on-requires : tie.Need-goes-on-requires Inv-loop μ-loop
 goes-on-requires c κs = search needs
 
-next-requires : tie.Need-next-requires Inv-loop μ-loop
-next-requires c κs = search needs
+with-byte-requires : tie.Need-with-byte-requires Inv-loop μ-loop
+with-byte-requires c κs = search needs
 
 add-i : tie.Need-add-i Inv-loop μ-loop
 add-i c = search needs
@@ -50,7 +50,7 @@ loop-again c =
     let t = d .before .before .before .args .text .now in
     let e = sym (c .before .before .goes-on .ensures) ∙ c .before .if1 .taken in
     let o = read-on t (b .i) (c .before .before .before .before .loop-test .taken) (width - 1) (b .s) e in
-    (omega arith, b .inv .1, b .inv .2, rw (c .next .ensures, ← o) (b .inv .3), rw (c .next .ensures, ← o) (b .inv .4))
+    (omega arith, b .inv .1, b .inv .2, rw (c .with-byte .ensures, ← o) (b .inv .3), rw (c .with-byte .ensures, ← o) (b .inv .4))
 
 narrow-requires : tie.Need-narrow-requires Inv-loop μ-loop
 narrow-requires c κs = search needs
@@ -113,7 +113,7 @@ fill-spec =
     loop-holds
     shared-slice-read-b
     goes-on-requires
-    next-requires
+    with-byte-requires
     add-i
     loop-less
     loop-again

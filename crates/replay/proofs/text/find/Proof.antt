@@ -1,7 +1,7 @@
 -- `find`. Invariant: the byte does not stand from `from` up to i. Measure: what is left of the text.
 -- Assumes nothing.
-use Rattle.replay.proofs.Texts.{before-stop, before-on, before-end}
-use Rattle.replay.specs.Text.{before}
+use Rattle.replay.proofs.Texts.{until-stop, until-on, until-end}
+use Rattle.replay.specs.Text.{until}
 use borrow.Author.Needs.{needs}
 use native.Mathlib.Omega.{arith}
 use mathlib.Core.Path.{_≡_}
@@ -14,7 +14,7 @@ abbrev Inv-loop : tie.InvT-loop
 Inv-loop text from b i₀ i =
     (from ≤ i)
     × (i ≤ length text)
-    × (from + length (before b (drop from text)) ≡ i + length (before b (drop i text)))
+    × (from + length (until b (drop from text)) ≡ i + length (until b (drop i text)))
 
 abbrev μ-loop : tie.MeasureT-loop
 μ-loop text from b i₀ i = length text - i
@@ -29,7 +29,7 @@ returns : tie.Need-returns Inv-loop μ-loop
 returns c =
     let a = c .before .before .before .before .args in
     let h = c .before .before .loop-test .taken in
-    let e = before-stop (a .text .now) (c .before .before .before .loop .i) h (a .b) (c .if1 .taken) in
+    let e = until-stop (a .text .now) (c .before .before .before .loop .i) h (a .b) (c .if1 .taken) in
     (omega arith, search needs)
 
 add-i : tie.Need-add-i Inv-loop μ-loop
@@ -42,13 +42,13 @@ loop-again : tie.Need-loop-again Inv-loop μ-loop
 loop-again c =
     let a = c .before .before .before .before .args in
     let h = c .before .before .loop-test .taken in
-    let e = before-on (a .text .now) (c .before .before .before .loop .i) h (a .b) (c .if1 .left) in
+    let e = until-on (a .text .now) (c .before .before .before .loop .i) h (a .b) (c .if1 .left) in
     (search needs, search needs, omega arith)
 
 returns-2 : tie.Need-returns-2 Inv-loop μ-loop
 returns-2 c =
     let a = c .before .before .args in
-    let e = before-end (a .text .now) (c .before .loop .i) (c .loop-test .left) (a .b) in
+    let e = until-end (a .text .now) (c .before .loop .i) (c .loop-test .left) (a .b) in
     (omega arith, search needs)
 
 pub find-spec : {M : Type 1} → statement M

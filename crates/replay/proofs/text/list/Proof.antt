@@ -1,6 +1,6 @@
 -- `list`. What `fill` says of the text between the brackets, as a count too. Assumes nothing.
 use Rattle.replay.proofs.Stores.{stored-length}
-use Rattle.replay.proofs.Texts.{listed-is}
+use Rattle.replay.proofs.Texts.{bracketed-is}
 use Rattle.replay_saying.proofs.Counting.{counted}
 use mathlib.Core.List.{[]}
 use native.Mathlib.Omega.{arith}
@@ -32,7 +32,7 @@ same-length c = search needs
 returns : tie.Need-returns
 returns c =
     let d = c .before .before .before .before .before in
-    let e = listed-is _ _ _ _ (d .find .ensures .0) (d .before .opening .ensures .1) in
+    let e = bracketed-is _ _ _ _ (d .find .ensures .0) (d .before .opening .ensures .1) in
     let p = rw e at (c .before .before .fill .ensures) in
     let k = stored-length p [] in
     (p, counted _ _ (omega (arith, p .up-to)))

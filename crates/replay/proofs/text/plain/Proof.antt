@@ -1,6 +1,6 @@
 -- `plain`. By the number of what follows the last list. Assumes nothing.
 use Rattle.replay.proofs.Texts.{take-rest}
-use Rattle.replay.specs.Text.{most, numbers}
+use Rattle.replay.specs.Text.{largest, numbersIn}
 use mathlib.Core.Path.{ap, _∙_}
 use lib.ListN.{getD}
 use borrow.Author.Needs.{needs}
@@ -26,7 +26,7 @@ returns : tie.Need-returns
 returns c =
     let a = c .before .before .before .before .args in
     let e = take-rest _ (a .line .now) ∙ c .before .before .tail .ensures .1 in
-    c .number-at .ensures ∙ ap (λ l. getD (numbers most l) (a .k) 0) e
+    c .number-at .ensures ∙ ap (λ l. getD (numbersIn largest l) (a .k) 0) e
 
 pub plain-spec : {M : Type 1} → statement M
 plain-spec =

@@ -1,7 +1,7 @@
 -- `tail`. Invariant: what follows the last closing bracket up to i begins at `at`. Measure: what is left of the line.
 -- Assumes nothing.
-use Rattle.replay.proofs.Texts.{outside-past, outside-on, outside-end}
-use Rattle.replay.specs.Text.{outside}
+use Rattle.replay.proofs.Texts.{after-lists-past, after-lists-on, after-lists-end}
+use Rattle.replay.specs.Text.{afterLists}
 use borrow.Author.Needs.{needs}
 use mathlib.Core.Path.{_≡_, refl, sym, _∙_}
 use Prim.Native.Nat.{_-_, _≤_}
@@ -11,7 +11,7 @@ use Rattle.replay.proofs.text.tail.Tie as tie
 
 abbrev Inv-loop : tie.InvT-loop
 Inv-loop line at₀ i₀ at i =
-    (at ≤ i) × (i ≤ length line) × (outside (drop at line) (drop i line) ≡ outside line line)
+    (at ≤ i) × (i ≤ length line) × (afterLists (drop at line) (drop i line) ≡ afterLists line line)
 
 abbrev μ-loop : tie.MeasureT-loop
 μ-loop line at₀ i₀ at i = length line - i
@@ -30,7 +30,7 @@ loop-less c = search needs
 
 loop-again : tie.Need-loop-again Inv-loop μ-loop
 loop-again c =
-    let o = outside-past _ _ (c .before .before .loop-test .taken) _ (c .if1 .taken) in
+    let o = after-lists-past _ _ (c .before .before .loop-test .taken) _ (c .if1 .taken) in
     (search needs, search needs, sym o ∙ c .before .before .before .loop .inv .2)
 
 add-i-2 : tie.Need-add-i-2 Inv-loop μ-loop
@@ -41,11 +41,11 @@ loop-less-2 c = search needs
 
 loop-again-2 : tie.Need-loop-again-2 Inv-loop μ-loop
 loop-again-2 c =
-    let o = outside-on _ _ (c .before .before .loop-test .taken) _ (c .if1 .left) in
+    let o = after-lists-on _ _ (c .before .before .loop-test .taken) _ (c .if1 .left) in
     (search needs, search needs, sym o ∙ c .before .before .before .loop .inv .2)
 
 returns : tie.Need-returns Inv-loop μ-loop
-returns c = (search needs, sym (outside-end _ _ (c .loop-test .left) _) ∙ c .before .loop .inv .2)
+returns c = (search needs, sym (after-lists-end _ _ (c .loop-test .left) _) ∙ c .before .loop .inv .2)
 
 pub tail-spec : {M : Type 1} → statement M
 tail-spec =
