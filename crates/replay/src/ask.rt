@@ -19,7 +19,7 @@ fn sign(line: &[u8]) {
 
 // The next event for a cursor, a count and a place.
 fn next_event(line: &[u8]) {
-    let at = text::half(text::plain(line, 0));
+    let at = text::plain(line, 0);
     let count = text::narrow(text::plain(line, 1));
     let place = text::narrow(text::plain(line, 2));
     flags::next_event(at, count, place);
@@ -33,8 +33,8 @@ fn count(line: &[u8], counts: &[Index]) {
 // A search with room of the lengths that the line asks for.
 fn search(line: &[u8], counts: &[Index], ends: &[Index], inc: &[Index], first: &[Index]) {
     let mask = text::narrow(text::plain(line, 0));
-    let table = text::plain(line, 1);
-    let odd = text::plain(line, 2);
+    let table = text::plain(line, 1) as u64;
+    let odd = text::plain(line, 2) as u64;
     flags::search(counts, ends, inc, first, mask, table, odd);
 }
 
@@ -65,26 +65,28 @@ fn product_letter(line: &[u8]) -> u8 {
     text::letter(line, 4)
 }
 
-// A question on two factors, of which the first is read already, with room of the lengths that the line asks for.
-fn on_factors(line: &[u8], pcounts: &[Index], pends: &[Index], pinc: &[Index]) {
-    let mut counts = room::few();
-    let mut ends = room::some();
-    let mut inc = room::many();
-    let c = text::list(line, 3, &mut counts);
-    let e = text::list(line, 4, &mut ends);
-    let i = text::list(line, 5, &mut inc);
+// A question on two factors, with room of the lengths that the line asks for.
+fn on_factors(
+    line: &[u8],
+    pcounts: &[Index],
+    pends: &[Index],
+    pinc: &[Index],
+    qcounts: &[Index],
+    qends: &[Index],
+    qinc: &[Index],
+) {
     pair::product(
         product_letter(line),
         is_tested(line),
         pcounts,
         pends,
         pinc,
-        &counts[..c],
-        &ends[..e],
-        &inc[..i],
-        text::plain(line, 0),
-        text::plain(line, 1),
-        text::plain(line, 2),
+        qcounts,
+        qends,
+        qinc,
+        text::plain(line, 0) as u64,
+        text::plain(line, 1) as u64,
+        text::plain(line, 2) as u64,
     );
 }
 
@@ -114,12 +116,8 @@ fn is_on_flag(line: &[u8]) -> bool {
     }
 }
 
-// A question with lists: a cell, and then a flag or the second factor.
-fn on_lists(line: &[u8], counts: &[Index], ends: &[Index], inc: &[Index], flag: &[Index]) {
-    if is_product(line) {
-        on_factors(line, counts, ends, inc);
-        return;
-    }
+// A question on one cell, and perhaps a flag.
+fn on_cell(line: &[u8], counts: &[Index], ends: &[Index], inc: &[Index], flag: &[Index]) {
     if is_count(line) {
         count(line, counts);
         return;
@@ -131,17 +129,33 @@ fn on_lists(line: &[u8], counts: &[Index], ends: &[Index], inc: &[Index], flag: 
     cell::test(text::letter(line, 3), counts, ends, inc);
 }
 
-// The lists of a line; those that it lacks are empty.
+// A question with lists: a cell, and then a flag or the second factor. Lists that the line lacks are empty.
 fn lists(line: &[u8]) {
     let mut counts = room::few();
     let mut ends = room::some();
     let mut inc = room::many();
-    let mut flag = room::few();
+    let mut more = room::few();
+    let mut more_ends = room::some();
+    let mut more_inc = room::many();
     let c = text::list(line, 0, &mut counts);
     let e = text::list(line, 1, &mut ends);
     let i = text::list(line, 2, &mut inc);
-    let f = text::list(line, 3, &mut flag);
-    on_lists(line, &counts[..c], &ends[..e], &inc[..i], &flag[..f]);
+    let m = text::list(line, 3, &mut more);
+    if is_product(line) {
+        let f = text::list(line, 4, &mut more_ends);
+        let j = text::list(line, 5, &mut more_inc);
+        on_factors(
+            line,
+            &counts[..c],
+            &ends[..e],
+            &inc[..i],
+            &more[..m],
+            &more_ends[..f],
+            &more_inc[..j],
+        );
+    } else {
+        on_cell(line, &counts[..c], &ends[..e], &inc[..i], &more[..m]);
+    }
 }
 
 // Any question: class, sign, next_event, or one with lists.

@@ -28,23 +28,11 @@ fn built(b: Built) {
     say::number(b.inc as u64);
 }
 
-// As many of a slice's numbers as a product says that it wrote.
-fn written<'a>(list: &'a [Index], n: u16) -> &'a [Index] {
-    let k = n as usize;
-    if list.len() < k {
-        return list;
-    }
-    &list[0..k]
-}
-
-// What is_valid and closed say of the listing that a product wrote, and its counts.
-fn tests(b: Built, counts: &[Index], ends: &[Index], inc: &[Index]) {
-    let c = written(counts, b.counts);
-    let e = written(ends, b.ends);
-    let i = written(inc, b.inc);
-    say::answer(valid::is_valid(c, e, i));
-    say::answer(valid::closed(c, e, i));
-    say::list(c);
+// What is_valid and closed say of a listing, and its counts.
+fn tests(counts: &[Index], ends: &[Index], inc: &[Index]) {
+    say::answer(valid::is_valid(counts, ends, inc));
+    say::answer(valid::closed(counts, ends, inc));
+    say::list(counts);
 }
 
 // All that the three slices hold.
@@ -54,15 +42,18 @@ fn lists(counts: &[Index], ends: &[Index], inc: &[Index]) {
     say::list(inc);
 }
 
-// What a product left in its slices: all of it or, where it is to be tested, what the tests say; of a refused one
-// nothing then.
+// What a product left in its slices: all of it or, where it is to be tested, what the tests say of what it wrote; of a
+// refused one nothing then.
 fn left(tested: bool, b: Built, counts: &[Index], ends: &[Index], inc: &[Index]) {
     if !tested {
         lists(counts, ends, inc);
         return;
     }
     if b.answer.no == 0 {
-        tests(b, counts, ends, inc);
+        let c = room::words(b.counts as u64, counts);
+        let e = room::words(b.ends as u64, ends);
+        let i = room::words(b.inc as u64, inc);
+        tests(&counts[..c], &ends[..e], &inc[..i]);
     }
 }
 

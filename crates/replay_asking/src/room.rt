@@ -1,49 +1,68 @@
-// Arrays to read into and to lend, full of 65535 (bytes of 255), and how much of them is lent. Each contract fixes what
-// is returned, and then gives the length, which lending an array needs.
+// Arrays to read into and to lend, full of the largest number, each a little larger than its limit, and how much of
+// them is lent. Each contract fixes what is returned, and then gives the length, which lending an array needs.
 use listing::Index;
+use listing::limit;
+use replay_saying::say;
 ghost use mathlib.Core.Path.{_≡_};
-ghost use Prim.Native.Nat.{min};
+ghost use Prim.Native.Nat.{_+_, _-_, _*_, min};
 ghost use lib.ListN.{length, replicate};
 ghost use Rattle.io.specs.Counts.{Counts};
+ghost use Rattle.listing.specs.Listing.{width, limits};
+ghost use Rattle.replay_saying.specs.Room.{spare};
+
+// What the arrays are full of: numbers that no product or search would write.
+const FULL: Index = 65535;
+
+const FULL_BYTE: u8 = 255;
+// How many more each has than its limit.
+const SPARE: usize = 16;
+
+const FEW: usize = limit::RANKS + SPARE;
+
+const SOME: usize = 2 * limit::ELEMENTS + SPARE;
+
+const MANY: usize = limit::INCIDENCES + SPARE;
+
+const TABLE: usize = limit::RANKS * (limit::FLAGS + SPARE);
 
 // Room for counts, or for a flag.
-pub fn few() -> [Index; 32]
-    ensures { λ r. ⌜ r ≡ replicate 32 65535 ⌝ }
-    ensures { λ r. ⌜ 32 ≡ length r ⌝ }
+pub fn few() -> [Index; FEW]
+    ensures { λ r. ⌜ r ≡ replicate (limits .ranks + spare) (width - 1) ⌝ }
+    ensures { λ r. ⌜ limits .ranks + spare ≡ length r ⌝ }
 {
-    [65535; 32]
+    [FULL; FEW]
 }
 
-// Room for ends: a few more than the limit.
-pub fn some() -> [Index; 8200]
-    ensures { λ r. ⌜ r ≡ replicate 8200 65535 ⌝ }
-    ensures { λ r. ⌜ 8200 ≡ length r ⌝ }
+// Room for ends.
+pub fn some() -> [Index; SOME]
+    ensures { λ r. ⌜ r ≡ replicate (2 * limits .elements + spare) (width - 1) ⌝ }
+    ensures { λ r. ⌜ 2 * limits .elements + spare ≡ length r ⌝ }
 {
-    [65535; 8200]
+    [FULL; SOME]
 }
 
-// Room for incidences: a few more than the limit.
-pub fn many() -> [Index; 32800]
-    ensures { λ r. ⌜ r ≡ replicate 32800 65535 ⌝ }
-    ensures { λ r. ⌜ 32800 ≡ length r ⌝ }
+// Room for incidences.
+pub fn many() -> [Index; MANY]
+    ensures { λ r. ⌜ r ≡ replicate (limits .incidences + spare) (width - 1) ⌝ }
+    ensures { λ r. ⌜ limits .incidences + spare ≡ length r ⌝ }
 {
-    [65535; 32800]
+    [FULL; MANY]
 }
 
-// Room for flags: a few more than the limit.
-pub fn table() -> [Index; 262400]
-    ensures { λ r. ⌜ r ≡ replicate 262400 65535 ⌝ }
-    ensures { λ r. ⌜ 262400 ≡ length r ⌝ }
+// Room for flags.
+pub fn table() -> [Index; TABLE]
+    ensures { λ r. ⌜ r ≡ replicate (limits .ranks * (limits .flags + spare)) (width - 1) ⌝ }
+    ensures { λ r. ⌜ limits .ranks * (limits .flags + spare) ≡ length r ⌝ }
 {
-    [65535; 262400]
+    [FULL; TABLE]
 }
 
-// Room for orientations: a few more than the limit.
-pub fn orientations() -> [u8; 16400]
-    ensures { λ r. ⌜ r ≡ replicate 16400 255 ⌝ }
-    ensures { λ r. ⌜ 16400 ≡ length r ⌝ }
+// Room for orientations.
+pub fn orientations() -> [u8; say::BYTES]
+    ensures { λ r. ⌜ r ≡ replicate (limits .flags + spare) 255 ⌝ }
+    ensures { λ r. ⌜ limits .flags + spare ≡ length r ⌝ }
 {
-    [255; 16400]
+    [FULL_BYTE; say::BYTES]
 }
 
 // So many numbers of a slice, or all if it has fewer.

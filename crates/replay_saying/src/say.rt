@@ -3,14 +3,24 @@ use libc::STDOUT_FILENO;
 use listing::Answer;
 use listing::Index;
 use listing::Number;
+use listing::limit;
 ghost use mathlib.Core.Path.{_≡_};
+ghost use Prim.Native.Nat.{_+_, _<_};
 ghost use lib.ListN.{length};
+ghost use Rattle.listing.specs.Listing.{width, limits};
+ghost use Rattle.replay_saying.specs.Room.{spare};
 ghost use Rattle.io.specs.Counts.{Counts};
 
 // Lists up to this length are written out.
 const LONGEST: usize = 300;
-// The check number of a list is made by c := (257 c + x + 1) mod this, from 0, over its numbers x in order.
+// The check number of a list is made by c := (FACTOR c + x + 1) mod MODULUS, from 0, over its numbers x in order.
+const FACTOR: u64 = 257;
+
 const MODULUS: u64 = 4294967291;
+// How many more numbers an array has than its limit.
+pub const SPARE: usize = 16;
+// Lists of bytes are written up to this length: a little more than a search has flags.
+pub const BYTES: usize = limit::FLAGS + SPARE;
 
 // A number after a space.
 pub fn number(n: u64) {
@@ -43,7 +53,9 @@ pub fn sign(x: f64) {
 }
 
 // A number of 16 bits as a wider one.
-fn wide(x: u16) -> u64 {
+fn wide(x: u16) -> u64
+    ensures { λ r. ⌜ r < width ⌝ }
+{
     x as u64
 }
 
@@ -53,8 +65,8 @@ fn wide_byte(x: u8) -> u16 {
 }
 
 // One number more in a check number.
-fn mixed(c: u64, x: u64) -> u64 {
-    ((c % MODULUS) * 257 + x % 65536 + 1) % MODULUS
+fn mixed(c: u64, x: Index) -> u64 {
+    ((c % MODULUS) * FACTOR + wide(x) + 1) % MODULUS
 }
 
 // A long list: length, sum and check number.
@@ -62,8 +74,8 @@ fn digest(list: &[Index]) {
     let mut sum = 0u64;
     let mut check = 0u64;
     for i in 0..list.len() {
-        let x = wide(list[i]);
-        sum = std::num::wrapping_add_u64(sum, x);
+        let x = list[i];
+        sum = std::num::wrapping_add_u64(sum, wide(x));
         check = mixed(check, x);
     }
     io::write_all(STDOUT_FILENO, b" {");
@@ -116,11 +128,11 @@ fn widen(list: &[u8], out: &mut [Index]) -> usize
     i
 }
 
-// Room for the bytes of a list as wider numbers: more than a search has flags.
-fn room() -> [Index; 16400]
-    ensures { λ r. ⌜ 16400 ≡ length r ⌝ }
+// Room for the bytes of a list as wider numbers.
+fn room() -> [Index; BYTES]
+    ensures { λ r. ⌜ limits .flags + spare ≡ length r ⌝ }
 {
-    [0; 16400]
+    [0; BYTES]
 }
 
 // A list of bytes.
@@ -139,9 +151,10 @@ fn byte_at(list: &[u8], i: usize) -> u64 {
     }
 }
 
-// The numbers of flag i of a table, where each flag has w numbers, at most 16; none where the table has no such flag.
+// The numbers of flag i of a table, where each flag has w numbers, one for each rank; none where the table has no such
+// flag.
 fn row<'a>(table: &'a [Index], i: u16, w: usize) -> &'a [Index] {
-    if 16 < w {
+    if limit::RANKS < w {
         return &table[0..0];
     }
     let from = (i as usize) * w;

@@ -1,28 +1,35 @@
 // Cells that are made as products of others.
-use crate::flags;
 use crate::row;
+use crate::slice;
 use listing::Built;
 use listing::Index;
+use listing::limit;
 use product::make;
 use tour_words::table;
+use tour_words::table::Name;
+
+// So many elements and incidences there is room for: more than any product of the tour has.
+const ELEMENTS: usize = 64;
+
+const INCIDENCES: usize = 256;
 
 // What a product left in its slices, as a row.
-fn written(name: [u8; 30], b: Built, counts: &[Index], ends: &[Index], inc: &[Index]) {
+fn written(name: Name, b: Built, counts: &[Index], ends: &[Index], inc: &[Index]) {
     if b.answer.no != 0 {
         table::refused(name, b.answer);
         return;
     }
     row::show(
         name,
-        flags::front(counts, b.counts as usize),
-        flags::front(ends, b.ends as usize),
-        flags::front(inc, b.inc as usize),
+        slice::front(counts, b.counts as usize),
+        slice::front(ends, b.ends as usize),
+        slice::front(inc, b.inc as usize),
     );
 }
 
 // The product of two cells: the duopyramid, or with min the duoprism, with max the duotegum, with both the duocomb.
 pub fn show(
-    name: [u8; 30],
+    name: Name,
     min: bool,
     max: bool,
     pcounts: &[Index],
@@ -32,9 +39,9 @@ pub fn show(
     qends: &[Index],
     qinc: &[Index],
 ) {
-    let mut counts: [Index; 16] = [0; 16];
-    let mut ends: [Index; 128] = [0; 128];
-    let mut inc: [Index; 256] = [0; 256];
+    let mut counts: [Index; limit::RANKS] = [0; limit::RANKS];
+    let mut ends: [Index; 2 * ELEMENTS] = [0; 2 * ELEMENTS];
+    let mut inc: [Index; INCIDENCES] = [0; INCIDENCES];
     let b = make::make(
         min,
         max,

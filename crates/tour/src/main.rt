@@ -1,10 +1,23 @@
 // A tour: the tests, the products and the search on cells by name, a row of a table for each.
-mod flags;
 mod made;
 mod names;
 mod row;
+mod slice;
 
 use listing::Index;
+use tour_cells::dyad;
+use tour_cells::hemicube;
+use tour_cells::leaking_box;
+use tour_cells::lidless_box;
+use tour_cells::nullitope;
+use tour_cells::one_on_top;
+use tour_cells::point;
+use tour_cells::struck;
+use tour_cells::three_on_top;
+use tour_cells::triangle;
+use tour_cells::twice_listed;
+use tour_cells::two_minimal;
+use tour_cells::whole_box;
 use tour_words::print;
 
 // Each cell has a function of its own: a function with many constants is slow to check.
@@ -13,9 +26,9 @@ use tour_words::print;
 fn whole_box() {
     row::show(
         names::BOX,
-        &tour_cells::whole_box::COUNTS,
-        &tour_cells::whole_box::ENDS,
-        &tour_cells::whole_box::INC,
+        &whole_box::COUNTS,
+        &whole_box::ENDS,
+        &whole_box::INC,
     );
 }
 
@@ -23,9 +36,9 @@ fn whole_box() {
 fn leaking_box() {
     row::show(
         names::INSURERS_CELL,
-        &tour_cells::leaking_box::COUNTS,
-        &tour_cells::leaking_box::ENDS,
-        &tour_cells::leaking_box::INC,
+        &leaking_box::COUNTS,
+        &leaking_box::ENDS,
+        &leaking_box::INC,
     );
 }
 
@@ -33,9 +46,9 @@ fn leaking_box() {
 fn lidless_box() {
     row::show(
         names::NO_LID,
-        &tour_cells::lidless_box::COUNTS,
-        &tour_cells::lidless_box::ENDS,
-        &tour_cells::lidless_box::INC,
+        &lidless_box::COUNTS,
+        &lidless_box::ENDS,
+        &lidless_box::INC,
     );
 }
 
@@ -43,9 +56,9 @@ fn lidless_box() {
 fn hemicube() {
     row::show(
         names::HEMICUBE,
-        &tour_cells::hemicube::COUNTS,
-        &tour_cells::hemicube::ENDS,
-        &tour_cells::hemicube::INC,
+        &hemicube::COUNTS,
+        &hemicube::ENDS,
+        &hemicube::INC,
     );
 }
 
@@ -53,29 +66,24 @@ fn hemicube() {
 fn two_minimal() {
     row::show(
         names::TWO_SMALLEST,
-        &tour_cells::two_minimal::COUNTS,
-        &tour_cells::two_minimal::ENDS,
-        &tour_cells::two_minimal::INC,
+        &two_minimal::COUNTS,
+        &two_minimal::ENDS,
+        &two_minimal::INC,
     );
 }
 
 // A triangle, with an entry of one of its lists struck out.
 fn struck() {
-    row::show(
-        names::STRUCK,
-        &tour_cells::struck::COUNTS,
-        &tour_cells::struck::ENDS,
-        &tour_cells::struck::INC,
-    );
+    row::show(names::STRUCK, &struck::COUNTS, &struck::ENDS, &struck::INC);
 }
 
 // Three vertices under one edge.
 fn three_on_top() {
     row::show(
         names::THREE_VERTICES,
-        &tour_cells::three_on_top::COUNTS,
-        &tour_cells::three_on_top::ENDS,
-        &tour_cells::three_on_top::INC,
+        &three_on_top::COUNTS,
+        &three_on_top::ENDS,
+        &three_on_top::INC,
     );
 }
 
@@ -83,9 +91,9 @@ fn three_on_top() {
 fn one_on_top() {
     row::show(
         names::ONE_VERTEX,
-        &tour_cells::one_on_top::COUNTS,
-        &tour_cells::one_on_top::ENDS,
-        &tour_cells::one_on_top::INC,
+        &one_on_top::COUNTS,
+        &one_on_top::ENDS,
+        &one_on_top::INC,
     );
 }
 
@@ -93,9 +101,9 @@ fn one_on_top() {
 fn twice_listed() {
     row::show(
         names::VERTEX_TWICE,
-        &tour_cells::twice_listed::COUNTS,
-        &tour_cells::twice_listed::ENDS,
-        &tour_cells::twice_listed::INC,
+        &twice_listed::COUNTS,
+        &twice_listed::ENDS,
+        &twice_listed::INC,
     );
 }
 
@@ -131,18 +139,18 @@ fn small_and_made(
 // The small cells, lent for their own rows and for those of their products.
 fn small() {
     small_and_made(
-        &tour_cells::nullitope::COUNTS,
-        &tour_cells::nullitope::ENDS,
-        &tour_cells::nullitope::INC,
-        &tour_cells::point::COUNTS,
-        &tour_cells::point::ENDS,
-        &tour_cells::point::INC,
-        &tour_cells::dyad::COUNTS,
-        &tour_cells::dyad::ENDS,
-        &tour_cells::dyad::INC,
-        &tour_cells::triangle::COUNTS,
-        &tour_cells::triangle::ENDS,
-        &tour_cells::triangle::INC,
+        &nullitope::COUNTS,
+        &nullitope::ENDS,
+        &nullitope::INC,
+        &point::COUNTS,
+        &point::ENDS,
+        &point::INC,
+        &dyad::COUNTS,
+        &dyad::ENDS,
+        &dyad::INC,
+        &triangle::COUNTS,
+        &triangle::ENDS,
+        &triangle::INC,
     );
 }
 

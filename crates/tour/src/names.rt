@@ -1,47 +1,48 @@
 // The names of the rows, each as wide as its column. They are passed by value: a text that is lent is slower to check.
+use tour_words::table::Name;
 
 // Boxes.
-pub const BOX: [u8; 30] = *b"box                           ";
+pub const BOX: Name = *b"box                           ";
 
-pub const INSURERS_CELL: [u8; 30] = *b"insurer's cell, edge 0 doubled";
+pub const INSURERS_CELL: Name = *b"insurer's cell, edge 0 doubled";
 
-pub const NO_LID: [u8; 30] = *b"box without a lid             ";
+pub const NO_LID: Name = *b"box without a lid             ";
 
-pub const HEMICUBE: [u8; 30] = *b"hemicube                      ";
+pub const HEMICUBE: Name = *b"hemicube                      ";
 
 // Small cells.
-pub const NULLITOPE: [u8; 30] = *b"nullitope N                   ";
+pub const NULLITOPE: Name = *b"nullitope N                   ";
 
-pub const POINT: [u8; 30] = *b"point P                       ";
+pub const POINT: Name = *b"point P                       ";
 
-pub const DYAD: [u8; 30] = *b"dyad D                        ";
+pub const DYAD: Name = *b"dyad D                        ";
 
-pub const TRIANGLE: [u8; 30] = *b"triangle T                    ";
+pub const TRIANGLE: Name = *b"triangle T                    ";
 
 // Products of them.
-pub const PRISM_T_D: [u8; 30] = *b"prism: duoprism(T, D)         ";
+pub const PRISM_T_D: Name = *b"prism: duoprism(T, D)         ";
 
-pub const PRISM_D_D: [u8; 30] = *b"duoprism(D, D)                ";
+pub const PRISM_D_D: Name = *b"duoprism(D, D)                ";
 
-pub const PYRAMID_D_P: [u8; 30] = *b"duopyramid(D, P)              ";
+pub const PYRAMID_D_P: Name = *b"duopyramid(D, P)              ";
 
-pub const PRISM_N_T: [u8; 30] = *b"duoprism(N, T)                ";
+pub const PRISM_N_T: Name = *b"duoprism(N, T)                ";
 
-pub const TEGUM_D_D: [u8; 30] = *b"duotegum(D, D)                ";
+pub const TEGUM_D_D: Name = *b"duotegum(D, D)                ";
 
-pub const COMB_D_D: [u8; 30] = *b"duocomb(D, D)                 ";
+pub const COMB_D_D: Name = *b"duocomb(D, D)                 ";
 
-pub const COMB_P_P: [u8; 30] = *b"duocomb(P, P)                 ";
+pub const COMB_P_P: Name = *b"duocomb(P, P)                 ";
 
-pub const COMB_T_T: [u8; 30] = *b"duocomb(T, T)                 ";
+pub const COMB_T_T: Name = *b"duocomb(T, T)                 ";
 
 // Listings with a fault.
-pub const TWO_SMALLEST: [u8; 30] = *b"two smallest elements         ";
+pub const TWO_SMALLEST: Name = *b"two smallest elements         ";
 
-pub const STRUCK: [u8; 30] = *b"T, edge 1 struck at vertex 0  ";
+pub const STRUCK: Name = *b"T, edge 1 struck at vertex 0  ";
 
-pub const THREE_VERTICES: [u8; 30] = *b"edge with three vertices      ";
+pub const THREE_VERTICES: Name = *b"edge with three vertices      ";
 
-pub const ONE_VERTEX: [u8; 30] = *b"edge with one vertex          ";
+pub const ONE_VERTEX: Name = *b"edge with one vertex          ";
 
-pub const VERTEX_TWICE: [u8; 30] = *b"edge that lists a vertex twice";
+pub const VERTEX_TWICE: Name = *b"edge that lists a vertex twice";

@@ -7,6 +7,9 @@ use listing::Answer;
 use listing::Index;
 use listing::inner;
 
+// The name of a row, as wide as its column.
+pub type Name = [u8; 30];
+
 // A number of up to two digits, to the right, and a blank; blanks for 0.
 fn right(n: u16) {
     if n < 10 {
@@ -57,14 +60,7 @@ fn flags(count: u16, orientable: u8) {
 
 // A cell: its counts, the number that is_valid answers, its flags, 0 if none were counted, whether it is orientable,
 // and what closed answers.
-pub fn row(
-    name: [u8; 30],
-    counts: &[Index],
-    verdict: u16,
-    count: u16,
-    orientable: u8,
-    closed: Answer,
-) {
+pub fn row(name: Name, counts: &[Index], verdict: u16, count: u16, orientable: u8, closed: Answer) {
     text(&name);
     blank();
     elements(counts);
@@ -75,7 +71,7 @@ pub fn row(
 }
 
 // A cell that was not made: there is nothing to count or to test.
-pub fn refused(name: [u8; 30], a: Answer) {
+pub fn refused(name: Name, a: Answer) {
     text(&name);
     text(b"  -              -             -  -           ");
     crate::answer(a, 0);

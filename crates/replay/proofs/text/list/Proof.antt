@@ -1,11 +1,27 @@
--- `list`. What `fill` says, as a count. Assumes nothing.
+-- `list`. What `fill` says of the text between the brackets, as a count too. Assumes nothing.
+use Rattle.replay.proofs.Stores.{stored-length}
+use Rattle.replay.proofs.Texts.{bracketed-is}
 use Rattle.replay_saying.proofs.Counting.{counted}
+use mathlib.Core.List.{[]}
+use native.Mathlib.Omega.{arith}
 use borrow.Author.Needs.{needs}
 use Rattle.replay.proofs.text.list.Statement.{statement}
 use Rattle.replay.proofs.text.list.Tie as tie
 
 opening-requires : tie.Need-opening-requires
 opening-requires c κs = search needs
+
+find-requires : tie.Need-find-requires
+find-requires c κs = search needs
+
+sub-fill : tie.Need-sub-fill
+sub-fill c = search needs
+
+part-fill-start : tie.Need-part-fill-start
+part-fill-start c = search needs
+
+part-fill-end : tie.Need-part-fill-end
+part-fill-end c = search needs
 
 fill-requires : tie.Need-fill-requires
 fill-requires c κs = search needs
@@ -14,7 +30,22 @@ same-length : tie.Need-same-length
 same-length c = search needs
 
 returns : tie.Need-returns
-returns c = counted _ _ (search needs)
+returns c =
+    let d = c .before .before .before .before .before in
+    let e = bracketed-is _ _ _ _ (d .find .ensures .0) (d .before .opening .ensures .1) in
+    let p = rw e at (c .before .before .fill .ensures) in
+    let k = stored-length p [] in
+    (p, counted _ _ (omega (arith, p .up-to)))
 
 pub list-spec : {M : Type 1} → statement M
-list-spec = tie.close (tie.spec opening-requires fill-requires same-length returns)
+list-spec =
+    tie.close
+    (tie.spec
+    opening-requires
+    find-requires
+    sub-fill
+    part-fill-start
+    part-fill-end
+    fill-requires
+    same-length
+    returns)

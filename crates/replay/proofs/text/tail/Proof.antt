@@ -1,26 +1,26 @@
--- `tail`. Invariant: i has not passed the line. Measure: what is left of the line.
+-- `tail`. Invariant: what follows the last closing bracket up to i begins at `at`. Measure: what is left of the line.
 -- Assumes nothing.
+use Rattle.replay.proofs.Texts.{after-lists-past, after-lists-on, after-lists-end}
+use Rattle.replay.specs.Text.{afterLists}
 use borrow.Author.Needs.{needs}
-use mathlib.Core.Path.{_≡_}
+use mathlib.Core.Path.{_≡_, refl, sym, _∙_}
 use Prim.Native.Nat.{_-_, _≤_}
-use lib.ListN.{length}
+use lib.ListN.{length, drop}
 use Rattle.replay.proofs.text.tail.Statement.{statement}
 use Rattle.replay.proofs.text.tail.Tie as tie
 
 abbrev Inv-loop : tie.InvT-loop
-Inv-loop line at₀ i₀ i-end at i = (i ≤ i-end) × (i-end ≡ length line)
+Inv-loop line at₀ i₀ at i =
+    (at ≤ i) × (i ≤ length line) × (afterLists (drop at line) (drop i line) ≡ afterLists line line)
 
 abbrev μ-loop : tie.MeasureT-loop
-μ-loop line at₀ i₀ i-end at i = i-end - i
+μ-loop line at₀ i₀ at i = length line - i
 
 loop-holds : tie.Need-loop-holds Inv-loop μ-loop
-loop-holds c = search needs
+loop-holds c = (search needs, search needs, refl)
 
 shared-slice-read-if1 : tie.Need-shared-slice-read-if1 Inv-loop μ-loop
 shared-slice-read-if1 c = search needs
-
-add-at : tie.Need-add-at Inv-loop μ-loop
-add-at c = search needs
 
 add-i : tie.Need-add-i Inv-loop μ-loop
 add-i c = search needs
@@ -29,10 +29,23 @@ loop-less : tie.Need-loop-less Inv-loop μ-loop
 loop-less c = search needs
 
 loop-again : tie.Need-loop-again Inv-loop μ-loop
-loop-again c = search needs
+loop-again c =
+    let o = after-lists-past _ _ (c .before .before .loop-test .taken) _ (c .if1 .taken) in
+    (search needs, search needs, sym o ∙ c .before .before .before .loop .inv .2)
+
+add-i-2 : tie.Need-add-i-2 Inv-loop μ-loop
+add-i-2 c = search needs
+
+loop-less-2 : tie.Need-loop-less-2 Inv-loop μ-loop
+loop-less-2 c = search needs
+
+loop-again-2 : tie.Need-loop-again-2 Inv-loop μ-loop
+loop-again-2 c =
+    let o = after-lists-on _ _ (c .before .before .loop-test .taken) _ (c .if1 .left) in
+    (search needs, search needs, sym o ∙ c .before .before .before .loop .inv .2)
 
 returns : tie.Need-returns Inv-loop μ-loop
-returns c = search needs
+returns c = (search needs, sym (after-lists-end _ _ (c .loop-test .left) _) ∙ c .before .loop .inv .2)
 
 pub tail-spec : {M : Type 1} → statement M
 tail-spec =
@@ -42,8 +55,10 @@ tail-spec =
     μ-loop
     loop-holds
     shared-slice-read-if1
-    add-at
     add-i
     loop-less
     loop-again
+    add-i-2
+    loop-less-2
+    loop-again-2
     returns)

@@ -5,7 +5,7 @@ use Rattle.replay_asking.proofs.room.orientations.Statement.{statement}
 use Rattle.replay_asking.proofs.room.orientations.Tie as tie
 
 returns : tie.Need-returns
-returns c = (refl, repeated 16400 255)
+returns c = (refl, repeated _ 255)
 
 pub orientations-spec : {M : Type 1} → statement M
 orientations-spec = tie.close (tie.spec returns)

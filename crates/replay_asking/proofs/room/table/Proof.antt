@@ -1,11 +1,13 @@
 -- `table`. One number repeated, and the length of that: nothing is computed. Assumes nothing.
 use mathlib.Core.Path.{refl}
+use Prim.Native.Nat.{_-_}
+use Rattle.listing.specs.Listing.{width}
 use Rattle.replay_saying.proofs.Counting.{repeated}
 use Rattle.replay_asking.proofs.room.table.Statement.{statement}
 use Rattle.replay_asking.proofs.room.table.Tie as tie
 
 returns : tie.Need-returns
-returns c = (refl, repeated 262400 65535)
+returns c = (refl, repeated _ (width - 1))
 
 pub table-spec : {M : Type 1} → statement M
 table-spec = tie.close (tie.spec returns)

@@ -4,7 +4,7 @@ use Rattle.replay_saying.proofs.say.room.Statement.{statement}
 use Rattle.replay_saying.proofs.say.room.Tie as tie
 
 returns : tie.Need-returns
-returns c = repeated 16400 0
+returns c = repeated _ 0
 
 pub room-spec : {M : Type 1} → statement M
 room-spec = tie.close (tie.spec returns)
