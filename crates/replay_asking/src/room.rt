@@ -10,20 +10,19 @@ ghost use Rattle.io.specs.Counts.{Counts};
 ghost use Rattle.listing.specs.Listing.{width, limits};
 ghost use Rattle.replay_saying.specs.Room.{spare};
 
-// What the arrays are full of: numbers that no product or search would write.
+// What the arrays are full of: numbers that no product or search writes.
 const FULL: Index = 65535;
 
 const FULL_BYTE: u8 = 255;
-// How many more each has than its limit.
-const SPARE: usize = 16;
 
-const FEW: usize = limit::RANKS + SPARE;
+// How long they are.
+const FEW: usize = limit::RANKS + say::SPARE;
 
-const SOME: usize = 2 * limit::ELEMENTS + SPARE;
+const SOME: usize = 2 * limit::ELEMENTS + say::SPARE;
 
-const MANY: usize = limit::INCIDENCES + SPARE;
+const MANY: usize = limit::INCIDENCES + say::SPARE;
 
-const TABLE: usize = limit::RANKS * (limit::FLAGS + SPARE);
+const TABLE: usize = limit::RANKS * (limit::FLAGS + say::SPARE);
 
 // Room for counts, or for a flag.
 pub fn few() -> [Index; FEW]

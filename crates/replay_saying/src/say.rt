@@ -13,12 +13,15 @@ ghost use Rattle.io.specs.Counts.{Counts};
 
 // Lists up to this length are written out.
 const LONGEST: usize = 300;
+
 // The check number of a list is made by c := (FACTOR c + x + 1) mod MODULUS, from 0, over its numbers x in order.
 const FACTOR: u64 = 257;
 
 const MODULUS: u64 = 4294967291;
+
 // How many more numbers an array has than its limit.
 pub const SPARE: usize = 16;
+
 // Lists of bytes are written up to this length: a little more than a search has flags.
 pub const BYTES: usize = limit::FLAGS + SPARE;
 

@@ -50,7 +50,8 @@ loop-again c =
     let t = d .before .before .before .args .text .now in
     let e = sym (c .before .before .goes-on .ensures) ∙ c .before .if1 .taken in
     let o = read-on t (b .i) (c .before .before .before .before .loop-test .taken) (width - 1) (b .s) e in
-    (omega arith, b .inv .1, b .inv .2, rw (c .with-byte .ensures, ← o) (b .inv .3), rw (c .with-byte .ensures, ← o) (b .inv .4))
+    let w = c .with-byte .ensures in
+    (omega arith, b .inv .1, b .inv .2, rw (w, ← o) (b .inv .3), rw (w, ← o) (b .inv .4))
 
 narrow-requires : tie.Need-narrow-requires Inv-loop μ-loop
 narrow-requires c κs = search needs
