@@ -126,7 +126,8 @@ module _ (rank mask : ℕ) where
 
   -- the test at a rank that is not asked for, and at one that is
   pub unset-test : (r : ℕ) → eqb (bitAt mask r) 1 ≡ false → test r ≡ true
-  unset-test r e = rw (eq-eqb (bitAt mask r) 0 (bit-unset mask r (λ s. true≢false (sym (eq-eqb (bitAt mask r) 1 s) ∙ e))))
+  unset-test r e = rw (eq-eqb (bitAt mask r) 0
+      (bit-unset mask r (λ s. true≢false (sym (eq-eqb (bitAt mask r) 1 s) ∙ e))))
 
   pub set-is : (r : ℕ) → eqb (bitAt mask r) 1 ≡ true → test r ≡ (ltb 0 r && ltb r rank)
   set-is r e =

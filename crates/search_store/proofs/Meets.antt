@@ -69,7 +69,8 @@ module _ (w room : ℕ) (table bytes : List ℕ) (s : Progress) (o : s .overflow
     unfolding stateOf
     unknown = omega (arith, rows-length w table (s .count))
 
-    pub new-full : room ≤ s .count → stateOf w table bytes (record { count = s .count; place = s .place; overflow = true })
+    pub new-full : room ≤ s .count
+        → stateOf w table bytes (record { count = s .count; place = s .place; overflow = true })
         ≡ meet sameList room b (stateOf w table bytes s) y
     unfolding stateOf
     new-full r =

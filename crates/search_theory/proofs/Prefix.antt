@@ -91,7 +91,8 @@ module _ {A : Type 0} (same : A → A → Bool) (n m : ℕ) (le : n ≤ m) where
         let r = run-ends same m nbrs a Along work-along 0 (meet same m 0 unbegun a) f start-along in
         go (r .0) (search same m nbrs a) (r .1) (r .2) (search same m nbrs a .overflow) refl
       where
-        go : (k : ℕ) (t : State A) → Along k t → (t .overflow ≡ false → length (t .found) ≤ k) → (b : Bool) → t .overflow ≡ b
+        go : (k : ℕ) (t : State A) → Along k t → (t .overflow ≡ false → length (t .found) ≤ k) → (b : Bool)
+            → t .overflow ≡ b
             → Ahead n W t
         go k t (inr c) d b o = inr c
         go k t (inl p) d true o = inl (run-stop same n nbrs a W k t (p .1) o)

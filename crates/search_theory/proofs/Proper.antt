@@ -123,7 +123,8 @@ module _ {A : Type 0} (same : A → A → Bool) (decides : Decides same) (room :
         meets-proper (Neighbour nbrs) a _ (omega arith) s _ (neighbours-reached room nbrs a k s i h) h
 
     pub start-proper : Proper room (Neighbour nbrs) a (meet same room 0 unbegun a)
-    start-proper = meet-proper (Neighbour nbrs) a 0 (omega arith) unbegun a start (unbegun-proper room (Neighbour nbrs) a)
+    start-proper = meet-proper (Neighbour nbrs) a 0 (omega arith) unbegun a start
+        (unbegun-proper room (Neighbour nbrs) a)
 
     pub search-proper : Proper room (Neighbour nbrs) a (search same room nbrs a)
     unfolding search

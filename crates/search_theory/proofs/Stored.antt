@@ -120,7 +120,8 @@ module _ {A : Type 0} (same : A → A → Bool) (decides : Decides same) (room :
         k = start-proper same decides room nbrs a
 
     -- no overflow: each neighbour of the kth is stored with the byte that the kth does not have
-    pub search-stored : search same room nbrs a .overflow ≡ false → (k : ℕ) → k < length (search same room nbrs a .found)
+    pub search-stored : search same room nbrs a .overflow ≡ false → (k : ℕ)
+        → k < length (search same room nbrs a .found)
         → (y : A) → Neighbour nbrs (getD (search same room nbrs a .found) k a) y
         → Stored a (1 - getD (search same room nbrs a .bytes) k 0) y (search same room nbrs a)
     search-stored o k i =

@@ -45,7 +45,12 @@ module _ {A : Type 0} where
   unbegun = record { found = []; bytes = []; place = 0; overflow = false }
 
   abbrev pub add : ℕ → State A → A → State A
-  add b s y = record { found = s .found ++ (y ∷ []); bytes = s .bytes ++ (b ∷ []); place = s .place; overflow = s .overflow }
+  add b s y = record {
+    found = s .found ++ (y ∷ []);
+    bytes = s .bytes ++ (b ∷ []);
+    place = s .place;
+    overflow = s .overflow;
+  }
 
   abbrev pub overfull : State A → State A
   overfull s = record { found = s .found; bytes = s .bytes; place = s .place; overflow = true }

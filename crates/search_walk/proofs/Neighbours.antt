@@ -30,7 +30,8 @@ unfolding In
 mem-in x l (List·Memᴰ·head e) = inl e
 mem-in x l (List·Memᴰ·tail {xs = m} h) = inr (mem-in x m h)
 
-module _ {m : Limits} (L : Listing) (C : Closed m L) (mask : ℕ) (W : InnerRanks (rank L) mask) (f : List ℕ) (F : IsFlag L f)
+module _ {m : Limits} (L : Listing) (C : Closed m L) (mask : ℕ) (W : InnerRanks (rank L) mask) (f : List ℕ)
+    (F : IsFlag L f)
   where
     pub neighbour-flag : (y : List ℕ) → List·Memᴰ y (maskChanges L mask f) → IsFlag L y
     unfolding maskChanges

@@ -37,12 +37,12 @@ pub record Ready (L : Listing) (places weights : List ℕ) : Type 0 where
   pub begins : Places (L .counts) places
   pub weighs : Weights weights
 
-pub record Walks (L : Listing) (places weights : List ℕ) (mask room : ℕ) (table bytes heads next : List ℕ) (n : ℕ) : Type 0
-  where
-    pub ready : Ready L places weights
-    pub inner : InnerRanks (rank L) mask
-    pub rows : Held (length (L .counts)) room table bytes heads next n
-    pub flags : AllFlags L table n
+pub record Walks (L : Listing) (places weights : List ℕ) (mask room : ℕ) (table bytes heads next : List ℕ)
+    (n : ℕ) : Type 0 where
+  pub ready : Ready L places weights
+  pub inner : InnerRanks (rank L) mask
+  pub rows : Held (length (L .counts)) room table bytes heads next n
+  pub flags : AllFlags L table n
 
 pub record AtHand (L : Listing) (flag : List ℕ) (sum : ℕ) : Type 0 where
   pub long : length flag ≡ limits .ranks

@@ -13,7 +13,8 @@ use Rattle.search_store.proofs.index.weights.Statement.{statement}
 use Rattle.search_store.proofs.index.weights.Tie as tie
 
 abbrev Inv-loop : tie.InvT-loop
-Inv-loop a₀ r₀ a r = (1 ≤ r) × (r ≤ limits .ranks) × (length a ≡ limits .ranks) × ((k : ℕ) → k < r → getD a k 0 ≡ weight k)
+Inv-loop a₀ r₀ a r = (1 ≤ r) × (r ≤ limits .ranks) × (length a ≡ limits .ranks)
+    × ((k : ℕ) → k < r → getD a k 0 ≡ weight k)
 
 abbrev μ-loop : tie.MeasureT-loop
 μ-loop a₀ r₀ a r = limits .ranks - r

@@ -60,7 +60,8 @@ returns : tie.Need-returns Inv-loop μ-loop
 returns c =
     let a = c .before .before .args in
     let l = c .before .loop in
-    copy-end (a .w) (a .table .now) (a .k) (omega arith) (a .flag .now) (l .flag) (l .j) (l .inv .2) (c .loop-test .left)
+    copy-end (a .w) (a .table .now) (a .k) (omega arith) (a .flag .now) (l .flag) (l .j) (l .inv .2)
+        (c .loop-test .left)
 
 pub get-row-spec : {M : Type 1} → statement M
 get-row-spec =

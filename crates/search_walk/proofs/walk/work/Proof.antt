@@ -71,7 +71,8 @@ row-long s = row-length (length (s .args .counts .now)) (s .args .table .now) (s
 -- the flag at hand is row k, and the byte is the one that row k does not have
 flag-is : (c : tie.At-loop Inv-loop μ-loop)
     → c .loop .flag ≡ over (row (began (c .before))) (replicate (limits .ranks) 0)
-flag-is c = c .loop .inv .0 ∙ (rw (c .before .before .before .before .before .before .before .before .wide .ensures .0) at (c .before .before .before .before .before .get-row .ensures))
+flag-is c = c .loop .inv .0 ∙ (rw (c .before .before .before .before .before .before .before .before .wide .ensures .0)
+    at (c .before .before .before .before .before .get-row .ensures))
 
 row-is : (c : tie.At-loop Inv-loop μ-loop) → let s = began (c .before) in
     take (length (s .args .counts .now)) (c .loop .flag) ≡ row s
@@ -81,9 +82,11 @@ row-is c =
 
 byte-is : (c : tie.At-loop Inv-loop μ-loop) → let s = began (c .before) in
     c .before .flipped .result ≡ 1 - getD (s .args .bytes .now) (s .args .k) 0
-byte-is c = rw (c .before .before .before .before .before .before .before .before .wide .ensures .0) at (c .before .flipped .ensures)
+byte-is c = rw (c .before .before .before .before .before .before .before .before .wide .ensures .0)
+    at (c .before .flipped .ensures)
 
-hand : (c : tie.At-loop Inv-loop μ-loop) → AtHand (L (began (c .before))) (c .loop .flag) (c .before .before .before .sum-of .result)
+hand : (c : tie.At-loop Inv-loop μ-loop)
+    → AtHand (L (began (c .before))) (c .loop .flag) (c .before .before .before .sum-of .result)
 hand c =
     let s = began (c .before) in
     record {
