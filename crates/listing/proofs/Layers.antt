@@ -39,6 +39,11 @@ order-ranked M t = record {
 
 -- ---- gathering
 
+pub gather-same : (f g : ℕ → List ℕ) (x n : ℕ) → ((k : ℕ) → k < n → f k ≡ g k) → gather f x n ≡ gather g x n
+unfolding gather
+gather-same f g x zero h = refl
+gather-same f g x (suc n) h = rw (gather-same f g x n (λ k l. h k (omega arith)), h n (omega arith))
+
 module _ (f : ℕ → List ℕ) (x : ℕ) where
   gather-next : (n k : ℕ)
       → occurs k (gather f x (suc n)) ≡ occurs k (gather f x n) + occurs k (replicate (occurs x (f n)) n)

@@ -6,3 +6,4 @@ pub mod ShapeExact
 pub mod Sequences
 pub mod Layers
 pub mod Written
+pub mod Laying

@@ -5,4 +5,5 @@ pub mod Shape
 pub mod Counts
 pub mod Layers
 pub mod Written
+pub mod Laid
 pub mod Cells

@@ -1,14 +1,13 @@
 -- Layers that say the same of every element. The product of two listings is alike to the product of their layers.
 -- Assumes nothing.
-use mathlib.Core.Path.{_≡_, refl, sym, _∙_}
+use mathlib.Core.Path.{_≡_, sym, _∙_}
 use mathlib.Core.Logic.{_↔_, Iff·rfl}
-use mathlib.Core.List.{List}
 use mathlib.Core.Bool.{Bool}
-use Prim.Native.Nat.{ℕ, zero, suc, _<_}
-use native.Mathlib.Omega.{arith}
+use Prim.Native.Nat.{ℕ, suc, _<_}
 use Rattle.order.specs.Structure.{Renumbering}
 use Rattle.listing.specs.Listing.{Listing}
-use Rattle.listing.specs.Layers.{Layers, layers, order, gather, derived}
+use Rattle.listing.specs.Layers.{Layers, layers, order, derived}
+use Rattle.listing.proofs.Layers.{gather-same}
 use Rattle.listing.proofs.Written.{written-rank}
 use Rattle.product_pairs.specs.Sound.{Listed}
 use Rattle.product_pairs.specs.Trimmed.{Used}
@@ -20,11 +19,6 @@ pub record Alike (M N : Layers) : Type 0 where
   pub same-top : N .top ≡ M .top
   pub same-size : (r : ℕ) → N .size r ≡ M .size r
   pub same-under : (r i : ℕ) → i < M .size r → N .under r i ≡ M .under r i
-
-gather-same : (f g : ℕ → List ℕ) (x n : ℕ) → ((k : ℕ) → k < n → f k ≡ g k) → gather f x n ≡ gather g x n
-unfolding gather
-gather-same f g x zero h = refl
-gather-same f g x (suc n) h = rw (gather-same f g x n (λ k l. h k (omega arith)), h n (omega arith))
 
 module _ {M N : Layers} (k : Alike M N) where
   pub alike-derived : (r i : ℕ) → derived N r i ≡ derived M r i

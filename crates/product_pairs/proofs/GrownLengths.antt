@@ -2,15 +2,16 @@
 -- Assumes nothing.
 use mathlib.Core.Path.{_≡_, refl, ap, _∙_}
 use mathlib.Core.Bool.{Bool, true, false}
-use mathlib.Core.List.{List, [], _∷_}
-use Prim.Native.Nat.{ℕ, zero, suc, _+_, _*_, _≤_, _<_}
+use mathlib.Core.List.{[], _∷_}
+use Prim.Native.Nat.{ℕ, suc, _+_, _*_, _≤_, _<_}
 use native.Mathlib.Nat.{add-zero}
 use native.Mathlib.Numerals.{add-one}
 use native.Mathlib.Omega.{arith}
 use lib.ListN.{length}
 use Rattle.order.specs.Sums.{sum}
 use Rattle.order.proofs.Sums.{sum-same}
-use Rattle.listing.specs.Layers.{Layers, gather, derived}
+use Rattle.listing.specs.Layers.{Layers, derived}
+use Rattle.listing.proofs.Layers.{gather-same}
 use Rattle.product_pairs.specs.Sound.{Sound}
 use Rattle.product_pairs.specs.Trimmed.{bit}
 use Rattle.product_pairs.specs.Grown.{minSize, minUnder, addMin, maxSize, addMax, grown}
@@ -18,13 +19,6 @@ use Rattle.product_pairs.specs.Lengths.{rankSubs, allSubs}
 use Rattle.product_pairs.proofs.Sequences.{upTo-length, upTo-occurs, sum-all, sum-first}
 use Rattle.product_pairs.proofs.AddMax.{max-size-low, max-size-top, max-under-low, max-under-top, addMax-sound}
 use Rattle.product_pairs.proofs.Lengths.{rankSubs-lowest}
-
--- ---- gathering from lists that are alike
-
-gather-same : (f g : ℕ → List ℕ) (x n : ℕ) → ((k : ℕ) → k < n → f k ≡ g k) → gather f x n ≡ gather g x n
-unfolding gather
-gather-same f g x zero h = refl
-gather-same f g x (suc n) h = rw (gather-same f g x n (λ k l. h k (omega arith)), h n (omega arith))
 
 -- ---- an element more under all
 

@@ -2,12 +2,16 @@
 -- Assumes nothing.
 use native.Mathlib.Omega.{arith}
 use borrow.Author.Needs.{needs}
-use Rattle.product_places.proofs.Laying.{laid-at}
+use Rattle.listing.proofs.Laying.{laid-at}
 use Rattle.listing_sups.proofs.sups.fill.Statement.{statement}
 use Rattle.listing_sups.proofs.sups.fill.Tie as tie
 
-elements-before-requires : tie.Need-elements-before-requires
-elements-before-requires c κs = search needs
+-- where the function began, seen from where the cursors are set
+abbrev begun : tie.After-set-cursors → tie.Start
+begun c = c .before .before .before .before .before .before
+
+elements-to-requires : tie.Need-elements-to-requires
+elements-to-requires c κs = search needs
 
 slice-aggregate-set-cursors : tie.Need-slice-aggregate-set-cursors
 slice-aggregate-set-cursors c = search needs
@@ -19,13 +23,15 @@ slice-aggregate-fill-ranks : tie.Need-slice-aggregate-fill-ranks
 slice-aggregate-fill-ranks c = search needs
 
 fill-ranks-requires : tie.Need-fill-ranks-requires
-fill-ranks-requires c κs = let s = c .before .before .before .before .before .before .before .before .before in
-    let l = c .before .before .before .set-cursors .ensures in
-    let n = c .before .before .before .before .before .elements-before .ensures in (
+fill-ranks-requires c κs =
+    let d = c .before .before .before in
+    let s = begun d in
+    let l = d .set-cursors .ensures in
+    let n = d .before .before .elements-to .ensures in (
       s .pre,
       (
         omega (arith, l .same-length, s .pre .few),
-        λ e h. laid-at _ _ _ _ l e (omega arith),
+        λ e h. laid-at _ _ _ _ l e (omega (arith, s .pre .few)),
       ),
     )
 
@@ -39,7 +45,7 @@ pub fill-spec : {M : Type 1} → statement M
 fill-spec =
     tie.close
     (tie.spec
-    elements-before-requires
+    elements-to-requires
     slice-aggregate-set-cursors
     set-cursors-requires
     slice-aggregate-fill-ranks
