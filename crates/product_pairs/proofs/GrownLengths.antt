@@ -10,7 +10,7 @@ use native.Mathlib.Omega.{arith}
 use lib.ListN.{length}
 use Rattle.order.specs.Sums.{sum}
 use Rattle.order.proofs.Sums.{sum-same}
-use Rattle.listing.specs.Layers.{Layers, derived}
+use Rattle.listing.specs.Layers.{Layers, gather, derived}
 use Rattle.listing.proofs.Layers.{gather-same}
 use Rattle.product_pairs.specs.Sound.{Sound}
 use Rattle.product_pairs.specs.Trimmed.{bit}
