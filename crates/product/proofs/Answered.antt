@@ -21,7 +21,7 @@ use Rattle.product_closure.proofs.Results.{result-product, result-null, nullito
 use Rattle.product_closure.proofs.Sizes.{productOf-ranks, productOf-elements, productOf-incidences, productOf-within}
 use Rattle.product_closure.proofs.Valid.{valid-sound}
 use Rattle.product_closure.proofs.Products.{four-closed}
-use Rattle.product_building.specs.Built.{over}
+use Rattle.listing_sups.specs.Filling.{over}
 use Rattle.product.specs.declared.Built.{Built}
 use Rattle.product.specs.Outcome.{productTest, Outcome}
 use Rattle.product_sizes.proofs.Tested.{Passed}

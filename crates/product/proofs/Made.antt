@@ -10,9 +10,9 @@ use Rattle.listing.specs.Answers.{ifZero}
 use Rattle.order.specs.Sums.{sum}
 use Rattle.listing.specs.Listing.{Listing, before}
 use Rattle.listing.specs.Cells.{nullitope}
-use Rattle.product_building.specs.Built.{over}
+use Rattle.listing_sups.specs.Filling.{over}
 use Rattle.product.specs.declared.Built.{Built}
-use Rattle.product_sizes.specs.declared.sizes.Sizes.{Sizes}
+use Rattle.product_sizes.specs.declared.sizes.Totals.{Totals}
 use Rattle.product.specs.Outcome.{builtOf, after}
 use Rattle.product_sizes.specs.Sizing.{Measures}
 use Rattle.product.specs.Made.{Made}
@@ -64,7 +64,7 @@ module _ (t : Answer) (R : Listing) (z : t .no ≡ 0) where
   unfolding builtOf
   built-full = rw z
 
-  pub built-written : (s : Sizes) → Measures R s
+  pub built-written : (s : Totals) → Measures R s
       → record { answer = t; counts = s .ranks; ends = 2 * s .elements; inc = s .incidences } ≡ builtOf t R
   built-written s m = rw (built-full, m .ranks, m .ends, m .incidences)
 

@@ -6,8 +6,10 @@ use listing::Index;
 use listing::inner;
 use listing::refusal;
 use product_building::build;
+use product_places::Kind;
 use product_sizes::sizes;
-use product_sizes::sizes::Sizes;
+use product_sizes::sizes::Room;
+use product_sizes::sizes::Totals;
 ghost use mathlib.Core.Path.{_≡_};
 ghost use mathlib.Core.Bool.{false, _||_};
 ghost use Prim.Native.Nat.{_≤_};
@@ -36,8 +38,8 @@ fn refused(answer: Answer) -> Built
 }
 
 // What a product of these sizes answers once it is written.
-fn written(answer: Answer, s: Sizes) -> Built
-    requires { ⌜ (s .ranks ≤ 16) × (s .elements ≤ limits .elements) × (s .incidences ≤ limits .incidences) ⌝ }
+fn written(answer: Answer, s: Totals) -> Built
+    requires { ⌜ (s .ranks ≤ limits .ranks) × (s .elements ≤ limits .elements) × (s .incidences ≤ limits .incidences) ⌝ }
     ensures { λ r. ⌜ ((R : Listing) → Measures R s → answer .no ≡ 0 → r ≡ builtOf answer R) ⌝ }
 {
     Built {
@@ -93,12 +95,17 @@ fn put_nullitope(counts: &mut [Index], ends: &mut [Index], inc: &[Index]) -> Bui
         nullitope (now (counts .entry)) (now (ends .entry)) (now (inc .entry)) (now (counts .exit)) (now (ends .exit))
         (now (inc .entry)) r ⌝ }
 {
-    let s = Sizes {
+    let s = Totals {
         ranks: 1,
         elements: 1,
         incidences: 0,
     };
-    let t = sizes::check_sizes(s, counts.len(), ends.len(), inc.len());
+    let room = Room {
+        counts: counts.len(),
+        ends: ends.len(),
+        inc: inc.len(),
+    };
+    let t = sizes::check_sizes(s, room);
     if t.no != 0 {
         return refused(t);
     }
@@ -134,18 +141,23 @@ fn product(
         (now (counts .entry)) (now (ends .entry)) (now (inc .entry)) (now (counts .exit)) (now (ends .exit))
         (now (inc .exit)) r ⌝ }
 {
-    let u = sizes::count_used(min, max, pcounts, pends, pinc);
-    let v = sizes::count_used(min, max, qcounts, qends, qinc);
-    let s = sizes::product_sizes(min, max, u, v);
-    let t = sizes::check_sizes(s, counts.len(), ends.len(), inc.len());
+    let kind = Kind { min, max };
+    let u = sizes::count_used(kind, pcounts, pends, pinc);
+    let v = sizes::count_used(kind, qcounts, qends, qinc);
+    let s = sizes::product_sizes(kind, u, v);
+    let room = Room {
+        counts: counts.len(),
+        ends: ends.len(),
+        inc: inc.len(),
+    };
+    let t = sizes::check_sizes(s, room);
     if t.no != 0 {
         return refused(t);
     }
-    let p = sizes::range(min, max, pcounts);
-    let q = sizes::range(min, max, qcounts);
+    let p = sizes::range(kind, pcounts);
+    let q = sizes::range(kind, qcounts);
     build::build(
-        min,
-        max,
+        kind,
         p,
         pends,
         pinc,

@@ -1,6 +1,7 @@
 -- What the pairs of two ranks have in common.
 --
 -- BlockOf   the numbers of a block of pairs, for the ranks i and j
+-- inBlock   the number, among all elements, of the pair of the elements a and b of a block's ranks
 use mathlib.Core.Path.{_≡_}
 use mathlib.Core.Bool.{cond, _&&_}
 use mathlib.Core.List.{List}
@@ -11,7 +12,7 @@ use Rattle.listing.specs.Listing.{before}
 use Rattle.product_pairs.specs.Trimmed.{bit}
 use Rattle.product_places.specs.declared.Kind.{Kind}
 use Rattle.product_places.specs.declared.block.Block.{Block}
-use Rattle.product_places.specs.Places.{offsetIn, firstAt}
+use Rattle.product_places.specs.Places.{offsetIn, firstAt, pairNumber}
 
 pub record BlockOf (kind : Kind) (p q : List ℕ) (i j : ℕ) (B : Block) : Type 0 where
   pub ranks : (B .i ≡ i) × (B .j ≡ j)
@@ -25,3 +26,6 @@ pub record BlockOf (kind : Kind) (p q : List ℕ) (i j : ℕ) (B : Block) : Type
   pub right : B .right ≡ offsetIn p q i (pred j)
   pub q-count : B .qcount ≡ getD q j 0
   pub q-below : B .qbelow ≡ getD q (pred j) 0
+
+abbrev pub inBlock : Kind → List ℕ → List ℕ → Block → ℕ → ℕ → ℕ
+inBlock kind p q B a b = pairNumber (kind .min) p q (B .i) a (B .j) b

@@ -1,7 +1,7 @@
 -- The tests of the sizes in their order: the first that fails decides, one law for each.
 -- Assumes nothing.
 use mathlib.Core.Path.{_≡_}
-use Prim.Native.Nat.{ℕ, _≤_, _<_}
+use Prim.Native.Nat.{ℕ, _*_, _≤_, _<_}
 use native.Mathlib.Omega.{arith}
 use borrow.Author.Tests.{lt-ltb, le-ltb, ltb-false}
 use lib.ListN.{length}
@@ -11,43 +11,66 @@ use Rattle.listing.specs.Listing.{Listing, Limits}
 use Rattle.listing.specs.Shape.{elements}
 use Rattle.listing.proofs.Answers.{on-no, on-or-no}
 use Rattle.order.proofs.Tests.{or-none}
-use Rattle.product_sizes.specs.Sizing.{sizeTest}
+use Rattle.product_sizes.specs.declared.sizes.Totals.{Totals}
+use Rattle.product_sizes.specs.declared.sizes.Room.{Room}
+use Rattle.product_sizes.specs.Sizing.{Measures, totalsTest, sizeTest}
 
-module _ (m : Limits) (R : Listing) (c e i : ℕ) where
-  pub over-ranks : m .ranks < length (R .counts) → sizeTest m R c e i ≡ plain productRanks
-  unfolding sizeTest _orElse_
+module _ (m : Limits) (t : Totals) (o : Room) where
+  pub over-ranks : m .ranks < t .ranks → totalsTest m t o ≡ plain productRanks
+  unfolding totalsTest _orElse_
   over-ranks h = rw (lt-ltb _ _ h)
 
-  module _ (h1 : length (R .counts) ≤ m .ranks) where
-    pub over-elements : m .elements < elements R → sizeTest m R c e i ≡ plain productElements
-    unfolding sizeTest _orElse_
+  module _ (h1 : t .ranks ≤ m .ranks) where
+    pub over-elements : m .elements < t .elements → totalsTest m t o ≡ plain productElements
+    unfolding totalsTest _orElse_
     over-elements h = rw (le-ltb _ _ h1, lt-ltb _ _ h)
 
-    module _ (h2 : elements R ≤ m .elements) where
-      pub over-incidences : m .incidences < length (R .inc) → sizeTest m R c e i ≡ plain productIncidences
-      unfolding sizeTest _orElse_
+    module _ (h2 : t .elements ≤ m .elements) where
+      pub over-incidences : m .incidences < t .incidences → totalsTest m t o ≡ plain productIncidences
+      unfolding totalsTest _orElse_
       over-incidences h = rw (le-ltb _ _ h1, le-ltb _ _ h2, lt-ltb _ _ h)
 
-      module _ (h3 : length (R .inc) ≤ m .incidences) where
-        pub short-counts : c < length (R .counts) → sizeTest m R c e i ≡ plain outputShort
-        unfolding sizeTest _orElse_
-        short-counts h = rw (le-ltb _ _ h1, le-ltb _ _ h2, le-ltb _ _ h3, lt-ltb c _ h)
+      module _ (h3 : t .incidences ≤ m .incidences) where
+        pub short-counts : o .counts < t .ranks → totalsTest m t o ≡ plain outputShort
+        unfolding totalsTest _orElse_
+        short-counts h = rw (le-ltb _ _ h1, le-ltb _ _ h2, le-ltb _ _ h3, lt-ltb (o .counts) _ h)
 
-        module _ (h4 : length (R .counts) ≤ c) where
-          pub short-ends : e < length (R .ends) → sizeTest m R c e i ≡ plain outputShort
-          unfolding sizeTest _orElse_
-          short-ends h = rw (le-ltb _ _ h1, le-ltb _ _ h2, le-ltb _ _ h3, le-ltb c _ h4, lt-ltb e _ h)
+        module _ (h4 : t .ranks ≤ o .counts) where
+          pub short-ends : o .ends < 2 * t .elements → totalsTest m t o ≡ plain outputShort
+          unfolding totalsTest _orElse_
+          short-ends h =
+              rw (le-ltb _ _ h1, le-ltb _ _ h2, le-ltb _ _ h3, le-ltb (o .counts) _ h4, lt-ltb (o .ends) _ h)
 
-          module _ (h5 : length (R .ends) ≤ e) where
-            pub short-inc : i < length (R .inc) → sizeTest m R c e i ≡ plain outputShort
-            unfolding sizeTest _orElse_
+          module _ (h5 : 2 * t .elements ≤ o .ends) where
+            pub short-inc : o .inc < t .incidences → totalsTest m t o ≡ plain outputShort
+            unfolding totalsTest _orElse_
             short-inc h =
-                rw (le-ltb _ _ h1, le-ltb _ _ h2, le-ltb _ _ h3, le-ltb c _ h4, le-ltb e _ h5, lt-ltb i _ h)
+                rw (
+                  le-ltb _ _ h1,
+                  le-ltb _ _ h2,
+                  le-ltb _ _ h3,
+                  le-ltb (o .counts) _ h4,
+                  le-ltb (o .ends) _ h5,
+                  lt-ltb (o .inc) _ h,
+                )
 
-            pub sizes-fine : length (R .inc) ≤ i → sizeTest m R c e i ≡ fine
-            unfolding sizeTest _orElse_
+            pub sizes-fine : t .incidences ≤ o .inc → totalsTest m t o ≡ fine
+            unfolding totalsTest _orElse_
             sizes-fine h =
-                rw (le-ltb _ _ h1, le-ltb _ _ h2, le-ltb _ _ h3, le-ltb c _ h4, le-ltb e _ h5, le-ltb i _ h)
+                rw (
+                  le-ltb _ _ h1,
+                  le-ltb _ _ h2,
+                  le-ltb _ _ h3,
+                  le-ltb (o .counts) _ h4,
+                  le-ltb (o .ends) _ h5,
+                  le-ltb (o .inc) _ h,
+                )
+
+-- the test of a listing is that of its three numbers
+pub listing-tested : (m : Limits) (R : Listing) (t : Totals) (o : Room) → Measures R t
+    → totalsTest m t o ≡ sizeTest m R (o .counts) (o .ends) (o .inc)
+unfolding totalsTest sizeTest
+listing-tested m R t o h = rw (← h .ends, ← h .ranks, ← h .elements, ← h .incidences)
 
 -- ---- what they ask, where none fails
 

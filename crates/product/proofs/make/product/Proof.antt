@@ -1,17 +1,19 @@
 -- `product`: where the sizes pass, all that the builder asks holds, and what it writes is the product.
 -- Assumes nothing.
-use mathlib.Core.Path.{_≡_}
+use mathlib.Core.Path.{_≡_, _∙_}
 use native.Mathlib.Omega.{arith}
 use borrow.Author.Needs.{needs}
 use lib.ListN.{length}
 use Rattle.listing.specs.Listing.{Listing, listing, limits}
 use Rattle.listing.proofs.Answers.{no-of}
 use Rattle.product_pairs.specs.Product.{productOf}
+use Rattle.product_places.specs.declared.Kind.{Kind}
 use Rattle.product_sizes.specs.Sizing.{sizeTest}
 use Rattle.product_sizes.specs.Sizing.{Measures}
-use Rattle.product_sizes.proofs.Planned.{built-is, build-asked}
+use Rattle.product_sizes.proofs.Counted.{measured-by}
+use Rattle.product_plan.proofs.Planned.{built-is, build-asked}
 use Rattle.product_sizes.proofs.Parts.{usable-shaped, usable-high}
-use Rattle.product_sizes.proofs.Tested.{Passed, sizes-passed}
+use Rattle.product_sizes.proofs.Tested.{listing-tested, Passed, sizes-passed}
 use Rattle.product.proofs.Made.{made-refused, made-written}
 use Rattle.product.proofs.make.product.Statement.{statement}
 use Rattle.product.proofs.make.product.Tie as tie
@@ -19,6 +21,10 @@ use Rattle.product.proofs.make.product.Tie as tie
 -- where the function began
 abbrev start : tie.After-check-sizes → tie.Start
 start c = c .before .before .before .before .before .before .before .before .before .before .before .before .before
+
+-- which product it is
+abbrev kind : tie.Start → Kind
+kind s = record { min = s .args .min; max = s .args .max }
 
 -- the factors, and their product
 abbrev left : tie.Start → Listing
@@ -37,13 +43,13 @@ measures c =
     let d = c .before in
     let a = d .before .before .count-used .ensures .1 in
     let b = d .before .count-used2 .ensures .1 in
-    d .product-sizes .ensures _ _ (s .pre .0) (s .pre .1) a b
+    measured-by (kind s) (s .pre .0) (s .pre .1) a b (d .product-sizes .ensures)
 
 -- the test's answer is that of the product's sizes
 tested : (c : tie.After-check-sizes) → let a = start c .args in
     c .check-sizes .result
     ≡ sizeTest limits (result (start c)) (length (a .counts .now)) (length (a .ends .now)) (length (a .inc .now))
-tested c = c .check-sizes .ensures _ (measures c)
+tested c = c .check-sizes .ensures ∙ listing-tested _ (result (start c)) _ _ (measures c)
 
 -- past the test they are within the limits and the room
 passed : (c : tie.Else1) → let s = start (c .before .before) in
@@ -87,7 +93,7 @@ build-requires c κs =
     let h = passed (c .before .before .before .before .before) in
     let p = c .before .before .before .before .range .ensures in
     let q = c .before .before .before .range2 .ensures in
-    build-asked _ _ _ _ (s .pre .0) (s .pre .1) _ _ p q (a .counts .now) (a .ends .now) (a .inc .now) h
+    build-asked (kind s) _ _ (s .pre .0) (s .pre .1) _ _ p q (a .counts .now) (a .ends .now) (a .inc .now) h
 
 written-requires : tie.Need-written-requires
 written-requires c κs =
@@ -114,7 +120,7 @@ returns-2 c =
     let w = c .written .ensures _ (measures t) z in
     let p = b .before .before .before .before .before .range .ensures in
     let q = b .before .before .before .before .range2 .ensures in
-    let e = built-is _ _ _ _ (s .pre .0) (s .pre .1) _ _ p q in
+    let e = built-is (kind s) _ _ (s .pre .0) (s .pre .1) _ _ p q in
     made-written _ _ z _ (tested t) _ _ _ _ _ _ _ w
     (rw e at (b .build .ensures .0)) (rw e at (b .build .ensures .1 .0)) (rw e at (b .build .ensures .1 .1))
 
