@@ -10,7 +10,7 @@ use Rattle.listing.specs.Listing.{Listing, listing}
 use Rattle.listing.specs.Layers.{Layers, Topped, derived}
 use Rattle.listing.specs.Laid.{LaidList}
 use Rattle.listing.specs.Written.{nth}
-use Rattle.listing_sups.specs.Sups.{Fillable, SupsFilled}
+use Rattle.listing_sups.specs.Sups.{UpCounts, Fillable, SupsFilled}
 use Rattle.listing_sups.specs.Filling.{over, starts, ElementsLaid}
 use Rattle.listing_sups.proofs.Over.{list-over, take-over}
 use Rattle.listing_sups.proofs.Whole.{whole-fillable, whole-ends, whole-inc}
@@ -24,6 +24,10 @@ pub zeros : (n k : ℕ) → _≡_ {A = ℕ} (getD (replicate n 0) k 0) 0
 zeros zero k = refl
 zeros (suc n) zero = refl
 zeros (suc n) (suc k) = zeros n k
+
+-- counts of sups, by another number for where the elements begin
+pub counted-from : {b b′ : ℕ} (L : Listing) (up : List ℕ) → b ≡ b′ → UpCounts b L up → UpCounts b′ L up
+counted-from L up e u = rw e at u
 
 -- the plan, and room for the counts
 pub record Buildable (kind : Kind) (P Q : Listing) (counts₀ ends₀ inc₀ : List ℕ) : Type 0 where
@@ -97,7 +101,9 @@ module _ {kind : Kind} {P Q : Listing} {counts₀ ends₀ inc₀ counts₁ ends�
       → SupsFilled (listing (take k counts₁) (take (2 * n) ends₁) inc₁) (length (take k counts₁)) inc₂
       → (counts₁ ≡ over (W r .counts) counts₀) × ((ends₁ ≡ over (W r .ends) ends₀) × (inc₂ ≡ over (W r .inc) inc₀))
   built-all inc₂ f = (
-    rw (counts-are r) (list-over _ counts₀ counts₁ (counts-room r) (l .counts)),
+    rw (counts-are r)
+        (list-over (countsOf (kind .min) (kind .max) (P .counts) (Q .counts)) counts₀ counts₁ (counts-room r)
+        (l .counts)),
     (
       whole-ends (T r) (topped r) ends₀ inc₀ ends₁ inc₁ laid-T (room-ends r) (room-inc r),
       whole-inc (T r) (topped r) ends₀ inc₀ ends₁ inc₁ laid-T (room-ends r) (room-inc r) inc₂

@@ -179,7 +179,7 @@ ranks-add : (a b m n : ℕ) → suc (a + b + m + n) ≡ suc a + suc b - 1 + m + 
 ranks-add a b m n = omega arith
 
 -- the three numbers by their parts, as the code has them in hand
-pub totals-are : (kind : Kind) {p q : Extent} {low high pairs left right lowest highest : ℕ} → low ≡ bit (kind .min)
+pub totals-are : (kind : Kind) (p q : Extent) {low high pairs left right lowest highest : ℕ} → low ≡ bit (kind .min)
     → high ≡ bit (kind .max) → pairs ≡ p .elements * q .elements → left ≡ p .subs * q .elements
     → right ≡ q .subs * p .elements → lowest ≡ bit (kind .min) * (p .lowest * q .lowest)
     → highest ≡ bit (kind .max) * (p .highest * q .highest)
@@ -188,7 +188,7 @@ pub totals-are : (kind : Kind) {p q : Extent} {low high pairs left right lowest 
       elements = pairs + low + high;
       incidences = 2 * (left + right + lowest + highest);
     }) (totalsOf kind p q)
-totals-are kind a b e l r f g = rw (a, b, e, l, r, f, g)
+totals-are kind p q a b e l r f g = rw (a, b, e, l, r, f, g)
 
 -- Its three numbers are what the sizes are computed to.
 pub measured : (kind : Kind) (A B : Listing) → Usable (kind .min) (kind .max) A → Usable (kind .min) (kind .max) B

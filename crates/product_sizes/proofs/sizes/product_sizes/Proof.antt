@@ -101,7 +101,8 @@ returns : tie.Need-returns
 returns c =
     let d = low c .before .before in
     let f = flags (low c) in
-    totals-are (begun f .args .kind) (f .before .bit-of .ensures) (f .bit-of2 .ensures)
+    let a = begun f .args in
+    totals-are (a .kind) (a .p) (a .q) (f .before .bit-of .ensures) (f .bit-of2 .ensures)
     (d .before .before .times .ensures .0) (d .before .times2 .ensures .0) (d .times3 .ensures .0) (lowest (low c))
     (highest c)
 
