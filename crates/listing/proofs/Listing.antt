@@ -78,6 +78,3 @@ rank-there L r i h = some-rank (L .counts) r i h
 pub before-lt : (counts : List ℕ) (r i : ℕ) → i < getD counts r 0
     → before counts r + i < before counts (length counts)
 before-lt counts r i h = omega (arith, before-next counts r, before-all counts (r + 1))
-
-pub count-le : (counts : List ℕ) (r : ℕ) → getD counts r 0 ≤ before counts (length counts)
-count-le counts r = omega (arith, before-next counts r, before-all counts (r + 1))

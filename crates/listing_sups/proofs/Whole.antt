@@ -10,7 +10,7 @@ use lib.ListN.{length, getD, take, drop, length-take, length-drop}
 use lib.Seq.{ext-getD, getD-take, getD-drop}
 use Rattle.order.specs.Sums.{sum, partAt}
 use Rattle.order.proofs.Sums.{sum-next, sum-le, sum-lt, part-same, part-ok}
-use Rattle.listing.specs.Listing.{Listing, listing, limits, count, before, start, entries, Ends}
+use Rattle.listing.specs.Listing.{Listing, listing, width, limits, count, before, start, entries, Ends}
 use Rattle.listing.specs.Layers.{Layers, Topped, layers, gather, derived}
 use Rattle.listing.specs.Written.{joined, tabulated, lengths, listAt, nth, written}
 use Rattle.listing.proofs.Listing.{before-lt}
@@ -127,8 +127,8 @@ module _ (M : Layers) (t : Topped M) (ends₀ inc₀ ends inc : List ℕ)
   sups-start e h = E-at lists N ends₀ inc₀ ends inc laid room-ends room-inc (2 * e) (omega arith)
 
   -- what is asked of the code that fills them in
-  pub whole-fillable : N ≤ limits .elements → Fillable L
-  whole-fillable few = record {
+  pub whole-fillable : N ≤ limits .elements → length counts < width → Fillable L
+  whole-fillable few ranks = record {
     lists = E-good lists N ends₀ inc₀ ends inc laid room-ends room-inc;
     two-each =
         omega (
@@ -137,6 +137,7 @@ module _ (M : Layers) (t : Topped M) (ends₀ inc₀ ends inc : List ℕ)
           written-elements M (derived M) t,
         );
     few = omega (arith, written-elements M (derived M) t);
+    few-ranks = ranks;
     room = λ r x h.
         let e = before counts r + x in
         let l = number-lt M t r x h in

@@ -16,7 +16,7 @@ use mathlib.Core.Path.{_≡_}
 use mathlib.Core.List.{List}
 use Prim.Native.Nat.{ℕ, _+_, _-_, _*_, _≤_, _<_}
 use lib.ListN.{length, getD, take, drop}
-use Rattle.listing.specs.Listing.{Listing, rank, count, before, entries, Ends, limits}
+use Rattle.listing.specs.Listing.{Listing, width, limits, rank, count, before, entries, Ends}
 use Rattle.listing.specs.Shape.{elements}
 use Rattle.listing.specs.Layers.{Layers, layers, derived}
 
@@ -59,6 +59,7 @@ pub record Fillable (L : Listing) : Type 0 where
   pub lists : Ends (L .ends) (L .inc)
   pub two-each : 2 * elements L ≤ length (L .ends)
   pub few : elements L ≤ limits .elements
+  pub few-ranks : length (L .counts) < width
   pub room : (r x : ℕ) → x < count L r
       → supsAt L r x + length (derived (layers L) r x) ≤ getD (L .ends) (2 * (before (L .counts) r + x) + 1) 0
 

@@ -2,11 +2,11 @@
 -- Assumes nothing.
 use mathlib.Core.Path.{_≡_, refl, sym, _∙_}
 use mathlib.Core.List.{List}
-use Prim.Native.Nat.{ℕ, zero, suc, _*_, _≤_}
+use Prim.Native.Nat.{ℕ, zero, suc, _*_, _≤_, _<_}
 use native.Mathlib.Omega.{arith}
 use lib.ListN.{length, getD, take, replicate}
 use Rattle.order.specs.Sums.{sum}
-use Rattle.listing.specs.Listing.{Listing, listing}
+use Rattle.listing.specs.Listing.{width, Listing, listing}
 use Rattle.listing.specs.Layers.{Layers, Topped, derived}
 use Rattle.listing.specs.Laid.{LaidList}
 use Rattle.listing.specs.Written.{nth}
@@ -16,10 +16,11 @@ use Rattle.listing_sups.specs.Filling.{starts, ElementsLaid}
 use Rattle.listing_sups.proofs.Over.{list-over, take-over}
 use Rattle.listing_sups.proofs.Whole.{whole-fillable, whole-ends, whole-inc}
 use Rattle.product_places.specs.declared.Kind.{Kind}
+use Rattle.product_places.proofs.Numbers.{bit-le}
 use Rattle.product_writing.specs.Pairs.{target, listsOf, productLists, sizeOf, Plan}
 use Rattle.product_writing.proofs.Target.{target-size, target-topped}
 use Rattle.product_building.specs.Built.{countsOf, productListing}
-use Rattle.product_building.proofs.CountsLaid.{target-counts}
+use Rattle.product_building.proofs.CountsLaid.{counts-length, target-counts}
 
 pub zeros : (n k : ℕ) → _≡_ {A = ℕ} (getD (replicate n 0) k 0) 0
 zeros zero k = refl
@@ -56,6 +57,18 @@ module _ {kind : Kind} {P Q : Listing} {counts₀ ends₀ inc₀ : List ℕ} (r 
 
   pub counts-room : length (countsOf (kind .min) (kind .max) (P .counts) (Q .counts)) ≤ length counts₀
   counts-room = rw (← counts-are) (r .room)
+
+  few-counts : length (W .counts) < width
+  few-counts =
+      let p = r .plan in
+      rw counts-are (omega (
+        arith,
+        counts-length (kind .min) (kind .max) (P .counts) (Q .counts),
+        bit-le (kind .min),
+        bit-le (kind .max),
+        p .ranks-P .1,
+        p .ranks-Q .1,
+      ))
 
   -- there is room, by the layers
   room-ends : 2 * N ≤ length ends₀
@@ -95,7 +108,7 @@ module _ {kind : Kind} {P Q : Listing} {counts₀ ends₀ inc₀ counts₁ ends�
   fill-asked =
       rw (part-is, number-is)
       (whole-fillable (T r) (topped r) ends₀ inc₀ ends₁ inc₁ laid-T (room-ends r) (room-inc r)
-      (omega (arith, size r, r .plan .elements)))
+      (omega (arith, size r, r .plan .elements)) (few-counts r))
 
   -- and what that leaves
   pub built-all : (inc₂ : List ℕ)

@@ -41,10 +41,12 @@ entries-past ends inc k h =
 
 -- some elements are of rank 1, if there is such a rank
 lowest-count : (min : Bool) (L : Listing) → Bounded L → Incident L → bit min ≤ rank L → 0 < count L (bit min)
+unfolding Incident
 lowest-count false L b i h = omega (arith, b .one-minimal)
 lowest-count true L b i h =
-    let s = i .some-sup 0 0 (omega (arith, b .one-minimal)) (omega arith) in
-    omega (arith, i .sup-back 0 0 (s .0) (omega (arith, b .one-minimal)) (s .1) .0)
+    let a = i 0 0 (omega (arith, b .one-minimal)) .upper in
+    let s = a .some (omega arith) in
+    omega (arith, a .each (s .0) (s .1) .0)
 
 module _ (min max : Bool) (L : Listing) (u : Usable min max L) where
   lowest-some : 0 < getD (countsInUse min max (L .counts)) 0 0

@@ -153,13 +153,13 @@ module _ (min max : Bool) (L : Listing) (u : Usable min max L) where
         let lowest = rw e at el ∙ in-use-size min max L u 0 in
         let highest = rw (e, top) at eh ∙ in-use-size min max L u (M .top) in
         λ i.
-            record {
-              ranks = ranks i;
-              elements = elements i;
-              subs = subs i;
-              lowest = lowest i;
-              highest = highest i;
-            }
+        record {
+          ranks = ranks i;
+          elements = elements i;
+          subs = subs i;
+          lowest = lowest i;
+          highest = highest i;
+        }
 
     pub little : U .subs ≤ limits .incidences * (b + U .elements - (b + U .lowest)) → Little U
     little h =

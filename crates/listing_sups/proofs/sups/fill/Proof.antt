@@ -11,7 +11,7 @@ abbrev begun : tie.After-set-cursors → tie.Start
 begun c = c .before .before .before .before .before .before
 
 elements-before-requires : tie.Need-elements-before-requires
-elements-before-requires c κs = search needs
+elements-before-requires c κs = omega (arith, c .before .before .before .pre .few-ranks)
 
 slice-aggregate-set-cursors : tie.Need-slice-aggregate-set-cursors
 slice-aggregate-set-cursors c = search needs

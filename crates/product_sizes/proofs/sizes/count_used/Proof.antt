@@ -69,7 +69,7 @@ add-subs-listed c =
 add-subs-listed-2 : tie.Need-add-subs-listed-2
 add-subs-listed-2 c =
     let d = counted-at c in
-    omega (arith, d .before .bit-of .ensures, bit-le (begun d .args .kind .min), d .elements-before .ensures)
+    omega (arith, d .before .bit-of .ensures, d .elements-before .ensures, asked d)
 
 subs-listed-requires : tie.Need-subs-listed-requires
 subs-listed-requires c κs =
