@@ -13,3 +13,4 @@ pub mod Among
 pub mod ShapeBroken
 pub mod Clear
 pub mod Output
+pub mod Laying

@@ -64,9 +64,17 @@ start-more ends {k = suc k} h =
 
 -- ---- an element of a rank that is there
 
-pub rank-there : (L : Listing) (r i : ℕ) → i < count L r → r < length (L .counts)
-rank-there L r i h = go (decLt r (length (L .counts)))
+pub some-rank : (counts : List ℕ) (r i : ℕ) → i < getD counts r 0 → r < length counts
+some-rank counts r i h = go (decLt r (length counts))
   where
-    go : Dec (r < length (L .counts)) → r < length (L .counts)
+    go : Dec (r < length counts) → r < length counts
     go (yes l) = l
-    go (no l) = absurd (omega (arith, List·getD-eq-default (L .counts) 0 {n = r} (omega arith)))
+    go (no l) = absurd (omega (arith, List·getD-eq-default counts 0 {n = r} (omega arith)))
+
+pub rank-there : (L : Listing) (r i : ℕ) → i < count L r → r < length (L .counts)
+rank-there L r i h = some-rank (L .counts) r i h
+
+-- its number is below the number of all elements, and so is the number of those of its rank
+pub before-lt : (counts : List ℕ) (r i : ℕ) → i < getD counts r 0
+    → before counts r + i < before counts (length counts)
+before-lt counts r i h = omega (arith, before-next counts r, before-all counts (r + 1))

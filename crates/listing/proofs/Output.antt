@@ -14,35 +14,38 @@ use Rattle.order.proofs.Over.{over-first}
 use Rattle.order.proofs.Tests.{or-none}
 use Rattle.listing.specs.declared.Answer.{Answer}
 use Rattle.listing.specs.declared.Built.{Built}
+use Rattle.listing.specs.declared.outputs.Room.{Room}
 use Rattle.listing.specs.Refusals.{outputShort}
 use Rattle.listing.specs.Answers.{plain, fine, ifZero}
 use Rattle.listing.specs.Listing.{Listing, listing}
-use Rattle.listing.specs.Output.{Fits, roomTest, builtOf, after, Made, prefix, Untouched, Wrote}
+use Rattle.listing.specs.Output.{Fits, shortTest, roomTest, builtOf, after, Made, prefix, Untouched, Wrote}
 use Rattle.listing.proofs.Answers.{if-not, no-of, stops}
 use Rattle.listing.proofs.Broken.{Tests, tests-on}
 
 -- ---- room
 
+module _ (need room : Room) where
+  pub short-counts : room .counts < need .counts → shortTest need room ≡ plain outputShort
+  unfolding shortTest
+  short-counts h = rw (lt-ltb (room .counts) _ h)
+
+  module _ (h1 : need .counts ≤ room .counts) where
+    pub short-ends : room .ends < need .ends → shortTest need room ≡ plain outputShort
+    unfolding shortTest
+    short-ends h = rw (le-ltb (room .counts) _ h1, lt-ltb (room .ends) _ h)
+
+    module _ (h2 : need .ends ≤ room .ends) where
+      pub short-inc : room .inc < need .inc → shortTest need room ≡ plain outputShort
+      unfolding shortTest
+      short-inc h = rw (le-ltb (room .counts) _ h1, le-ltb (room .ends) _ h2, lt-ltb (room .inc) _ h)
+
+      pub room-fine : need .inc ≤ room .inc → shortTest need room ≡ fine
+      unfolding shortTest
+      room-fine h = rw (le-ltb (room .counts) _ h1, le-ltb (room .ends) _ h2, le-ltb (room .inc) _ h)
+
 module _ (R : Listing) (c e i : ℕ) where
-  pub short-counts : c < length (R .counts) → roomTest R c e i ≡ plain outputShort
-  unfolding roomTest
-  short-counts h = rw (lt-ltb c _ h)
-
-  pub short-ends : length (R .counts) ≤ c → e < length (R .ends) → roomTest R c e i ≡ plain outputShort
-  unfolding roomTest
-  short-ends h1 h = rw (le-ltb c _ h1, lt-ltb e _ h)
-
-  pub short-inc : length (R .counts) ≤ c → length (R .ends) ≤ e → i < length (R .inc)
-      → roomTest R c e i ≡ plain outputShort
-  unfolding roomTest
-  short-inc h1 h2 h = rw (le-ltb c _ h1, le-ltb e _ h2, lt-ltb i _ h)
-
-  pub room-fine : Fits R c e i → roomTest R c e i ≡ fine
-  unfolding roomTest
-  room-fine h = rw (le-ltb c _ (h .0), le-ltb e _ (h .1), le-ltb i _ (h .2))
-
   pub room-tested : Tests outputShort outputShort (Fits R c e i) (roomTest R c e i)
-  unfolding roomTest
+  unfolding shortTest
   room-tested =
       tests-on (ltb c (length (R .counts)) || (ltb e (length (R .ends)) || ltb i (length (R .inc)))) outputShort
       (omega arith)

@@ -6,8 +6,8 @@ use mathlib.Core.List.{List, [], _∷_, _++_, append-assoc, append-nil}
 use Prim.Native.Nat.{ℕ, zero, suc, _+_, _-_, _*_, _/_, _%_, _≤_, _<_}
 use native.Mathlib.Decide.{decLt}
 use native.Mathlib.Omega.{arith}
-use lib.ListN.{length, getD, take, drop, length-append, List·getD-eq-default}
-use lib.Seq.{take-at, drop-at, getD-at}
+use lib.ListN.{length, getD, take, drop, length-append, List·getD-append, List·getD-eq-default}
+use lib.Seq.{take-at, drop-at, getD-at, getD-append-add}
 use Rattle.order.specs.Sums.{sum, partAt}
 use Rattle.order.proofs.Sums.{sum-lt, sum-same, part-ok, part-at}
 use Rattle.listing.specs.Listing.{Limits, rank, count, before, start, entries, side, subs, sups}
@@ -43,6 +43,14 @@ module _ (f : ℕ → List ℕ) where
       let s = joined-split n i h in
       rw (s .1, drop-at (joined f i) (f i ++ s .0) (sum (lengths f) i) (joined-length i))
       (take-at (f i) (s .0) (length (f i)) refl)
+
+-- a number of the tth list
+pub joined-at : (f : ℕ → List ℕ) (n t j : ℕ) → t < n → j < length (f t)
+    → getD (joined f n) (sum (lengths f) t + j) 0 ≡ getD (f t) j 0
+joined-at f n t j h l =
+    let s = joined-split f n t h in
+    rw (s .1, ← joined-length f t)
+    (getD-append-add (joined f t) (f t ++ s .0) j 0 ∙ List·getD-append (f t) (s .0) 0 j l)
 
 joined-same : (f g : ℕ → List ℕ) (n : ℕ) → ((i : ℕ) → i < n → f i ≡ g i) → joined f n ≡ joined g n
 unfolding joined

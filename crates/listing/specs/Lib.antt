@@ -5,6 +5,7 @@ pub mod Shape
 pub mod Counts
 pub mod Layers
 pub mod Written
+pub mod Laid
 pub mod Cells
 pub mod Output
 pub mod Rules

@@ -2,7 +2,9 @@
 -- slices held `old` and hold `new`; r is what is answered.
 --
 -- Fits       slices of the lengths c, e and i have room for R
--- roomTest   36: one of them is too short
+-- needOf     how much room R takes
+-- shortTest  36: of the room that there is, one number is less than what is needed
+-- roomTest   36: one of slices of the lengths c, e and i is too short for R
 -- builtOf    the answer with the three lengths written; 0 where it is a refusal
 -- after      what an output slice holds afterwards: the new numbers over what stood there; as it was at a refusal
 -- Made       what is answered and left where the test t decides and R is to be written
@@ -18,6 +20,7 @@ use lib.ListN.{length, take}
 use Rattle.order.specs.Lists.{over}
 use Rattle.listing.specs.declared.Answer.{Answer}
 use Rattle.listing.specs.declared.Built.{Built}
+use Rattle.listing.specs.declared.outputs.Room.{Room}
 use Rattle.listing.specs.Refusals.{outputShort}
 use Rattle.listing.specs.Answers.{plain, ifZero, on}
 use Rattle.listing.specs.Listing.{Listing, listing}
@@ -25,9 +28,16 @@ use Rattle.listing.specs.Listing.{Listing, listing}
 abbrev pub Fits : Listing → ℕ → ℕ → ℕ → Type 0
 Fits R c e i = (length (R .counts) ≤ c) × (length (R .ends) ≤ e) × (length (R .inc) ≤ i)
 
-unfoldable pub roomTest : Listing → ℕ → ℕ → ℕ → Answer
-roomTest R c e i =
-    on (ltb c (length (R .counts)) || (ltb e (length (R .ends)) || ltb i (length (R .inc)))) (plain outputShort)
+abbrev pub needOf : Listing → Room
+needOf R = record { counts = length (R .counts); ends = length (R .ends); inc = length (R .inc) }
+
+unfoldable pub shortTest : Room → Room → Answer
+shortTest need room =
+    on (ltb (room .counts) (need .counts) || (ltb (room .ends) (need .ends) || ltb (room .inc) (need .inc)))
+    (plain outputShort)
+
+abbrev pub roomTest : Listing → ℕ → ℕ → ℕ → Answer
+roomTest R c e i = shortTest (needOf R) (record { counts = c; ends = e; inc = i })
 
 unfoldable pub builtOf : Answer → Listing → Built
 builtOf a R =

@@ -4,9 +4,8 @@ use crate::Built;
 use crate::inner;
 use crate::refusal;
 ghost use mathlib.Core.Path.{_≡_};
-ghost use lib.ListN.{length};
 ghost use Rattle.listing.specs.Listing.{Listing};
-ghost use Rattle.listing.specs.Output.{roomTest, builtOf};
+ghost use Rattle.listing.specs.Output.{shortTest, builtOf};
 
 // How many numbers the three slices of a listing take, or have room for.
 pub struct Room {
@@ -17,8 +16,7 @@ pub struct Room {
 
 // Whether slices with this much room can hold a listing that needs so much.
 pub fn check_room(need: Room, room: Room) -> Answer
-    ensures { λ r. ⌜ ((R : Listing) → length (R .counts) ≡ need .counts → length (R .ends) ≡ need .ends
-        → length (R .inc) ≡ need .inc → r ≡ roomTest R (room .counts) (room .ends) (room .inc)) ⌝ }
+    ensures { λ r. ⌜ r ≡ shortTest need room ⌝ }
 {
     if room.counts < need.counts {
         return inner::plain(refusal::OUTPUT_SHORT);

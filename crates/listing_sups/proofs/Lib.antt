@@ -3,3 +3,6 @@ pub mod Counting
 pub mod Strewing
 pub mod Gathering
 pub mod SupsFilled
+pub mod Laying
+pub mod Over
+pub mod Whole

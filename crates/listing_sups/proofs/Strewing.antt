@@ -3,7 +3,7 @@
 use mathlib.Core.Path.{_≡_, refl, sym, ap, _∙_}
 use mathlib.Core.List.{List, [], _∷_, _++_}
 use Prim.Native.Nat.{ℕ, _+_, _-_, _≤_, _<_}
-use native.Mathlib.Decide.{decLt}
+use native.Mathlib.Decide.{decLt, ℕ-discrete}
 use native.Mathlib.Omega.{arith}
 use lib.ListN.{length, getD, set, replicate, length-append, length-set, length-replicate, List·getD-append}
 use lib.Seq.{getD-set-same, getD-set-other, getD-append-add}
@@ -11,9 +11,9 @@ use Rattle.order.specs.Lists.{occurs}
 use Rattle.listing_sups.specs.Sups.{Raised, Strewn, Apart}
 use Rattle.order.proofs.Lists.{occurs-own, occurs-apart}
 
-module _ (first n : ℕ) where
+module _ (from n : ℕ) where
   pub strewn-none : (so : ℕ → List ℕ) (next inc : List ℕ) → ((x : ℕ) → x < n → length (so x) ≡ 0)
-      → Strewn first n so next inc inc
+      → Strewn from n so next inc inc
   strewn-none so next inc z = record {
     same-length = refl;
     at = λ x j h l. absurd (omega (arith, z x h));
@@ -27,32 +27,28 @@ module _ (first n : ℕ) where
     one y = replicate (occurs y (x ∷ [])) k
 
     abbrev place : ℕ
-    place = getD next (first + x) 0
+    place = getD next (from + x) 0
 
-    pub strewn-past : n ≤ x → Strewn first n one next inc inc
+    pub strewn-past : n ≤ x → Strewn from n one next inc inc
     strewn-past h =
         strewn-none one next inc
         (λ y l. length-replicate (occurs y (x ∷ [])) k ∙ occurs-apart y x (omega arith))
 
     one-at : (y j : ℕ) → place < length inc → j < length (one y)
-        → getD (set inc place k) (getD next (first + y) 0 + j) 0 ≡ getD (one y) j 0
-    one-at y j r l = go (decLt x y) (decLt y x)
+        → getD (set inc place k) (getD next (from + y) 0 + j) 0 ≡ getD (one y) j 0
+    one-at y j r l = go (ℕ-discrete x y)
       where
-        none : (x ≡ y → ⊥) → ⊥
-        none d = omega (arith, length-replicate (occurs y (x ∷ [])) k, occurs-apart y x d)
+        m : length (one y) ≡ occurs y (x ∷ [])
+        m = length-replicate (occurs y (x ∷ [])) k
 
-        go : Dec (x < y) → Dec (y < x) → getD (set inc place k) (getD next (first + y) 0 + j) 0 ≡ getD (one y) j 0
-        go (yes a) b = absurd (none (omega arith))
-        go (no a) (yes b) = absurd (none (omega arith))
-        go (no a) (no b) =
-            let e : y ≡ x = omega arith in
-            let m : length (one y) ≡ 1 =
-            length-replicate (occurs y (x ∷ [])) k ∙ ap (λ (t : ℕ). occurs t (x ∷ [])) e ∙ occurs-own x in
-            let z : j ≡ 0 = omega arith in
+        go : Dec (x ≡ y) → getD (set inc place k) (getD next (from + y) 0 + j) 0 ≡ getD (one y) j 0
+        go (no d) = absurd (omega (arith, m, occurs-apart y x d))
+        go (yes e) =
+            let z : j ≡ 0 = omega (arith, m, occurs-own x, ap (λ (t : ℕ). occurs t (x ∷ [])) e) in
             let q : place + 0 ≡ place = omega arith in
-            rw (e, z, q, occurs-own x) (getD-set-same inc place k 0 r)
+            rw (← e, z, q, occurs-own x) (getD-set-same inc place k 0 r)
 
-    pub strewn-one : x < n → place < length inc → Strewn first n one next inc (set inc place k)
+    pub strewn-one : x < n → place < length inc → Strewn from n one next inc (set inc place k)
     strewn-one h r = record {
       same-length = length-set inc place k;
       at = λ y j l b. one-at y j r b;
@@ -64,19 +60,19 @@ module _ (first n : ℕ) where
   -- ---- a run after another
 
   module _ (so so′ tot : ℕ → List ℕ) (size g : ℕ → ℕ) (top : ℕ) (next next′ inc inc′ inc″ : List ℕ)
-      (s : Strewn first n so next inc inc′) (r : Raised first n size next next′)
-      (s′ : Strewn first n so′ next′ inc′ inc″)
-      (apart : Apart first n g top next) (es : (x : ℕ) → size x ≡ length (so x))
+      (s : Strewn from n so next inc inc′) (r : Raised from n size next next′)
+      (s′ : Strewn from n so′ next′ inc′ inc″)
+      (apart : Apart from n g top next) (es : (x : ℕ) → size x ≡ length (so x))
       (fit : (x : ℕ) → x < n → length (so x) + length (so′ x) ≤ g x) (et : (x : ℕ) → tot x ≡ so x ++ so′ x) where
-    cursor : (x : ℕ) → x < n → getD next′ (first + x) 0 ≡ getD next (first + x) 0 + length (so x)
+    cursor : (x : ℕ) → x < n → getD next′ (from + x) 0 ≡ getD next (from + x) 0 + length (so x)
     cursor x h = omega (arith, r .at x h, es x)
 
     total : (x : ℕ) → length (tot x) ≡ length (so x) + length (so′ x)
     total x = ap length (et x) ∙ length-append (so x) (so′ x)
 
-    -- what the first run wrote, the second leaves
+    -- what one run wrote, the next leaves
     kept : (x j y i : ℕ) → x < n → y < n → j < length (so x) → i < length (so′ y)
-        → getD next (first + x) 0 + j ≡ getD next′ (first + y) 0 + i → ⊥
+        → getD next (from + x) 0 + j ≡ getD next′ (from + y) 0 + i → ⊥
     kept x j y i hx hy hj hi e = go (decLt x y) (decLt y x)
       where
         go : Dec (x < y) → Dec (y < x) → ⊥
@@ -84,26 +80,26 @@ module _ (first n : ℕ) where
         go (no a) (yes b) = omega (arith, cursor y hy, apart .order y x b hx, fit y hy)
         go (no a) (no b) =
             let q : y ≡ x = omega arith in
-            let c : getD next′ (first + y) 0 ≡ getD next (first + x) 0 + length (so x) = rw q (cursor x hx) in
+            let c : getD next′ (from + y) 0 ≡ getD next (from + x) 0 + length (so x) = rw q (cursor x hx) in
             omega arith
 
     then-at : (x j : ℕ) → x < n → j < length (tot x)
-        → getD inc″ (getD next (first + x) 0 + j) 0 ≡ getD (tot x) j 0
+        → getD inc″ (getD next (from + x) 0 + j) 0 ≡ getD (tot x) j 0
     then-at x j h l = go (decLt j (length (so x)))
       where
-        go : Dec (j < length (so x)) → getD inc″ (getD next (first + x) 0 + j) 0 ≡ getD (tot x) j 0
+        go : Dec (j < length (so x)) → getD inc″ (getD next (from + x) 0 + j) 0 ≡ getD (tot x) j 0
         go (yes a) =
-            s′ .rest (getD next (first + x) 0 + j) (λ y i hy hi e. kept x j y i h hy a hi e) ∙ s .at x j h a
+            s′ .rest (getD next (from + x) 0 + j) (λ y i hy hi e. kept x j y i h hy a hi e) ∙ s .at x j h a
             ∙ sym (ap (λ (t : List ℕ). getD t j 0) (et x) ∙ List·getD-append (so x) (so′ x) 0 j a)
         go (no a) =
-            let e : getD next (first + x) 0 + j ≡ getD next′ (first + x) 0 + (j - length (so x)) =
+            let e : getD next (from + x) 0 + j ≡ getD next′ (from + x) 0 + (j - length (so x)) =
             omega (arith, cursor x h) in
             let f : length (so x) + (j - length (so x)) ≡ j = omega arith in
             ap (λ (p : ℕ). getD inc″ p 0) e ∙ s′ .at x (j - length (so x)) h (omega (arith, total x))
             ∙ sym (ap (λ (t : List ℕ). getD t j 0) (et x)
             ∙ rw f at (getD-append-add (so x) (so′ x) (j - length (so x)) 0))
 
-    pub strewn-then : Strewn first n tot next inc inc″
+    pub strewn-then : Strewn from n tot next inc inc″
     strewn-then = record {
       same-length = s′ .same-length ∙ s .same-length;
       at = then-at;

@@ -1,1 +1,2 @@
 pub mod Sups
+pub mod Filling

@@ -8,33 +8,33 @@ ghost use Prim.Native.Nat.{ℕ, _+_, _*_, _≤_, _<_};
 ghost use lib.ListN.{length, getD, replicate};
 ghost use Rattle.order.specs.Lists.{occurs};
 ghost use Rattle.order.specs.Sums.{sum};
-ghost use Rattle.listing.specs.Listing.{width, before, start, entries, Ends};
+ghost use Rattle.listing.specs.Listing.{width, held, before, start, Ends};
 ghost use Rattle.listing.specs.Layers.{gather};
-ghost use Rattle.product_places.specs.Laid.{Laid};
-ghost use Rattle.product_places.specs.Factors.{factor};
-ghost use Rattle.listing_sups.specs.Sups.{Raised, UpCounts, Strewn, Apart, between, Fillable, Filled};
+ghost use Rattle.listing.specs.Laid.{Laid};
+ghost use Rattle.listing_sups.specs.Sups.{subsAt, UpCounts, Raised, Strewn, Apart, span};
+ghost use Rattle.listing_sups.specs.Sups.{Fillable, SupsFilled};
 
-// Counts one entry x for the element that it names, of n elements that are counted from place `first` on. An entry that
+// Counts one entry x for the element that it names, of n elements that are counted from place `from` on. An entry that
 // names none is passed over.
-fn tally_entry(up: &mut [Index], first: usize, n: usize, x: usize)
-    requires { ⌜ first + n ≤ length (now up) ⌝ }
-    requires { ⌜ (x < n → getD (now up) (first + x) 0 + 1 < width) ⌝ }
-    ensures { λ r. ⌜ Raised first n (λ y. occurs y (x ∷ [])) (now (up .entry)) (now (up .exit)) ⌝ }
+fn tally_entry(up: &mut [Index], from: usize, n: usize, x: usize)
+    requires { ⌜ from + n ≤ length (now up) ⌝ }
+    requires { ⌜ (x < n → getD (now up) (from + x) 0 + 1 < width) ⌝ }
+    ensures { λ r. ⌜ Raised from n (λ y. occurs y (x ∷ [])) (now (up .entry)) (now (up .exit)) ⌝ }
 {
     if x < n {
-        up[first + x] += 1;
+        up[from + x] += 1;
     }
 }
 
 // Counts the entries of one list.
-fn tally_list(up: &mut [Index], first: usize, n: usize, list: &[Index])
-    requires { ⌜ first + n ≤ length (now up) ⌝ }
+fn tally_list(up: &mut [Index], from: usize, n: usize, list: &[Index])
+    requires { ⌜ from + n ≤ length (now up) ⌝ }
     requires { ⌜ ((k : ℕ) → getD (now up) k 0 + length (now list) < width) ⌝ }
-    ensures { λ r. ⌜ Raised first n (λ y. occurs y (now (list .entry))) (now (up .entry)) (now (up .exit)) ⌝ }
+    ensures { λ r. ⌜ Raised from n (λ y. occurs y (now (list .entry))) (now (up .entry)) (now (up .exit)) ⌝ }
 {
     let mut t: usize = 0;
     while t < list.len() {
-        tally_entry(&mut *up, first, n, inner::wide(list[t]));
+        tally_entry(&mut *up, from, n, inner::wide(list[t]));
         t += 1;
     }
 }
@@ -42,128 +42,118 @@ fn tally_list(up: &mut [Index], first: usize, n: usize, list: &[Index])
 // Counts the entries of the subs of m elements, which begin at the place `here` of the lists.
 fn tally_rank(
     up: &mut [Index],
-    first: usize,
+    from: usize,
     n: usize,
     ends: &[Index],
     inc: &[Index],
     here: usize,
     m: usize,
 )
-    requires { ⌜ first + n ≤ length (now up) ⌝ }
+    requires { ⌜ from + n ≤ length (now up) ⌝ }
     requires { ⌜ Ends (now ends) (now inc) ⌝ }
     requires { ⌜ 2 * (here + m) ≤ length (now ends) ⌝ }
     requires { ⌜ ((k : ℕ) → getD (now up) k 0 ≤ start (now ends) (2 * here)) ⌝ }
-    ensures { λ r. ⌜ Raised first n
-        (λ y. sum (λ a. occurs y (entries (now (ends .entry)) (now (inc .entry)) (2 * (here + a) + 0))) m)
+    ensures { λ r. ⌜ Raised from n (λ y. sum (λ a. occurs y (subsAt (now (ends .entry)) (now (inc .entry)) here a)) m)
         (now (up .entry)) (now (up .exit)) ⌝ }
     ensures { λ r. ⌜ ((k : ℕ) → getD (now (up .exit)) k 0 ≤ start (now (ends .entry)) (2 * (here + m))) ⌝ }
 {
     let mut a: usize = 0;
     while a < m {
-        tally_list(
-            &mut *up,
-            first,
-            n,
-            inner::list_of(ends, inc, 2 * (here + a)),
-        );
+        tally_list(&mut *up, from, n, inner::list_of(ends, inc, 2 * (here + a)));
         a += 1;
     }
 }
 
-// Counts for each element in use of a factor how often it is listed one rank higher. The first element in use has the
-// number `base`.
+// Counts for each element of some ranks how many sups are derived for it, which is how often it is listed one rank
+// higher. The first of these elements has the number `base` in the lists. What names no element is passed over.
 pub fn tally(up: &mut [Index], counts: &[Index], ends: &[Index], inc: &[Index], base: usize)
-    requires { ⌜ (0 < length (now counts)) × (base ≤ 1) ⌝ }
     requires { ⌜ Ends (now ends) (now inc) ⌝ }
     requires { ⌜ 2 * (base + before (now counts) (length (now counts))) ≤ length (now ends) ⌝ }
     requires { ⌜ before (now counts) (length (now counts)) ≤ length (now up) ⌝ }
     requires { ⌜ ((k : ℕ) → getD (now up) k 0 ≡ 0) ⌝ }
-    ensures { λ r. ⌜ UpCounts (factor (now (counts .entry)) base (now (ends .entry)) (now (inc .entry)))
-        (now (up .exit)) ⌝ }
+    ensures { λ r. ⌜ UpCounts base (held (counts .entry) (ends .entry) (inc .entry)) (now (up .exit)) ⌝ }
 {
-    let mut first: usize = 0;
+    let mut from: usize = 0;
     let mut rank: usize = 0;
     while rank + 1 < counts.len() {
         let n = inner::wide(counts[rank]);
         let m = inner::wide(counts[rank + 1]);
-        tally_rank(&mut *up, first, n, ends, inc, base + first + n, m);
-        first += n;
+        tally_rank(&mut *up, from, n, ends, inc, base + from + n, m);
+        from += n;
         rank += 1;
     }
 }
 
-// Writes k at the cursor of the element that the entry x names, of n elements whose cursors stand from place `first`
+// Writes k at the cursor of the element that the entry x names, of n elements whose cursors stand from place `from`
 // on. An entry that names none is passed over.
-fn fill_entry(inc: &mut [Index], next: &mut [Index], first: usize, n: usize, x: usize, k: usize)
-    requires { ⌜ (first + n ≤ length (now next)) × (k < width) ⌝ }
-    requires { ⌜ (x < n → getD (now next) (first + x) 0 < length (now inc)) ⌝ }
-    requires { ⌜ (x < n → getD (now next) (first + x) 0 + 1 < width) ⌝ }
-    ensures { λ r. ⌜ Raised first n (λ y. occurs y (x ∷ [])) (now (next .entry)) (now (next .exit)) ⌝ }
-    ensures { λ r. ⌜ Strewn first n (λ y. replicate (occurs y (x ∷ [])) k) (now (next .entry))
+fn fill_entry(inc: &mut [Index], next: &mut [Index], from: usize, n: usize, x: usize, k: usize)
+    requires { ⌜ (from + n ≤ length (now next)) × (k < width) ⌝ }
+    requires { ⌜ (x < n → getD (now next) (from + x) 0 < length (now inc)) ⌝ }
+    requires { ⌜ (x < n → getD (now next) (from + x) 0 + 1 < width) ⌝ }
+    ensures { λ r. ⌜ Raised from n (λ y. occurs y (x ∷ [])) (now (next .entry)) (now (next .exit)) ⌝ }
+    ensures { λ r. ⌜ Strewn from n (λ y. replicate (occurs y (x ∷ [])) k) (now (next .entry))
         (now (inc .entry)) (now (inc .exit)) ⌝ }
 {
     if x < n {
-        let at = inner::wide(next[first + x]);
-        inc[at] = k as u16;
-        next[first + x] = (at + 1) as u16;
+        let cursor = inner::wide(next[from + x]);
+        inc[cursor] = k as Index;
+        next[from + x] = (cursor + 1) as Index;
     }
 }
 
-// Writes k at the cursor of each entry of the list from place `from` up to place `to`.
+// Writes k at the cursor of each entry of the list from place `lo` up to place `hi`.
 fn fill_element(
     inc: &mut [Index],
     next: &mut [Index],
-    first: usize,
-    n: usize,
     from: usize,
-    to: usize,
+    n: usize,
+    lo: usize,
+    hi: usize,
     k: usize,
 )
-    requires { ⌜ (first + n ≤ length (now next)) × (k < width) ⌝ }
-    requires { ⌜ (from ≤ to) × (to ≤ length (now inc)) × (to < width) ⌝ }
-    requires { ⌜ Apart first n (λ x. occurs x (between (now inc) from to)) from (now next) ⌝ }
-    ensures { λ r. ⌜ Raised first n (λ y. occurs y (between (now (inc .entry)) from to))
+    requires { ⌜ (from + n ≤ length (now next)) × (k < width) ⌝ }
+    requires { ⌜ (lo ≤ hi) × (hi ≤ length (now inc)) × (hi < width) ⌝ }
+    requires { ⌜ Apart from n (λ x. occurs x (span (now inc) lo hi)) lo (now next) ⌝ }
+    ensures { λ r. ⌜ Raised from n (λ y. occurs y (span (now (inc .entry)) lo hi))
         (now (next .entry)) (now (next .exit)) ⌝ }
-    ensures { λ r. ⌜ Strewn first n (λ y. replicate (occurs y (between (now (inc .entry)) from to)) k)
+    ensures { λ r. ⌜ Strewn from n (λ y. replicate (occurs y (span (now (inc .entry)) lo hi)) k)
         (now (next .entry)) (now (inc .entry)) (now (inc .exit)) ⌝ }
 {
-    let mut t = from;
-    while t < to {
+    let mut t = lo;
+    while t < hi {
         let x = inner::wide(inc[t]);
-        fill_entry(&mut *inc, &mut *next, first, n, x, k);
+        fill_entry(&mut *inc, &mut *next, from, n, x, k);
         t += 1;
     }
 }
 
-// Fills in the sups of n elements, whose cursors stand from place `first` on, from the subs of the m elements over
+// Fills in the sups of n elements, whose cursors stand from place `from` on, from the subs of the m elements over
 // them, which begin at the place `here` of the lists.
 fn fill_rank(
     ends: &[Index],
     inc: &mut [Index],
     next: &mut [Index],
-    first: usize,
+    from: usize,
     n: usize,
     here: usize,
     m: usize,
 )
-    requires { ⌜ (first + n ≤ length (now next)) × (m < width) ⌝ }
+    requires { ⌜ (from + n ≤ length (now next)) × (m < width) ⌝ }
     requires { ⌜ Ends (now ends) (now inc) ⌝ }
     requires { ⌜ 2 * (here + m) ≤ length (now ends) ⌝ }
-    requires { ⌜ Apart first n (λ x. length (gather (λ k. entries (now ends) (now inc) (2 * (here + k) + 0)) x m))
+    requires { ⌜ Apart from n (λ x. length (gather (subsAt (now ends) (now inc) here) x m))
         (start (now ends) (2 * here)) (now next) ⌝ }
-    ensures { λ r. ⌜ Raised first n
-        (λ y. length (gather (λ k. entries (now (ends .entry)) (now (inc .entry)) (2 * (here + k) + 0)) y m))
+    ensures { λ r. ⌜ Raised from n (λ y. length (gather (subsAt (now (ends .entry)) (now (inc .entry)) here) y m))
         (now (next .entry)) (now (next .exit)) ⌝ }
-    ensures { λ r. ⌜ Strewn first n
-        (λ y. gather (λ k. entries (now (ends .entry)) (now (inc .entry)) (2 * (here + k) + 0)) y m)
+    ensures { λ r. ⌜ Strewn from n (λ y. gather (subsAt (now (ends .entry)) (now (inc .entry)) here) y m)
         (now (next .entry)) (now (inc .entry)) (now (inc .exit)) ⌝ }
 {
     let mut k: usize = 0;
     while k < m {
         let e = 2 * (here + k);
-        let from = inner::start_of(ends, e);
-        let to = inner::wide(ends[e]);
-        fill_element(&mut *inc, &mut *next, first, n, from, to, k);
+        let lo = inner::start_of(ends, e);
+        let hi = inner::wide(ends[e]);
+        fill_element(&mut *inc, &mut *next, from, n, lo, hi, k);
         k += 1;
     }
 }
@@ -182,28 +172,28 @@ fn set_cursors(next: &mut [Index], ends: &[Index], n: usize)
 
 // Fills in the sups of all ranks, with a cursor for each element.
 fn fill_ranks(counts: &[Index], ends: &[Index], inc: &mut [Index], next: &mut [Index])
-    requires { ⌜ Fillable (now counts) (now ends) (now inc) ⌝ }
+    requires { ⌜ Fillable (held counts ends inc) ⌝ }
     requires { ⌜ before (now counts) (length (now counts)) ≤ length (now next) ⌝ }
     requires { ⌜ ((e : ℕ) → e < before (now counts) (length (now counts))
         → getD (now next) e 0 ≡ getD (now ends) (2 * e) 0) ⌝ }
-    ensures { λ r. ⌜ Filled (now (counts .entry)) (now (ends .entry)) (now (inc .entry)) (length (now (counts .entry)))
+    ensures { λ r. ⌜ SupsFilled (held (counts .entry) (ends .entry) (inc .entry)) (length (now (counts .entry)))
         (now (inc .exit)) ⌝ }
 {
-    let mut first: usize = 0;
+    let mut from: usize = 0;
     let mut rank: usize = 0;
     while rank + 1 < counts.len() {
         let n = inner::wide(counts[rank]);
         let m = inner::wide(counts[rank + 1]);
-        fill_rank(ends, &mut *inc, &mut *next, first, n, first + n, m);
-        first += n;
+        fill_rank(ends, &mut *inc, &mut *next, from, n, from + n, m);
+        from += n;
         rank += 1;
     }
 }
 
-// Fills in the sups of all elements, from their subs.
+// Fills in the sups of all elements, from their subs. A sub that names no element is passed over.
 pub fn fill(counts: &[Index], ends: &[Index], inc: &mut [Index])
-    requires { ⌜ Fillable (now counts) (now ends) (now inc) ⌝ }
-    ensures { λ r. ⌜ Filled (now (counts .entry)) (now (ends .entry)) (now (inc .entry)) (length (now (counts .entry)))
+    requires { ⌜ Fillable (held counts ends inc) ⌝ }
+    ensures { λ r. ⌜ SupsFilled (held (counts .entry) (ends .entry) (inc .entry)) (length (now (counts .entry)))
         (now (inc .exit)) ⌝ }
 {
     let mut next: [Index; limit::ELEMENTS] = [0; limit::ELEMENTS];

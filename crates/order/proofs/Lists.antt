@@ -2,12 +2,13 @@
 -- Assumes nothing.
 use mathlib.Core.Path.{_≡_, refl, sym, ap, _∙_, subst}
 use mathlib.Core.Logic.{_≢_, _↔_, _⊎_, inl, inr, ⊎-elim}
-use mathlib.Core.Bool.{Bool, true, false, true≢false}
+use mathlib.Core.Bool.{Bool, true, false, true≢false, cond}
 use mathlib.Core.List.{List, [], _∷_, _++_, map}
-use Prim.Native.Nat.{ℕ, _+_, _≤_, _<_}
+use Prim.Native.Nat.{ℕ, zero, suc, _+_, _≤_, _<_}
 use native.Mathlib.Omega.{arith}
 use borrow.Author.Tests.{eq-eqb, ne-eqb}
 use lib.Dec.{T, eqb, eqb→eq, eqb-refl}
+use lib.ListN.{length, getD}
 use Rattle.order.specs.Lists.{In, has, Ascending, occurs}
 
 pub in-left : (a : ℕ) (s t : List ℕ) → In a s → In a (s ++ t)
@@ -42,6 +43,12 @@ unfolding In
 map-in f y [] h = absurd h
 map-in f y (x ∷ l) (inl e) = (x, inl refl, e)
 map-in f y (x ∷ l) (inr h) = let r = map-in f y l h in (r .0, inr (r .1), r .2)
+
+-- a number at a place of a list stands in it
+pub getD-map : (f : ℕ → ℕ) (l : List ℕ) (j : ℕ) → j < length l → getD (map f l) j 0 ≡ f (getD l j 0)
+getD-map f [] j h = absurd (omega arith)
+getD-map f (x ∷ l) zero h = refl
+getD-map f (x ∷ l) (suc j) h = getD-map f l j (omega arith)
 
 pub ascending-append : (s t : List ℕ) → Ascending s → Ascending t → ((x y : ℕ) → In x s → In y t → x < y)
     → Ascending (s ++ t)
@@ -122,6 +129,19 @@ occurs-none a l = ⊎-elim
     (λ r. (λ e. r .0, λ h. r .2))
     (looked a l)
 
+pub occurs-nil : (a : ℕ) → occurs a [] ≡ 0
+unfolding occurs
+occurs-nil a = refl
+
+pub occurs-le : (a : ℕ) (l : List ℕ) → occurs a l ≤ length l
+unfolding occurs
+occurs-le a [] = omega arith
+occurs-le a (x ∷ l) = go (eqb x a) (occurs-le a l)
+  where
+    go : (b : Bool) → occurs a l ≤ length l → cond b (suc (occurs a l)) (occurs a l) ≤ suc (length l)
+    go true h = omega arith
+    go false h = omega arith
+
 pub occurs-append : (a : ℕ) (s t : List ℕ) → occurs a (s ++ t) ≡ occurs a s + occurs a t
 unfolding occurs
 occurs-append a [] t = omega arith
@@ -131,10 +151,6 @@ occurs-append a (x ∷ s) t = go (tested x a) (occurs-append a s t)
         → occurs a ((x ∷ s) ++ t) ≡ occurs a (x ∷ s) + occurs a t
     go (inl e) ih = rw (e .0) (omega arith)
     go (inr e) ih = rw (e .0) ih
-
-pub occurs-nil : (a : ℕ) → occurs a [] ≡ 0
-unfolding occurs
-occurs-nil a = refl
 
 pub occurs-cons : (a x : ℕ) (l : List ℕ) → occurs a (x ∷ l) ≡ occurs a (x ∷ []) + occurs a l
 occurs-cons a x l = occurs-append a (x ∷ []) l

@@ -5,6 +5,7 @@ use mathlib.Core.Logic.{_⊎_, inl, inr}
 use Prim.Native.Nat.{ℕ, zero, suc, _+_, _-_, _*_, _≤_, _<_}
 use native.Mathlib.Nat.{not-suc-le-zero, eq-or-lt-of-le}
 use native.Mathlib.Decide.{decLt}
+use native.Mathlib.Numerals.{add-one}
 use native.Mathlib.Omega.{arith}
 use Rattle.order.specs.Sums.{choose, sum, partAt, Placed}
 
@@ -17,6 +18,14 @@ pub choose-no {ℓ} : {P : Type 0} {A : Type ℓ} (d : Dec P) (a b : A) → ¬ P
 unfolding choose
 choose-no (yes p) a b h = absurd (h p)
 choose-no (no p) a b h = refl
+
+pub sum-none : (f : ℕ → ℕ) → sum f 0 ≡ 0
+unfolding sum
+sum-none f = refl
+
+pub sum-next : (f : ℕ → ℕ) (n : ℕ) → sum f (n + 1) ≡ sum f n + f n
+unfolding sum
+sum-next f n = rw add-one
 
 pub sum-le : (f : ℕ → ℕ) (i n : ℕ) → i ≤ n → sum f i ≤ sum f n
 unfolding sum

@@ -10,7 +10,7 @@ use Rattle.listing.specs.declared.Built.{Built}
 use Rattle.listing.specs.Answers.{plain, on, _orElse_}
 use Rattle.listing.specs.Refusals.{combOfPoint}
 use Rattle.listing.specs.Listing.{Listing, Limits, limits}
-use Rattle.listing.specs.Output.{roomTest, builtOf}
+use Rattle.listing.specs.Output.{shortTest, builtOf}
 use Rattle.valid.specs.Tests.{isValid}
 use Rattle.product_closure.specs.Result.{combCase, resultOf}
 use Rattle.product_closure.proofs.Valid.{valid-sound}
@@ -24,7 +24,7 @@ use Rattle.product.proofs.Chain.{rest-decides}
 
 module _ {R Q : Listing} (s : SameSizes R Q) where
   sizes-same : (m : Limits) (c e i : ℕ) → sizeTest m R c e i ≡ sizeTest m Q c e i
-  unfolding sizeTest roomTest
+  unfolding sizeTest shortTest
   sizes-same m c e i = rw (s .elements, s .counts, s .ends, s .inc)
 
   built-same : (t : Answer) → builtOf t R ≡ builtOf t Q

@@ -12,10 +12,10 @@ use Rattle.listing.specs.Listing.{Listing, before}
 use Rattle.listing.specs.Cells.{nullitope}
 use Rattle.listing.specs.Output.{builtOf}
 use Rattle.listing.proofs.Output.{built-full}
-use Rattle.product_sizes.specs.declared.sizes.Sizes.{Sizes}
+use Rattle.product_sizes.specs.declared.sizes.Totals.{Totals}
 use Rattle.product_sizes.specs.Sizing.{Measures}
 
-pub built-written : (t : Answer) (R : Listing) → t .no ≡ 0 → (s : Sizes) → Measures R s
+pub built-written : (t : Answer) (R : Listing) → t .no ≡ 0 → (s : Totals) → Measures R s
     → record { answer = t; counts = s .ranks; ends = 2 * s .elements; inc = s .incidences } ≡ builtOf t R
 built-written t R z s m = rw (built-full t R z, m .ranks, m .ends, m .incidences)
 

@@ -5,10 +5,12 @@ use listing::Built;
 use listing::Index;
 use listing::inner;
 use listing::outputs;
+use listing::outputs::Room;
 use listing::refusal;
 use product_building::build;
+use product_places::Kind;
 use product_sizes::sizes;
-use product_sizes::sizes::Sizes;
+use product_sizes::sizes::Totals;
 ghost use mathlib.Core.Path.{_≡_};
 ghost use mathlib.Core.Bool.{false, _||_};
 ghost use Prim.Native.Nat.{_≤_};
@@ -24,7 +26,7 @@ ghost use Rattle.product_sizes.specs.Sizing.{sizeTest, Usable, Measures};
 ghost use Rattle.product.specs.Outcome.{restTest, Outcome};
 
 // What a product of these sizes answers once it is written.
-fn written(answer: Answer, s: Sizes) -> Built
+fn written(answer: Answer, s: Totals) -> Built
     requires { ⌜ (s .ranks ≤ limits .ranks) × (s .elements ≤ limits .elements)
         × (s .incidences ≤ limits .incidences) ⌝ }
     ensures { λ r. ⌜ ((R : Listing) → Measures R s → answer .no ≡ 0 → r ≡ builtOf answer R) ⌝ }
@@ -82,12 +84,17 @@ fn put_nullitope(counts: &mut [Index], ends: &mut [Index], inc: &[Index]) -> Bui
         nullitope (held (counts .entry) (ends .entry) (inc .entry))
         (held (counts .exit) (ends .exit) (inc .entry)) r ⌝ }
 {
-    let s = Sizes {
+    let s = Totals {
         ranks: 1,
         elements: 1,
         incidences: 0,
     };
-    let t = sizes::check_sizes(s, counts.len(), ends.len(), inc.len());
+    let room = Room {
+        counts: counts.len(),
+        ends: ends.len(),
+        inc: inc.len(),
+    };
+    let t = sizes::check_sizes(s, room);
     if t.no != 0 {
         return outputs::refused(t);
     }
@@ -122,18 +129,23 @@ fn product(
         (held (qcounts .entry) (qends .entry) (qinc .entry)))
         (held (counts .entry) (ends .entry) (inc .entry)) (held (counts .exit) (ends .exit) (inc .exit)) r ⌝ }
 {
-    let u = sizes::count_used(min, max, pcounts, pends, pinc);
-    let v = sizes::count_used(min, max, qcounts, qends, qinc);
-    let s = sizes::product_sizes(min, max, u, v);
-    let t = sizes::check_sizes(s, counts.len(), ends.len(), inc.len());
+    let kind = Kind { min, max };
+    let u = sizes::count_used(kind, pcounts, pends, pinc);
+    let v = sizes::count_used(kind, qcounts, qends, qinc);
+    let s = sizes::product_sizes(kind, u, v);
+    let room = Room {
+        counts: counts.len(),
+        ends: ends.len(),
+        inc: inc.len(),
+    };
+    let t = sizes::check_sizes(s, room);
     if t.no != 0 {
         return outputs::refused(t);
     }
-    let p = sizes::range(min, max, pcounts);
-    let q = sizes::range(min, max, qcounts);
+    let p = sizes::range(kind, pcounts);
+    let q = sizes::range(kind, qcounts);
     build::build(
-        min,
-        max,
+        kind,
         p,
         pends,
         pinc,

@@ -1,148 +1,126 @@
--- The product as the builder leaves it: its parts by the plan, up-counts that are right, and lists behind one another.
+-- The product as the builder leaves it: its counts, and with all elements laid, its ends and its incidences.
 -- Assumes nothing.
-use mathlib.Core.Path.{_≡_, refl, sym, ap, _∙_}
-use mathlib.Core.Bool.{Bool}
+use mathlib.Core.Path.{_≡_, refl, sym, _∙_}
 use mathlib.Core.List.{List}
-use Prim.Native.Nat.{ℕ, zero, suc, _+_, _*_, _≤_, _<_}
+use Prim.Native.Nat.{ℕ, zero, suc, _*_, _≤_, _<_}
 use native.Mathlib.Omega.{arith}
 use lib.ListN.{length, getD, take, replicate}
+use Rattle.order.specs.Sums.{sum}
+use Rattle.listing.specs.Listing.{width, Listing, listing}
+use Rattle.listing.specs.Layers.{Layers, Topped, derived}
+use Rattle.listing.specs.Laid.{LaidList}
+use Rattle.listing.specs.Written.{nth}
+use Rattle.listing_sups.specs.Sups.{UpCounts, Fillable, SupsFilled}
 use Rattle.order.specs.Lists.{over}
-use Rattle.order.specs.Sums.{sum, partAt}
-use Rattle.order.proofs.Over.{over-first}
-use Rattle.order.proofs.Sums.{sum-same, part-at}
-use Rattle.listing.specs.Listing.{Listing, before}
-use Rattle.listing.specs.Layers.{Layers, derived}
-use Rattle.listing.specs.Written.{joined, tabulated, lengths, written}
-use Rattle.listing.proofs.Written.{tabulated-length, tabulated-at}
-use Rattle.product_places.specs.Laid.{Holds}
-use Rattle.product_places.specs.Factors.{Factor}
-use Rattle.product_writing.specs.Filling.{Row}
-use Rattle.product_writing.specs.Pairs.{target, listsOf, sizeOf, Plan}
-use Rattle.listing_sups.specs.Sups.{upCount, UpCounts, Fillable, Filled}
-use Rattle.product_building.specs.Built.{countsOf, Derives}
-use Rattle.product_places.proofs.Numbers.{some-rank, before-lt, bit-le}
-use Rattle.product_writing.proofs.Target.{target-size}
-use Rattle.product_building.proofs.CountsLaid.{target-counts, counts-length}
-use Rattle.product_building.proofs.Whole.{holds-over, whole-fillable, whole-inc, whole-ends}
+use Rattle.listing_sups.specs.Filling.{starts, ElementsLaid}
+use Rattle.listing_sups.proofs.Over.{list-over, take-over}
+use Rattle.listing_sups.proofs.Whole.{whole-fillable, whole-ends, whole-inc}
+use Rattle.product_places.specs.declared.Kind.{Kind}
+use Rattle.product_places.proofs.Numbers.{bit-le}
+use Rattle.product_writing.specs.Pairs.{target, listsOf, productLists, sizeOf, Plan}
+use Rattle.product_writing.proofs.Target.{target-size, target-topped}
+use Rattle.product_building.specs.Built.{countsOf, productListing}
+use Rattle.product_building.proofs.CountsLaid.{counts-length, target-counts}
 
 pub zeros : (n k : ℕ) → _≡_ {A = ℕ} (getD (replicate n 0) k 0) 0
 zeros zero k = refl
 zeros (suc n) zero = refl
 zeros (suc n) (suc k) = zeros n k
 
--- what was written over the beginning stands there
-take-holds : (s d d′ : List ℕ) → length s ≤ length d → Holds 0 s d d′ → take (length s) d′ ≡ s
-take-holds s d d′ h l = rw (holds-over s d d′ h l) (over-first s d _ refl)
+-- counts of sups, by another number for where the elements begin
+pub counted-from : {b b′ : ℕ} (L : Listing) (up : List ℕ) → b ≡ b′ → UpCounts b L up → UpCounts b′ L up
+counted-from L up e u = rw e at u
 
-before-table : (f : ℕ → ℕ) (n : ℕ) → before (tabulated f n) (length (tabulated f n)) ≡ sum f n
-unfolding before
-before-table f n = rw (tabulated-length f n) (sum-same _ f n (λ k h. tabulated-at f n k h))
+-- the plan, and room for the counts
+pub record Buildable (kind : Kind) (P Q : Listing) (counts₀ ends₀ inc₀ : List ℕ) : Type 0 where
+  pub plan : Plan (kind .min) (kind .max) P Q (length ends₀) (length inc₀)
+  pub room : length (productListing kind P Q .counts) ≤ length counts₀
 
--- ---- up-counts
+module _ {kind : Kind} {P Q : Listing} {counts₀ ends₀ inc₀ : List ℕ} (r : Buildable kind P Q counts₀ ends₀ inc₀) where
+  abbrev W : Listing
+  W = productListing kind P Q
 
-module _ (P : Factor) where
-  abbrev upAt : ℕ × ℕ → ℕ
-  upAt o = upCount P (o .0) (o .1)
-
-  abbrev c : List ℕ
-  c = P .counts
-
-  -- a list of up-counts that are right
-  pub ups : List ℕ
-  ups = tabulated (λ n. upAt (partAt (λ k. getD c k 0) (length c) n)) (before c (length c))
-
-  pub ups-right : UpCounts P ups
-  unfolding UpCounts before ups
-  ups-right i x h =
-      tabulated-at _ (before c (length c)) (before c i + x) (before-lt c i x h)
-      ∙ ap upAt (part-at (λ k. getD c k 0) (length c) i x (some-rank c i x h) h)
-
--- ---- the product
-
-module _ (P Q : Factor) (hp : 0 < length (P .counts)) (hq : 0 < length (Q .counts)) (min max : Bool) where
   abbrev T : Layers
-  T = target min max P Q
+  T = target (kind .min) (kind .max) P Q
 
   abbrev N : ℕ
-  N = sizeOf min max (P .counts) (Q .counts)
+  N = sum (T .size) (suc (T .top))
 
-  built-elements : before (written T (derived T) .counts) (length (written T (derived T) .counts)) ≡ N
-  unfolding written
-  built-elements = before-table (T .size) (suc (T .top)) ∙ target-size P Q hp hq min max
+  topped : Topped T
+  topped = target-topped (kind .min) (kind .max) P Q
 
-  built-ends : written T (derived T) .ends ≡ tabulated (λ t. sum (lengths (listsOf min max P Q)) (suc t)) (2 * N)
-  unfolding written listsOf
-  built-ends =
-      ap (λ (n : ℕ). tabulated (λ t. sum (lengths (listsOf min max P Q)) (suc t)) (2 * n))
-      (target-size P Q hp hq min max)
+  size : N ≡ sizeOf (kind .min) (kind .max) (P .counts) (Q .counts)
+  size = target-size P Q (r .plan .ranks-P .0) (r .plan .ranks-Q .0) (kind .min) (kind .max)
 
-  built-inc : written T (derived T) .inc ≡ joined (listsOf min max P Q) (2 * N)
-  unfolding written listsOf
-  built-inc = ap (λ (n : ℕ). joined (listsOf min max P Q) (2 * n)) (target-size P Q hp hq min max)
+  counts-are : W .counts ≡ countsOf (kind .min) (kind .max) (P .counts) (Q .counts)
+  counts-are = target-counts P Q (r .plan .ranks-P .0) (r .plan .ranks-Q .0) (kind .min) (kind .max)
 
--- ---- what the builder writes
+  pub counts-room : length (countsOf (kind .min) (kind .max) (P .counts) (Q .counts)) ≤ length counts₀
+  counts-room = rw (← counts-are) (r .room)
 
-module _ (min max : Bool) (P Q : Factor) (upP upQ counts₀ ends₀ inc₀ : List ℕ)
-    (plan : Plan min max P Q upP upQ (length ends₀) (length inc₀))
-    (derives : Derives (written (target min max P Q) (derived (target min max P Q)) .counts) (listsOf min max P Q))
-    (room : length (written (target min max P Q) (derived (target min max P Q)) .counts) ≤ length counts₀) where
-  abbrev W : Listing
-  W = written (target min max P Q) (derived (target min max P Q))
-
-  abbrev size : ℕ
-  size = sizeOf min max (P .counts) (Q .counts)
-
-  abbrev lists : ℕ → List ℕ
-  lists = listsOf min max P Q
-
-  counts-are : W .counts ≡ countsOf min max (P .counts) (Q .counts)
-  counts-are = target-counts P Q (plan .ranks-P .0) (plan .ranks-Q .0) min max
-
-  pub counts-room : length (countsOf min max (P .counts) (Q .counts)) ≤ length counts₀
-  counts-room = rw (← counts-are) room
-
-  few-ranks : (0 < length (W .counts)) × (length (W .counts) ≤ 64)
-  few-ranks =
-      let p = plan .ranks-P in
-      let q = plan .ranks-Q in
-      omega (
+  few-counts : length (W .counts) < width
+  few-counts =
+      let p = r .plan in
+      rw counts-are (omega (
         arith,
-        ap length counts-are,
-        counts-length min max (P .counts) (Q .counts),
-        bit-le min,
-        bit-le max,
-      )
+        counts-length (kind .min) (kind .max) (P .counts) (Q .counts),
+        bit-le (kind .min),
+        bit-le (kind .max),
+        p .ranks-P .1,
+        p .ranks-Q .1,
+      ))
 
-  module _ (k n : ℕ) (counts₁ ends₁ inc₁ : List ℕ) (ek : k ≡ length (countsOf min max (P .counts) (Q .counts)))
-      (hc : Holds 0 (countsOf min max (P .counts) (Q .counts)) counts₀ counts₁) (en : n ≡ size)
-      (row : Row lists size ends₀ inc₀ ends₁ inc₁) where
-    -- the counts that were written
-    part-is : take k counts₁ ≡ W .counts
-    part-is = rw ek (take-holds _ counts₀ counts₁ counts-room hc ∙ sym counts-are)
+  -- there is room, by the layers
+  room-ends : 2 * N ≤ length ends₀
+  room-ends = omega (arith, size, r .plan .room-for-ends)
 
-    elements : before (W .counts) (length (W .counts)) ≡ size
-    elements = built-elements P Q (plan .ranks-P .0) (plan .ranks-Q .0) min max
+  room-inc : starts (nth T (derived T)) (2 * N) ≤ length inc₀
+  unfolding listsOf
+  room-inc = rw size (r .plan .room-for-inc)
 
-    -- what is asked of the code that fills in the sups
-    pub fill-asked : Fillable (take k counts₁) (take (2 * n) ends₁) inc₁
-    fill-asked =
-        rw (part-is, en)
-        (whole-fillable lists (W .counts) size ends₀ inc₀ ends₁ inc₁ row (plan .room-for-ends) (plan .room-for-inc)
-        elements derives few-ranks (plan .elements))
+-- what is written before the sups are filled in: k counts, and n elements
+pub record BeforeFill (kind : Kind) (P Q : Listing) (counts₀ ends₀ inc₀ counts₁ ends₁ inc₁ : List ℕ) (k n : ℕ) : Type 0 where
+  pub ready : Buildable kind P Q counts₀ ends₀ inc₀
+  pub k-is : k ≡ length (countsOf (kind .min) (kind .max) (P .counts) (Q .counts))
+  pub counts : LaidList 0 (countsOf (kind .min) (kind .max) (P .counts) (Q .counts)) counts₀ counts₁
+  pub n-is : n ≡ sizeOf (kind .min) (kind .max) (P .counts) (Q .counts)
+  pub elements : ElementsLaid (productLists kind P Q) (sizeOf (kind .min) (kind .max) (P .counts) (Q .counts)) ends₀ inc₀
+      ends₁ inc₁
 
-    -- and what that leaves
-    pub built-all : (inc₂ : List ℕ) → Filled (take k counts₁) (take (2 * n) ends₁) inc₁ (length (take k counts₁)) inc₂
-        → (counts₁ ≡ over (W .counts) counts₀) × ((ends₁ ≡ over (W .ends) ends₀) × (inc₂ ≡ over (W .inc) inc₀))
-    built-all inc₂ f =
-        let hp = plan .ranks-P .0 in
-        let hq = plan .ranks-Q .0 in (
-          rw counts-are (holds-over (countsOf min max (P .counts) (Q .counts)) counts₀ counts₁ counts-room hc),
-          (
-            rw (built-ends P Q hp hq min max)
-                (whole-ends lists (W .counts) size ends₀ inc₀ ends₁ inc₁ row (plan .room-for-ends) (plan .room-for-inc)
-                elements derives),
-            rw (built-inc P Q hp hq min max)
-                (whole-inc lists (W .counts) size ends₀ inc₀ ends₁ inc₁ row (plan .room-for-ends) (plan .room-for-inc)
-                elements derives inc₂ (rw (part-is, en) at f)),
-          ),
-        )
+module _ {kind : Kind} {P Q : Listing} {counts₀ ends₀ inc₀ counts₁ ends₁ inc₁ : List ℕ} {k n : ℕ}
+    (l : BeforeFill kind P Q counts₀ ends₀ inc₀ counts₁ ends₁ inc₁ k n) where
+  abbrev r : Buildable kind P Q counts₀ ends₀ inc₀
+  r = l .ready
+
+  part-is : take k counts₁ ≡ W r .counts
+  part-is =
+      rw (l .k-is) (take-over _ counts₀ counts₁ (counts-room r) (l .counts) ∙ sym (counts-are r))
+
+  number-is : n ≡ N r
+  number-is = l .n-is ∙ sym (size r)
+
+  laid-T : ElementsLaid (nth (T r) (derived (T r))) (N r) ends₀ inc₀ ends₁ inc₁
+  unfolding listsOf
+  laid-T = rw (size r) (l .elements)
+
+  -- what is asked of the code that fills in the sups
+  pub fill-asked : Fillable (listing (take k counts₁) (take (2 * n) ends₁) inc₁)
+  fill-asked =
+      rw (part-is, number-is)
+      (whole-fillable (T r) (topped r) ends₀ inc₀ ends₁ inc₁ laid-T (room-ends r) (room-inc r)
+      (omega (arith, size r, r .plan .elements)) (few-counts r))
+
+  -- and what that leaves
+  pub built-all : (inc₂ : List ℕ)
+      → SupsFilled (listing (take k counts₁) (take (2 * n) ends₁) inc₁) (length (take k counts₁)) inc₂
+      → (counts₁ ≡ over (W r .counts) counts₀) × ((ends₁ ≡ over (W r .ends) ends₀) × (inc₂ ≡ over (W r .inc) inc₀))
+  built-all inc₂ f = (
+    rw (counts-are r)
+        (list-over (countsOf (kind .min) (kind .max) (P .counts) (Q .counts)) counts₀ counts₁ (counts-room r)
+        (l .counts)),
+    (
+      whole-ends (T r) (topped r) ends₀ inc₀ ends₁ inc₁ laid-T (room-ends r) (room-inc r),
+      whole-inc (T r) (topped r) ends₀ inc₀ ends₁ inc₁ laid-T (room-ends r) (room-inc r) inc₂
+          (rw (part-is, number-is) at f),
+    ),
+  )

@@ -1,3 +1,2 @@
 pub mod CountsLaid
-pub mod Whole
 pub mod Built

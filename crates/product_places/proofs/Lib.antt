@@ -1,3 +1,2 @@
-pub mod Laying
-pub mod Parts
 pub mod Numbers
+pub mod Parts

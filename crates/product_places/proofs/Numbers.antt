@@ -1,32 +1,21 @@
--- The numbers of pairs: how those of a row, a block and a rank follow one another, and that all are below the size.
+-- The numbers of pairs: how those of an element, a block and a rank follow one another, and that all are below the size.
 -- Assumes nothing.
 use mathlib.Core.Path.{_≡_, refl, ap}
 use mathlib.Core.Bool.{Bool, true, false}
-use mathlib.Core.List.{List, []}
+use mathlib.Core.List.{List}
 use Prim.Native.Nat.{ℕ, suc, _+_, _-_, _*_, _≤_, _<_}
 use native.Mathlib.Nat.{mul-le-mul, mul-le-mul-right}
 use native.Mathlib.Omega.{arith}
 use lib.ListN.{length, getD}
-use Rattle.order.specs.Sums.{sum}
-use Rattle.order.proofs.Sums.{sum-le, sum-lt}
-use Rattle.listing.specs.Listing.{width, listing, before}
-use Rattle.listing.proofs.Listing.{before-next, before-all, rank-there}
+use Rattle.order.proofs.Sums.{sum-none, sum-next, sum-le, sum-lt}
+use Rattle.listing.specs.Listing.{width}
+use Rattle.listing.proofs.Listing.{some-rank}
 use Rattle.product_pairs.specs.Trimmed.{bit}
-use Rattle.product_places.specs.Places.{pairsIn, offsetIn, pairsTo, firstAt, number}
+use Rattle.product_places.specs.Places.{pairsIn, offsetIn, pairsTo, firstAt, pairNumber}
 
 pub bit-le : (b : Bool) → bit b ≤ 1
 bit-le true = omega arith
 bit-le false = omega arith
-
-pub sum-next : (f : ℕ → ℕ) (n : ℕ) → sum f (n + 1) ≡ sum f n + f n
-unfolding sum
-sum-next f n =
-    let e : n + 1 ≡ suc n = omega arith in
-    rw e
-
-pub sum-none : (f : ℕ → ℕ) → sum f 0 ≡ 0
-unfolding sum
-sum-none f = refl
 
 pub product-le : (x y : ℕ) → x < width → y < width → x * y ≤ width * width
 product-le x y h k =
@@ -34,18 +23,9 @@ product-le x y h k =
     let b : y ≤ width = omega arith in
     mul-le-mul a b
 
--- ---- elements that are there
-
-pub some-rank : (counts : List ℕ) (r x : ℕ) → x < getD counts r 0 → r < length counts
-some-rank counts r x h = rank-there (listing counts [] []) r x h
-
-pub before-lt : (counts : List ℕ) (r x : ℕ) → x < getD counts r 0
-    → before counts r + x < before counts (length counts)
-before-lt counts r x h = omega (arith, before-next counts r, before-all counts (r + 1))
-
 -- ---- the numbers of pairs
 
--- a row of a block, and a place in it
+-- an element of one rank, and of another: the place of the pair
 product-lt : (a b m n : ℕ) → a < m → b < n → a * n + b < m * n
 product-lt a b m n h k = omega (arith, mul-le-mul-right n h)
 
@@ -65,24 +45,24 @@ unfolding pairsTo
 pairs-le p q R n h = sum-le (λ r. pairsIn p q r (suc r)) R n h
 
 module _ (min : Bool) (p q : List ℕ) where
-  pub number-at : (i a j b : ℕ) → number min p q i a j b ≡ firstAt min p q (i + j) i + a * getD q j 0 + b
-  unfolding number offsetIn
+  pub number-at : (i a j b : ℕ) → pairNumber min p q i a j b ≡ firstAt min p q (i + j) i + a * getD q j 0 + b
+  unfolding pairNumber offsetIn
   number-at i a j b = refl
 
-  pub number-more : (i a j b : ℕ) → number min p q i a j (b + 1) ≡ number min p q i a j b + 1
-  unfolding number
+  pub number-more : (i a j b : ℕ) → pairNumber min p q i a j (b + 1) ≡ pairNumber min p q i a j b + 1
+  unfolding pairNumber
   number-more i a j b = omega arith
 
-  -- behind a row stands the next
-  pub number-row : (i a j : ℕ) → number min p q i a j (getD q j 0) ≡ number min p q i (a + 1) j 0
-  unfolding number
-  number-row i a j = omega arith
+  -- behind all pairs of an element stand those of the next
+  pub number-next : (i a j : ℕ) → pairNumber min p q i a j (getD q j 0) ≡ pairNumber min p q i (a + 1) j 0
+  unfolding pairNumber
+  number-next i a j = omega arith
 
-  -- a block begins with its first row, and behind its last row stands the next block
-  pub number-first : (i j : ℕ) → number min p q i 0 j 0 ≡ firstAt min p q (i + j) i
+  -- a block begins with the pairs of its first element, and behind those of its last stands the next block
+  pub number-first : (i j : ℕ) → pairNumber min p q i 0 j 0 ≡ firstAt min p q (i + j) i
   number-first i j = omega (arith, number-at i 0 j 0)
 
-  pub number-last : (i j : ℕ) → number min p q i (getD p i 0) j 0 ≡ firstAt min p q (i + j) (i + 1)
+  pub number-last : (i j : ℕ) → pairNumber min p q i (getD p i 0) j 0 ≡ firstAt min p q (i + j) (i + 1)
   number-last i j =
       let e : i + j - i ≡ j = omega arith in
       let s = sum-next (λ k. getD p k 0 * getD q (i + j - k) 0) i in
@@ -105,7 +85,7 @@ module _ (min : Bool) (p q : List ℕ) where
       omega (arith, pairs-next p q R, pairs-le p q (R + 1) n (omega arith))
 
   pub number-lt : (i a j b : ℕ) → a < getD p i 0 → b < getD q j 0
-      → number min p q i a j b < bit min + pairsTo p q (length p + length q - 1)
+      → pairNumber min p q i a j b < bit min + pairsTo p q (length p + length q - 1)
   unfolding pairsTo
   number-lt i a j b ha hb =
       let e : i + j - i ≡ j = omega arith in

@@ -7,18 +7,14 @@ use Prim.Native.Nat.{ℕ, zero, suc, _+_, _*_, _<_}
 use native.Mathlib.Omega.{arith}
 use lib.ListN.{length, getD, length-append, length-map}
 use Rattle.order.specs.Lists.{In}
-use Rattle.order.proofs.Lists.{in-left, in-right, in-map}
+use Rattle.order.proofs.Lists.{in-left, in-right, in-map, getD-map}
 use Rattle.order.proofs.Positions.{in-at}
 use Rattle.listing.specs.Listing.{width}
 use Rattle.product_pairs.specs.Trimmed.{bit}
-use Rattle.product_places.specs.Laid.{Laid, Holds}
+use Rattle.listing.specs.Laid.{Laid, LaidList}
+use Rattle.product_places.specs.declared.put.Shift.{Shift}
 use Rattle.product_places.specs.Places.{subsOf}
-use Rattle.product_places.proofs.Laying.{laid-holds, holds-then}
-
-getD-map : (f : ℕ → ℕ) (l : List ℕ) (j : ℕ) → j < length l → getD (map f l) j 0 ≡ f (getD l j 0)
-getD-map f [] j h = absurd (omega arith)
-getD-map f (x ∷ l) zero h = refl
-getD-map f (x ∷ l) (suc j) h = getD-map f l j (omega arith)
+use Rattle.listing.proofs.Laying.{laid-list, list-then}
 
 -- a number where it is asked for
 abbrev pub when : Bool → ℕ → List ℕ
@@ -33,52 +29,52 @@ when-at true x zero h = refl
 when-at true x (suc j) h = absurd (omega arith)
 when-at false x j h = absurd (omega arith)
 
-pub when-laid : (b : Bool) (x at : ℕ) (d d′ : List ℕ) → Laid at (λ j. x) (bit b) d d′ → Holds at (when b x) d d′
-when-laid b x at d d′ l = laid-holds at d d′ (when b x) _ (bit b) (when-length b x) (when-at b x) l
+pub when-laid : (b : Bool) (x at : ℕ) (d d′ : List ℕ) → Laid at (λ j. x) (bit b) d d′ → LaidList at (when b x) d d′
+when-laid b x at d d′ l = laid-list at d d′ (when b x) _ (bit b) (when-length b x) (when-at b x) l
 
-module _ (low : Bool) (left : List ℕ) (loff scale : ℕ) (right : List ℕ) (roff : ℕ) where
+module _ (s : Shift) (left right : List ℕ) where
   abbrev F : ℕ → ℕ
-  F x = loff + x * scale
+  F x = s .left + x * s .scale
 
   abbrev G : ℕ → ℕ
-  G y = roff + y * 1
+  G y = s .right + y * 1
 
-  pub subs-length : length (subsOf low left loff scale right roff) ≡ bit low + length left + length right
+  pub subs-length : length (subsOf s left right) ≡ bit (s .low) + length left + length right
   unfolding subsOf
   subs-length =
       omega (
         arith,
-        length-append (when low 0) (map F left ++ map G right),
+        length-append (when (s .low) 0) (map F left ++ map G right),
         length-append (map F left) (map G right),
-        when-length low 0,
+        when-length (s .low) 0,
         length-map left F,
         length-map right G,
       )
 
   -- all numbers are small: so are those of each part
-  module _ (small : (x : ℕ) → In x (subsOf low left loff scale right roff) → x < width) where
-    pub left-small : (j : ℕ) → j < length left → loff + getD left j 0 * scale < width
+  module _ (small : (x : ℕ) → In x (subsOf s left right) → x < width) where
+    pub left-small : (j : ℕ) → j < length left → s .left + getD left j 0 * s .scale < width
     unfolding subsOf
     left-small j h =
-        small _ (in-right _ (when low 0) _ (in-left _ (map F left) (map G right) (in-map F _ left (in-at left j h))))
+        small _ (in-right _ (when (s .low) 0) _ (in-left _ (map F left) (map G right) (in-map F _ left (in-at left j h))))
 
-    pub right-small : (j : ℕ) → j < length right → roff + getD right j 0 * 1 < width
+    pub right-small : (j : ℕ) → j < length right → s .right + getD right j 0 * 1 < width
     unfolding subsOf
     right-small j h =
-        small _ (in-right _ (when low 0) _ (in-right _ (map F left) (map G right) (in-map G _ right (in-at right j h))))
+        small _ (in-right _ (when (s .low) 0) _ (in-right _ (map F left) (map G right) (in-map G _ right (in-at right j h))))
 
   -- the three parts, one behind another
-  pub subs-laid : (at a b : ℕ) (d d₁ d₂ d₃ : List ℕ) → a ≡ at + bit low → b ≡ a + length left
-      → Laid at (λ j. 0) (bit low) d d₁ → Laid a (λ j. F (getD left j 0)) (length left) d₁ d₂
+  pub subs-laid : (at a b : ℕ) (d d₁ d₂ d₃ : List ℕ) → a ≡ at + bit (s .low) → b ≡ a + length left
+      → Laid at (λ j. 0) (bit (s .low)) d d₁ → Laid a (λ j. F (getD left j 0)) (length left) d₁ d₂
       → Laid b (λ j. G (getD right j 0)) (length right) d₂ d₃
-      → Holds at (subsOf low left loff scale right roff) d d₃
+      → LaidList at (subsOf s left right) d d₃
   unfolding subsOf
   subs-laid at a b d d₁ d₂ d₃ p q l₁ l₂ l₃ =
-      let a′ : a ≡ at + length (when low 0) = omega (arith, when-length low 0) in
+      let a′ : a ≡ at + length (when (s .low) 0) = omega (arith, when-length (s .low) 0) in
       let b′ : b ≡ a + length (map F left) = omega (arith, length-map left F) in
-      let k₂ : Holds a (map F left) d₁ d₂ =
-      laid-holds a d₁ d₂ (map F left) _ _ (length-map left F) (λ j h. sym (getD-map F left j h)) l₂ in
-      let k₃ : Holds b (map G right) d₂ d₃ =
-      laid-holds b d₂ d₃ (map G right) _ _ (length-map right G) (λ j h. sym (getD-map G right j h)) l₃ in
-      holds-then at d d₁ (when low 0) (map F left ++ map G right) d₃ (when-laid low 0 at d d₁ l₁)
-      (rw a′ at (holds-then a d₁ d₂ (map F left) (map G right) d₃ k₂ (rw b′ at k₃)))
+      let k₂ : LaidList a (map F left) d₁ d₂ =
+      laid-list a d₁ d₂ (map F left) _ _ (length-map left F) (λ j h. sym (getD-map F left j h)) l₂ in
+      let k₃ : LaidList b (map G right) d₂ d₃ =
+      laid-list b d₂ d₃ (map G right) _ _ (length-map right G) (λ j h. sym (getD-map G right j h)) l₃ in
+      list-then at d d₁ (when (s .low) 0) (map F left ++ map G right) d₃ (when-laid (s .low) 0 at d d₁ l₁)
+      (rw a′ at (list-then a d₁ d₂ (map F left) (map G right) d₃ k₂ (rw b′ at k₃)))

@@ -1,4 +1,2 @@
-pub mod Laid
-pub mod Factors
 pub mod Places
 pub mod Blocks

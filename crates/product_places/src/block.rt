@@ -1,4 +1,5 @@
 // Where pairs stand: how many come before them, and what all pairs of two ranks have in common.
+use crate::Kind;
 use listing::Index;
 use listing::inner;
 ghost use mathlib.Core.Path.{_≡_};
@@ -6,17 +7,20 @@ ghost use mathlib.Core.Bool.{cond, _&&_};
 ghost use Prim.Native.Nat.{pred, _+_, _*_, _≤_, _<_};
 ghost use lib.Dec.{eqb};
 ghost use lib.ListN.{length};
-ghost use Rattle.listing.specs.Listing.{width};
+ghost use Rattle.listing.specs.Listing.{width, limits};
 ghost use Rattle.product_pairs.specs.Trimmed.{bit};
 ghost use Rattle.product_places.specs.Places.{pairsIn, offsetIn, pairsTo};
 ghost use Rattle.product_places.specs.Blocks.{BlockOf};
 
-// The pairs of the elements of two ranks, i of the first factor and j of the second.
+// The pairs of the elements of two ranks.
 pub struct Block {
+    // the ranks: of the first factor, and of the second
+    pub i: usize,
+    pub j: usize,
     // the number of each factor's first element in use
     pub base: usize,
     // the number of the first pair
-    pub first: usize,
+    pub from: usize,
     // whether the added minimal element lies under the pairs, and it alone
     pub low: bool,
     // how many added elements lie over each pair
@@ -28,8 +32,8 @@ pub struct Block {
     pub left: usize,
     pub right: usize,
     // the elements of the ranks j and j - 1
-    pub width: usize,
-    pub step: usize,
+    pub qcount: usize,
+    pub qbelow: usize,
 }
 
 // A flag as a number.
@@ -51,7 +55,7 @@ pub fn less(i: usize) -> usize
 
 // The number of pairs of a rank with a first member of a rank below i.
 pub fn pairs_in(p: &[Index], q: &[Index], rank: usize, i: usize) -> usize
-    requires { ⌜ (i ≤ rank + 1) × (rank ≤ 64) ⌝ }
+    requires { ⌜ (i ≤ rank + 1) × (rank ≤ 2 * limits .ranks) ⌝ }
     ensures { λ r. ⌜ r ≡ pairsIn (now (p .entry)) (now (q .entry)) rank i ⌝ }
 {
     let mut n: usize = 0;
@@ -65,7 +69,7 @@ pub fn pairs_in(p: &[Index], q: &[Index], rank: usize, i: usize) -> usize
 
 // The number of pairs of all ranks below a rank.
 pub fn pairs_to(p: &[Index], q: &[Index], rank: usize) -> usize
-    requires { ⌜ (rank ≤ 64) × (pairsTo (now p) (now q) rank ≤ width) ⌝ }
+    requires { ⌜ (rank ≤ 2 * limits .ranks) × (pairsTo (now p) (now q) rank ≤ width) ⌝ }
     ensures { λ r. ⌜ r ≡ pairsTo (now (p .entry)) (now (q .entry)) rank ⌝ }
 {
     let mut n: usize = 0;
@@ -79,7 +83,7 @@ pub fn pairs_to(p: &[Index], q: &[Index], rank: usize) -> usize
 
 // The number of pairs of the same rank that come before those of the ranks i and j.
 pub fn offset(p: &[Index], q: &[Index], i: usize, j: usize) -> usize
-    requires { ⌜ i + j ≤ 64 ⌝ }
+    requires { ⌜ i + j ≤ 2 * limits .ranks ⌝ }
     ensures { λ r. ⌜ r ≡ offsetIn (now (p .entry)) (now (q .entry)) i j ⌝ }
 {
     pairs_in(p, q, i + j, i)
@@ -87,7 +91,7 @@ pub fn offset(p: &[Index], q: &[Index], i: usize, j: usize) -> usize
 
 // Whether the added minimal element lies under the pairs of the ranks i and j.
 fn is_low(min: bool, i: usize, j: usize) -> bool
-    requires { ⌜ i + j ≤ 64 ⌝ }
+    requires { ⌜ i + j ≤ 2 * limits .ranks ⌝ }
     ensures { λ r. ⌜ r ≡ (min && eqb (i + j) 0) ⌝ }
 {
     if min {
@@ -98,7 +102,7 @@ fn is_low(min: bool, i: usize, j: usize) -> bool
 
 // How many added maximal elements lie over the pairs of the ranks i and j.
 fn cap_of(max: bool, p: &[Index], q: &[Index], i: usize, j: usize) -> usize
-    requires { ⌜ (i + j ≤ 64) × (length (now p) ≤ 16) × (length (now q) ≤ 16) ⌝ }
+    requires { ⌜ (i + j ≤ 2 * limits .ranks) × (length (now p) ≤ limits .ranks) × (length (now q) ≤ limits .ranks) ⌝ }
     ensures { λ r. ⌜ r ≡ cond (max && eqb (i + j + 2) (length (now (p .entry)) + length (now (q .entry)))) 1 0 ⌝ }
 {
     if max {
@@ -111,42 +115,36 @@ fn cap_of(max: bool, p: &[Index], q: &[Index], i: usize, j: usize) -> usize
 }
 
 // What the pairs of the ranks i and j have in common. Their rank begins at the element `start`.
-pub fn block_of(
-    min: bool,
-    max: bool,
-    p: &[Index],
-    q: &[Index],
-    start: usize,
-    i: usize,
-    j: usize,
-) -> Block
-    requires { ⌜ (i + j ≤ 64) × (length (now p) ≤ 16) × (length (now q) ≤ 16) ⌝ }
-    requires { ⌜ start ≡ bit min + pairsTo (now p) (now q) (i + j) ⌝ }
+pub fn block_of(kind: Kind, p: &[Index], q: &[Index], start: usize, i: usize, j: usize) -> Block
+    requires { ⌜ (i + j ≤ 2 * limits .ranks) × (length (now p) ≤ limits .ranks) × (length (now q) ≤ limits .ranks) ⌝ }
+    requires { ⌜ start ≡ bit (kind .min) + pairsTo (now p) (now q) (i + j) ⌝ }
     requires { ⌜ start + pairsIn (now p) (now q) (i + j) i ≤ width ⌝ }
-    ensures { λ r. ⌜ BlockOf min max (now (p .entry)) (now (q .entry)) i j r ⌝ }
+    ensures { λ r. ⌜ BlockOf kind (now (p .entry)) (now (q .entry)) i j r ⌝ }
 {
-    let base = bit_of(min);
-    let first = start + offset(p, q, i, j);
-    let low = is_low(min, i, j);
-    let cap = cap_of(max, p, q, i, j);
+    let base = bit_of(kind.min);
+    let from = start + offset(p, q, i, j);
+    let low = is_low(kind.min, i, j);
+    let cap = cap_of(kind.max, p, q, i, j);
     let pbefore = inner::elements_before(p, i);
     let qbefore = inner::elements_before(q, j);
     let h = less(i);
     let left = offset(p, q, h, j);
     let k = less(j);
     let right = offset(p, q, i, k);
-    let width = inner::wide(inner::count_at(q, j));
-    let step = inner::wide(inner::count_at(q, k));
+    let qcount = inner::wide(inner::count_at(q, j));
+    let qbelow = inner::wide(inner::count_at(q, k));
     Block {
+        i,
+        j,
         base,
-        first,
+        from,
         low,
         cap,
         pbefore,
         qbefore,
         left,
         right,
-        width,
-        step,
+        qcount,
+        qbelow,
     }
 }

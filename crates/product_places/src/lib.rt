@@ -2,3 +2,10 @@
 // with its subs and ends, at a place of lent slices.
 pub mod block;
 pub mod put;
+
+// Which product it is: where min is set the minimal elements are left out of the pairs and one is added again, where
+// max is set the maximal ones.
+pub struct Kind {
+    pub min: bool,
+    pub max: bool,
+}

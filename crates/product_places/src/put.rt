@@ -8,11 +8,26 @@ ghost use lib.ListN.{length, getD, set};
 ghost use Rattle.order.specs.Lists.{In};
 ghost use Rattle.listing.specs.Listing.{width};
 ghost use Rattle.product_pairs.specs.Trimmed.{bit};
-ghost use Rattle.product_places.specs.Laid.{Laid, Holds};
+ghost use Rattle.listing.specs.Laid.{Laid, LaidList};
 ghost use Rattle.product_places.specs.Places.{subsOf};
 
+// Where an element is written: its number among all, and the place of `inc` at which its lists begin.
+pub struct Spot {
+    pub e: usize,
+    pub at: usize,
+}
+
+// How the subs of an element follow from those of its two members: a 0 where `low` is set, then left + x * scale for
+// each sub x of the first, then right + y for each sub y of the second.
+pub struct Shift {
+    pub low: bool,
+    pub left: usize,
+    pub scale: usize,
+    pub right: usize,
+}
+
 // Writes a number at place `at` where it is asked for. Returns the place after it.
-pub fn put_if(d: &mut [Index], at: usize, asked: bool, x: u16) -> usize
+pub fn put_if(d: &mut [Index], at: usize, asked: bool, x: Index) -> usize
     requires { ⌜ at + bit asked ≤ length (now d) ⌝ }
     ensures { λ r. ⌜ r ≡ at + bit asked ⌝ }
     ensures { λ r. ⌜ Laid at (λ j. x) (bit asked) (now (d .entry)) (now (d .exit)) ⌝ }
@@ -34,7 +49,7 @@ pub fn put_scaled(d: &mut [Index], at: usize, list: &[Index], off: usize, scale:
 {
     let mut j: usize = 0;
     while j < list.len() {
-        d[at + j] = (off + inner::wide(list[j]) * scale) as u16;
+        d[at + j] = (off + inner::wide(list[j]) * scale) as Index;
         j += 1;
     }
     at + j
@@ -48,7 +63,7 @@ pub fn put_up_to(d: &mut [Index], at: usize, n: usize) -> usize
 {
     let mut j: usize = 0;
     while j < n {
-        d[at + j] = j as u16;
+        d[at + j] = j as Index;
         j += 1;
     }
     at + j
@@ -63,68 +78,59 @@ pub fn put_min(ends: &mut [Index], min: bool, sups: usize) -> usize
 {
     if min {
         ends[0] = 0;
-        ends[1] = sups as u16;
+        ends[1] = sups as Index;
         return sups;
     }
     0
 }
 
-// Writes the added maximal element where it is asked for, by its number e, from place `at` on: the n elements under it,
-// and nothing over it. Returns the place after those.
-pub fn put_max(
-    ends: &mut [Index],
-    inc: &mut [Index],
-    max: bool,
-    e: usize,
-    at: usize,
-    n: usize,
-) -> usize
-    requires { ⌜ 2 * (e + bit max) ≤ length (now ends) ⌝ }
-    requires { ⌜ (at + cond max n 0 ≤ length (now inc)) × (at + cond max n 0 < width) ⌝ }
-    ensures { λ r. ⌜ r ≡ at + cond max n 0 ⌝ }
-    ensures { λ r. ⌜ Laid at (λ j. j) (cond max n 0) (now (inc .entry)) (now (inc .exit)) ⌝ }
-    ensures { λ r. ⌜ now (ends .exit) ≡ cond max (set (set (now (ends .entry)) (2 * e) r) (2 * e + 1) r)
+// Writes the added maximal element where it is asked for: the n elements under it, and nothing over it. Returns the
+// place after those.
+pub fn put_max(ends: &mut [Index], inc: &mut [Index], max: bool, spot: Spot, n: usize) -> usize
+    requires { ⌜ 2 * (spot .e + bit max) ≤ length (now ends) ⌝ }
+    requires { ⌜ (spot .at + cond max n 0 ≤ length (now inc)) × (spot .at + cond max n 0 < width) ⌝ }
+    ensures { λ r. ⌜ r ≡ spot .at + cond max n 0 ⌝ }
+    ensures { λ r. ⌜ Laid (spot .at) (λ j. j) (cond max n 0) (now (inc .entry)) (now (inc .exit)) ⌝ }
+    ensures { λ r. ⌜ now (ends .exit) ≡ cond max (set (set (now (ends .entry)) (2 * spot .e) r) (2 * spot .e + 1) r)
         (now (ends .entry)) ⌝ }
 {
     if max {
-        let to = put_up_to(&mut *inc, at, n);
-        ends[2 * e] = to as u16;
-        ends[2 * e + 1] = to as u16;
+        let to = put_up_to(&mut *inc, spot.at, n);
+        let e = spot.e;
+        ends[2 * e] = to as Index;
+        ends[2 * e + 1] = to as Index;
         return to;
     }
-    at
+    spot.at
 }
 
-// Writes one element, by its number e, from place `at` on: what it has under it, and its two ends, with room left for
-// its sups. Returns the place after those.
+// Writes one element: what it has under it, by the subs `left` and `right` of its members, and its two ends, with room
+// left for its sups. Returns the place after those.
 pub fn put_element(
     ends: &mut [Index],
     inc: &mut [Index],
-    e: usize,
-    at: usize,
-    low: bool,
+    spot: Spot,
+    shift: Shift,
     left: &[Index],
-    loff: usize,
-    scale: usize,
     right: &[Index],
-    roff: usize,
     sups: usize,
 ) -> usize
-    requires { ⌜ at + length (subsOf low (now left) loff scale (now right) roff) + sups < width ⌝ }
-    requires { ⌜ at + length (subsOf low (now left) loff scale (now right) roff) + sups ≤ length (now inc) ⌝ }
-    requires { ⌜ 2 * e + 1 < length (now ends) ⌝ }
-    requires { ⌜ ((x : ℕ) → In x (subsOf low (now left) loff scale (now right) roff) → x < width) ⌝ }
-    ensures { λ r. ⌜ r ≡ at + length (subsOf low (now (left .entry)) loff scale (now (right .entry)) roff) + sups ⌝ }
-    ensures { λ r. ⌜ Holds at (subsOf low (now (left .entry)) loff scale (now (right .entry)) roff)
+    requires { ⌜ spot .at + length (subsOf shift (now left) (now right)) + sups < width ⌝ }
+    requires { ⌜ spot .at + length (subsOf shift (now left) (now right)) + sups ≤ length (now inc) ⌝ }
+    requires { ⌜ 2 * spot .e + 1 < length (now ends) ⌝ }
+    requires { ⌜ ((x : ℕ) → In x (subsOf shift (now left) (now right)) → x < width) ⌝ }
+    ensures { λ r. ⌜ r ≡ spot .at + length (subsOf shift (now (left .entry)) (now (right .entry))) + sups ⌝ }
+    ensures { λ r. ⌜ LaidList (spot .at) (subsOf shift (now (left .entry)) (now (right .entry)))
         (now (inc .entry)) (now (inc .exit)) ⌝ }
-    ensures { λ r. ⌜ now (ends .exit) ≡ set (set (now (ends .entry)) (2 * e)
-        (at + length (subsOf low (now (left .entry)) loff scale (now (right .entry)) roff))) (2 * e + 1) r ⌝ }
+    ensures { λ r. ⌜ now (ends .exit) ≡ set (set (now (ends .entry)) (2 * spot .e)
+        (spot .at + length (subsOf shift (now (left .entry)) (now (right .entry))))) (2 * spot .e + 1) r ⌝ }
 {
-    let a = put_if(&mut *inc, at, low, 0);
-    let b = put_scaled(&mut *inc, a, left, loff, scale);
-    let c = put_scaled(&mut *inc, b, right, roff, 1);
+    let a = put_if(&mut *inc, spot.at, shift.low, 0);
+    let b = put_scaled(&mut *inc, a, left, shift.left, shift.scale);
+    let c = put_scaled(&mut *inc, b, right, shift.right, 1);
     let d = c + sups;
-    ends[2 * e] = c as u16;
-    ends[2 * e + 1] = d as u16;
+    let e = spot.e;
+    ends[2 * e] = c as Index;
+    ends[2 * e + 1] = d as Index;
     d
 }

@@ -1,6 +1,6 @@
 -- What a factor has in use, counted; and how large the product of two factors is.
 -- Assumes nothing.
-use mathlib.Core.Path.{_≡_, sym, ap, _∙_}
+use mathlib.Core.Path.{_≡_, ap, _∙_}
 use mathlib.Core.Bool.{Bool}
 use mathlib.Core.List.{List}
 use Prim.Native.Nat.{ℕ, suc, _+_, _-_, _*_, _≤_, _<_}
@@ -22,11 +22,11 @@ use Rattle.product_pairs.proofs.Lengths.{rankSubs-lowest}
 use Rattle.product_closure.specs.Sizes.{allElements, sizesOf}
 use Rattle.product_closure.proofs.Sizes.{productOf-ranks, productOf-elements, productOf-ends, productOf-incidences}
 use Rattle.product_closure.proofs.Valid.{valid-sound}
-use Rattle.product_sizes.specs.declared.sizes.Used.{Used}
-use Rattle.product_sizes.specs.declared.sizes.Sizes.{Sizes}
-use Rattle.product_sizes.specs.Sizing.{Usable, inUse, partOf, Counted, Little, Measures}
-use Rattle.product_sizes.proofs.Parts.{usable-shaped, in-use-length, in-use-size, in-use-before, part-alike}
-use Rattle.product_sizes.proofs.Parts.{used-above}
+use Rattle.product_places.specs.declared.Kind.{Kind}
+use Rattle.product_sizes.specs.declared.sizes.Extent.{Extent}
+use Rattle.product_sizes.specs.declared.sizes.Totals.{Totals}
+use Rattle.product_sizes.specs.Sizing.{Usable, countsInUse, extentOf, Little, totalsOf, Measures}
+use Rattle.product_sizes.proofs.Parts.{usable-shaped, in-use-length, in-use-size, in-use-before, in-use-subs}
 
 -- ---- lists, one after another
 
@@ -60,7 +60,7 @@ module _ (ends inc : List ℕ) where
 
 module _ (min max : Bool) (L : Listing) (u : Usable min max L) where
   abbrev p : List ℕ
-  p = inUse min max (L .counts)
+  p = countsInUse min max (L .counts)
 
   abbrev M : Layers
   M = trimmed min max (layers L)
@@ -80,7 +80,7 @@ module _ (min max : Bool) (L : Listing) (u : Usable min max L) where
       at : (i : ℕ) → i < trimSize min max (layers L) (suc r) → g (before p (suc r) + i) ≡ length (M .under (suc r) i)
       at i h =
           let e : 2 * (bit min + before p (suc r) + i) + 0 ≡ 2 * (bit min + (before p (suc r) + i)) = omega arith in
-          ap length (sym (rw e at (used-above (partOf min max L) r i)) ∙ part-alike min max L u .same-under (suc r) i h)
+          ap length (rw e at (in-use-subs min max L u r i h))
 
   -- no more than the limits allow
   pub in-use-few : bit min + before p (length p) ≤ elements L
@@ -122,7 +122,7 @@ module _ (min max : Bool) (L : Listing) (u : Usable min max L) where
       rw n (omega (arith, s, by-ranks, lowest-first, lowest-alone, z, sum-first (rankSubs M) (M .top)))
 
   -- what is asked to count, of the counts x that the code has in hand
-  pub room : (x : List ℕ) → x ≡ p → (0 < length x) × (length x ≤ 16) × (getD x 0 0 ≤ before x (length x))
+  pub room : (x : List ℕ) → x ≡ p → (0 < length x) × (length x ≤ limits .ranks) × (getD x 0 0 ≤ before x (length x))
       × (bit min + before x (length x) ≤ limits .elements) × (2 * (bit min + before x (length x)) ≤ length (L .ends))
   room x e =
       let S = usable-shaped min max L u in
@@ -134,25 +134,32 @@ module _ (min max : Bool) (L : Listing) (u : Usable min max L) where
         omega (arith, in-use-few, S .two-ends-each),
       )
 
-  module _ (x : List ℕ) (e : x ≡ p) (U : Used) (er : U .ranks ≡ length x)
+  module _ (x : List ℕ) (e : x ≡ p) (U : Extent) (er : U .ranks ≡ length x)
       (ee : U .elements ≡ before x (length x)) (el : U .lowest ≡ getD x 0 0)
       (eh : U .highest ≡ getD x (length x - 1) 0) (b : ℕ) (eb : b ≡ bit min) where
     all : U .elements ≡ before p (length p)
-    all = ee ∙ ap (λ (l : List ℕ). before l (length l)) e
+    all = omega (arith, room x e .3, ap (λ (l : List ℕ). before l (length l)) e)
 
     top : length p - 1 ≡ M .top
     top = omega (arith, in-use-length min max L u)
 
     pub counted : U .subs ≡ sum (λ k. length (entries (L .ends) (L .inc) (2 * (b + U .lowest + k))))
         (b + U .elements - (b + U .lowest))
-        → Counted M U
-    counted es = record {
-      ranks = er ∙ ap length e ∙ in-use-length min max L u;
-      elements = all ∙ elements-in-use;
-      subs = rw (eb, el, all, e) at es ∙ subs-in-use;
-      lowest = rw e at el ∙ in-use-size min max L u 0;
-      highest = rw (e, top) at eh ∙ in-use-size min max L u (M .top);
-    }
+        → U ≡ extentOf M
+    counted es =
+        let ranks = er ∙ ap length e ∙ in-use-length min max L u in
+        let elements = all ∙ elements-in-use in
+        let subs = rw (eb, el, all, e) at es ∙ subs-in-use in
+        let lowest = rw e at el ∙ in-use-size min max L u 0 in
+        let highest = rw (e, top) at eh ∙ in-use-size min max L u (M .top) in
+        λ i.
+        record {
+          ranks = ranks i;
+          elements = elements i;
+          subs = subs i;
+          lowest = lowest i;
+          highest = highest i;
+        }
 
     pub little : U .subs ≤ limits .incidences * (b + U .elements - (b + U .lowest)) → Little U
     little h =
@@ -168,37 +175,42 @@ module _ (min max : Bool) (L : Listing) (u : Usable min max L) where
 
 -- ---- the product
 
-ranks-add : (a b m n x y : ℕ) → x ≡ suc a → y ≡ suc b → suc (a + b + m + n) ≡ x + y - 1 + m + n
-ranks-add a b m n x y p q = omega arith
+ranks-add : (a b m n : ℕ) → suc (a + b + m + n) ≡ suc a + suc b - 1 + m + n
+ranks-add a b m n = omega arith
 
-module _ (min max : Bool) (A B : Listing) (uA : Usable min max A) (uB : Usable min max B) (p q : Used)
-    (cp : Counted (trimmed min max (layers A)) p) (cq : Counted (trimmed min max (layers B)) q) where
-  of-sizes : (s : Sizes) → s .ranks ≡ p .ranks + q .ranks - 1 + bit min + bit max
-      → s .elements ≡ p .elements * q .elements + bit min + bit max
-      → s .incidences ≡ 2 * (p .subs * q .elements + q .subs * p .elements + bit min * (p .lowest * q .lowest)
-      + bit max * (p .highest * q .highest))
-      → Measures (productOf min max A B) s
-  unfolding sizesOf
-  of-sizes s er ee ei =
-      let n = productOf-elements min max A B ∙ sym (rw (cp .elements, cq .elements) at ee) in
-      let sA = valid-sound limits A (uA .valid) in
-      let sB = valid-sound limits B (uB .valid) in
-      let f = rw (cp .subs, cp .elements, cp .lowest, cp .highest) at ei in
-      let g = rw (cq .subs, cq .elements, cq .lowest, cq .highest) at f in
-      record {
-        ranks = productOf-ranks min max A B ∙ ranks-add _ _ _ _ _ _ (cp .ranks) (cq .ranks) ∙ sym er;
-        elements = n;
-        ends = productOf-ends min max A B ∙ ap (λ k. 2 * k) (sym (productOf-elements min max A B) ∙ n);
-        incidences = productOf-incidences min max A B sA sB ∙ omega (arith, g);
-      }
+-- the three numbers by their parts, as the code has them in hand
+pub totals-are : (kind : Kind) (p q : Extent) {low high pairs left right lowest highest : ℕ} → low ≡ bit (kind .min)
+    → high ≡ bit (kind .max) → pairs ≡ p .elements * q .elements → left ≡ p .subs * q .elements
+    → right ≡ q .subs * p .elements → lowest ≡ bit (kind .min) * (p .lowest * q .lowest)
+    → highest ≡ bit (kind .max) * (p .highest * q .highest)
+    → _≡_ {A = Totals} (record {
+      ranks = p .ranks + q .ranks - 1 + low + high;
+      elements = pairs + low + high;
+      incidences = 2 * (left + right + lowest + highest);
+    }) (totalsOf kind p q)
+totals-are kind p q a b e l r f g = rw (a, b, e, l, r, f, g)
 
-  -- the sizes as the code computes them, from the numbers that it has in hand
-  pub measured : {low high pairs left right lowest highest : ℕ} → low ≡ bit min → high ≡ bit max
-      → pairs ≡ p .elements * q .elements → left ≡ p .subs * q .elements → right ≡ q .subs * p .elements
-      → lowest ≡ bit min * (p .lowest * q .lowest) → highest ≡ bit max * (p .highest * q .highest)
-      → Measures (productOf min max A B) (record {
-        ranks = p .ranks + q .ranks - 1 + low + high;
-        elements = pairs + low + high;
-        incidences = 2 * (left + right + lowest + highest);
-      })
-  measured a b e l r f g = of-sizes _ (rw (a, b)) (rw (a, b, e)) (rw (l, r, f, g))
+-- Its three numbers are what the sizes are computed to.
+pub measured : (kind : Kind) (A B : Listing) → Usable (kind .min) (kind .max) A → Usable (kind .min) (kind .max) B
+    → Measures (productOf (kind .min) (kind .max) A B)
+    (totalsOf kind (extentOf (trimmed (kind .min) (kind .max) (layers A)))
+    (extentOf (trimmed (kind .min) (kind .max) (layers B))))
+unfolding sizesOf
+measured kind A B uA uB =
+    let min = kind .min in
+    let max = kind .max in
+    let sA = valid-sound limits A (uA .valid) in
+    let sB = valid-sound limits B (uB .valid) in
+    record {
+      ranks = productOf-ranks min max A B ∙ ranks-add _ _ _ _;
+      elements = productOf-elements min max A B;
+      ends = productOf-ends min max A B;
+      incidences = productOf-incidences min max A B sA sB ∙ omega arith;
+    }
+
+-- the same, of the numbers that the code has in hand
+pub measured-by : (kind : Kind) {A B : Listing} {p q : Extent} {t : Totals} → Usable (kind .min) (kind .max) A
+    → Usable (kind .min) (kind .max) B → p ≡ extentOf (trimmed (kind .min) (kind .max) (layers A))
+    → q ≡ extentOf (trimmed (kind .min) (kind .max) (layers B)) → t ≡ totalsOf kind p q
+    → Measures (productOf (kind .min) (kind .max) A B) t
+measured-by kind {A} {B} uA uB ep eq et = rw (et, ep, eq) (measured kind A B uA uB)

@@ -1,12 +1,11 @@
--- A factor's ranks in use: which counts are left, and that what the builder is given says what the layers in use say.
+-- A factor's ranks in use: which counts are left, and where the lists of its elements stand.
 -- Assumes nothing.
-use mathlib.Core.Path.{_≡_, refl, ap, _∙_}
+use mathlib.Core.Path.{_≡_, ap, _∙_}
 use mathlib.Core.Bool.{Bool, true, false}
 use mathlib.Core.List.{List}
-use Prim.Native.Nat.{ℕ, zero, suc, _+_, _-_, _*_, _≤_, _<_}
+use Prim.Native.Nat.{ℕ, suc, _+_, _-_, _*_, _≤_, _<_}
 use native.Mathlib.Decide.{decLt}
 use native.Mathlib.Omega.{arith}
-use borrow.Author.Tests.{ne-eqb}
 use lib.ListN.{length, getD, drop, length-drop, List·getD-eq-default}
 use lib.Seq.{getD-take, getD-drop, length-take-le}
 use Rattle.order.specs.Ends.{need}
@@ -17,15 +16,11 @@ use Rattle.listing.specs.Shape.{Shaped}
 use Rattle.listing.specs.Layers.{layers}
 use Rattle.listing.proofs.Listing.{before-zero, before-next}
 use Rattle.listing.proofs.Sequences.{sum-add}
-use Rattle.valid_incidence.specs.Incidence.{Incident}
 use Rattle.valid.specs.Bounds.{Bounded}
 use Rattle.valid.proofs.ClosedExact.{valid-exact}
-use Rattle.product_pairs.specs.Trimmed.{bit, trimSize, trimUnder, trimmed}
+use Rattle.product_pairs.specs.Trimmed.{bit, trimSize, trimUnder}
 use Rattle.product_pairs.proofs.Trimmed.{raised-used}
-use Rattle.product_closure.proofs.Alike.{Alike}
-use Rattle.product_places.specs.Factors.{Factor, used}
-use Rattle.product_writing.specs.Pairs.{factorLayers}
-use Rattle.product_sizes.specs.Sizing.{Usable, inUse, partOf}
+use Rattle.product_sizes.specs.Sizing.{Usable, countsInUse}
 
 high-bits : (min max : Bool) (n : ℕ) → need min max ≤ n → bit min + bit max ≤ n
 high-bits true true n h = h
@@ -38,12 +33,6 @@ left-out : (min : Bool) (counts : List ℕ) → getD counts 0 0 ≡ 1 → before
 left-out true counts e = omega (arith, before-next counts 0, before-zero counts)
 left-out false counts e = before-zero counts
 
--- above the lowest rank in use an element's subs in use are its list
-pub used-above : (P : Factor) (i a : ℕ)
-    → used P (suc i) a ≡ entries (P .ends) (P .inc) (2 * (P .base + before (P .counts) (suc i) + a) + 0)
-unfolding used
-used-above P i a = rw (ne-eqb (suc i) 0 (λ z. omega arith))
-
 module _ (min max : Bool) (L : Listing) (u : Usable min max L) where
   pub usable-shaped : Shaped limits L
   usable-shaped = valid-exact limits L .0 (u .valid) .0
@@ -51,19 +40,16 @@ module _ (min max : Bool) (L : Listing) (u : Usable min max L) where
   pub usable-bounded : Bounded L
   usable-bounded = valid-exact limits L .0 (u .valid) .1
 
-  pub usable-incident : Incident L
-  usable-incident = valid-exact limits L .0 (u .valid) .2
-
   pub usable-high : bit min + bit max ≤ rank L
   usable-high = high-bits min max (rank L) (u .high)
 
   abbrev p : List ℕ
-  p = inUse min max (L .counts)
+  p = countsInUse min max (L .counts)
 
   -- ---- the counts
 
   pub in-use-length : length p ≡ suc (rank L - bit min - bit max)
-  unfolding inUse
+  unfolding countsInUse
   in-use-length =
       let h = usable-high in
       let s = usable-shaped .some-rank in
@@ -71,7 +57,7 @@ module _ (min max : Bool) (L : Listing) (u : Usable min max L) where
       length-take-le (length (L .counts) - bit max - bit min) (drop (bit min) (L .counts)) (omega arith) ∙ omega arith
 
   pub in-use-at : (i : ℕ) → i < length p → getD p i 0 ≡ count L (i + bit min)
-  unfolding inUse
+  unfolding countsInUse
   in-use-at i h =
       let e : bit min + i ≡ i + bit min = omega arith in
       getD-take (length (L .counts) - bit max - bit min) (drop (bit min) (L .counts)) i 0
@@ -102,21 +88,14 @@ module _ (min max : Bool) (L : Listing) (u : Usable min max L) where
           let e : k + bit min ≡ bit min + k = omega arith in
           rw e at (in-use-at k (omega arith))
 
-  -- ---- the layers
+  -- ---- the lists
 
-  part-under : (i a : ℕ) → a < trimSize min max (layers L) i
-      → used (partOf min max L) i a ≡ trimUnder min (layers L) i a
-  unfolding used trimUnder
-  part-under zero a h = refl
-  part-under (suc i) a h =
+  -- above the lowest rank in use the subs in use are the list
+  pub in-use-subs : (i a : ℕ) → a < trimSize min max (layers L) (suc i)
+      → entries (L .ends) (L .inc) (2 * (bit min + before p (suc i) + a) + 0) ≡ trimUnder min (layers L) (suc i) a
+  unfolding trimUnder
+  in-use-subs i a h =
       let r = raised-used min max (layers L) (suc i) a h in
       let b = in-use-before (suc i) (omega (arith, in-use-length, r .2)) in
       let e : bit min + suc i ≡ suc i + bit min = omega arith in
-      used-above (partOf min max L) i a ∙ rw (b, e)
-
-  pub part-alike : Alike (trimmed min max (layers L)) (factorLayers (partOf min max L))
-  part-alike = record {
-    same-top = omega (arith, in-use-length);
-    same-size = in-use-size;
-    same-under = part-under;
-  }
+      rw (b, e)

@@ -1,7 +1,7 @@
 -- The tests of the sizes in their order: the first that fails decides, one law for each.
 -- Assumes nothing.
 use mathlib.Core.Path.{_≡_}
-use Prim.Native.Nat.{ℕ, _≤_, _<_}
+use Prim.Native.Nat.{ℕ, _*_, _≤_, _<_}
 use native.Mathlib.Omega.{arith}
 use borrow.Author.Tests.{lt-ltb, le-ltb, ltb-false}
 use lib.ListN.{length}
@@ -9,29 +9,38 @@ use Rattle.listing.specs.Refusals.{productRanks, productElements, productIncide
 use Rattle.listing.specs.Answers.{plain, _orElse_}
 use Rattle.listing.specs.Listing.{Listing, Limits}
 use Rattle.listing.specs.Shape.{elements}
-use Rattle.listing.specs.Output.{roomTest}
+use Rattle.listing.specs.declared.outputs.Room.{Room}
+use Rattle.listing.specs.Output.{shortTest}
 use Rattle.listing.proofs.Answers.{on-or-no}
 use Rattle.listing.proofs.Output.{room-fits}
-use Rattle.product_sizes.specs.Sizing.{sizeTest}
+use Rattle.product_sizes.specs.declared.sizes.Totals.{Totals}
+use Rattle.product_sizes.specs.Sizing.{Measures, totalsTest, sizeTest}
 
-module _ (m : Limits) (R : Listing) (c e i : ℕ) where
-  pub over-ranks : m .ranks < length (R .counts) → sizeTest m R c e i ≡ plain productRanks
-  unfolding sizeTest _orElse_
+module _ (m : Limits) (t : Totals) (o : Room) where
+  pub over-ranks : m .ranks < t .ranks → totalsTest m t o ≡ plain productRanks
+  unfolding totalsTest _orElse_
   over-ranks h = rw (lt-ltb _ _ h)
 
-  module _ (h1 : length (R .counts) ≤ m .ranks) where
-    pub over-elements : m .elements < elements R → sizeTest m R c e i ≡ plain productElements
-    unfolding sizeTest _orElse_
+  module _ (h1 : t .ranks ≤ m .ranks) where
+    pub over-elements : m .elements < t .elements → totalsTest m t o ≡ plain productElements
+    unfolding totalsTest _orElse_
     over-elements h = rw (le-ltb _ _ h1, lt-ltb _ _ h)
 
-    module _ (h2 : elements R ≤ m .elements) where
-      pub over-incidences : m .incidences < length (R .inc) → sizeTest m R c e i ≡ plain productIncidences
-      unfolding sizeTest _orElse_
+    module _ (h2 : t .elements ≤ m .elements) where
+      pub over-incidences : m .incidences < t .incidences → totalsTest m t o ≡ plain productIncidences
+      unfolding totalsTest _orElse_
       over-incidences h = rw (le-ltb _ _ h1, le-ltb _ _ h2, lt-ltb _ _ h)
 
-      pub room-decides : length (R .inc) ≤ m .incidences → sizeTest m R c e i ≡ roomTest R c e i
-      unfolding sizeTest _orElse_
+      pub room-decides : t .incidences ≤ m .incidences
+          → totalsTest m t o ≡ shortTest (record { counts = t .ranks; ends = 2 * t .elements; inc = t .incidences }) o
+      unfolding totalsTest _orElse_
       room-decides h3 = rw (le-ltb _ _ h1, le-ltb _ _ h2, le-ltb _ _ h3)
+
+-- the test of a listing is that of its three numbers
+pub listing-tested : (m : Limits) (R : Listing) (t : Totals) (o : Room) → Measures R t
+    → totalsTest m t o ≡ sizeTest m R (o .counts) (o .ends) (o .inc)
+unfolding totalsTest sizeTest
+listing-tested m R t o h = rw (← h .ends, ← h .ranks, ← h .elements, ← h .incidences)
 
 -- ---- what they ask, where none fails
 

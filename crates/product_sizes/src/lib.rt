@@ -1,3 +1,3 @@
-// How large a product is, and that what its factors have in use is a plan of it. No entries: the functions in the
-// module ask for factors that is_valid accepts.
+// How large a product is, known before a number is written, and whether that is within the limits and the room. No
+// entries: the functions in the module ask for factors that is_valid accepts.
 pub mod sizes;

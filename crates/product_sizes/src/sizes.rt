@@ -6,20 +6,20 @@ use listing::limit;
 use listing::outputs;
 use listing::outputs::Room;
 use listing::refusal;
+use product_places::Kind;
 use product_places::block;
 ghost use mathlib.Core.Path.{_≡_};
 ghost use Prim.Native.Nat.{_+_, _-_, _*_, _≤_};
 ghost use lib.ListN.{length};
 ghost use Rattle.order.specs.Sums.{sum};
-ghost use Rattle.listing.specs.Listing.{Listing, held, limits, Ends, entries};
+ghost use Rattle.listing.specs.Listing.{held, limits, Ends, entries};
 ghost use Rattle.listing.specs.Layers.{layers};
 ghost use Rattle.product_pairs.specs.Trimmed.{bit, trimmed};
-ghost use Rattle.product_pairs.specs.Product.{productOf};
-ghost use Rattle.product_sizes.specs.Sizing.{sizeTest};
-ghost use Rattle.product_sizes.specs.Sizing.{Usable, inUse, Counted, Little, Measures};
+ghost use Rattle.product_sizes.specs.Sizing.{Usable, countsInUse, extentOf, Little, totalsOf, totalsTest};
 
-// What a factor has in use: how many ranks, elements and subs, and how many elements of its lowest and highest rank.
-pub struct Used {
+// How large the part of a factor is that a product uses: its ranks, elements and subs, and the elements of its lowest
+// and of its highest rank.
+pub struct Extent {
     pub ranks: usize,
     pub elements: usize,
     pub subs: usize,
@@ -28,26 +28,27 @@ pub struct Used {
 }
 
 // How large a product is.
-pub struct Sizes {
+pub struct Totals {
     pub ranks: usize,
     pub elements: usize,
     pub incidences: usize,
 }
 
 // The counts of the ranks in use: without the lowest where min is set, without the highest where max is.
-pub fn range<'a>(min: bool, max: bool, counts: &'a [Index]) -> &'a [Index]
-    requires { ⌜ bit min + bit max ≤ length (now counts) ⌝ }
-    ensures { λ r. ⌜ now r ≡ inUse min max (now (counts .entry)) ⌝ }
+pub fn range<'a>(kind: Kind, counts: &'a [Index]) -> &'a [Index]
+    requires { ⌜ bit (kind .min) + bit (kind .max) ≤ length (now counts) ⌝ }
+    ensures { λ r. ⌜ now r ≡ countsInUse (kind .min) (kind .max) (now (counts .entry)) ⌝ }
 {
-    let from = block::bit_of(min);
-    let to = counts.len() - block::bit_of(max);
+    let from = block::bit_of(kind.min);
+    let to = counts.len() - block::bit_of(kind.max);
     &counts[from..to]
 }
 
 // How many subs the elements from one number up to another list.
 fn subs_listed(ends: &[Index], inc: &[Index], from: usize, to: usize) -> usize
     requires { ⌜ Ends (now ends) (now inc) ⌝ }
-    requires { ⌜ (from ≤ to) × (2 * to ≤ length (now ends)) × (to ≤ limits .elements + 1) × (length (now inc) ≤ limits .incidences) ⌝ }
+    requires { ⌜ (from ≤ to) × (2 * to ≤ length (now ends)) × (to ≤ limits .elements + 1)
+        × (length (now inc) ≤ limits .incidences) ⌝ }
     ensures { λ r. ⌜ r ≡ sum (λ k. length (entries (now (ends .entry)) (now (inc .entry)) (2 * (from + k))))
         (to - from) ⌝ }
     ensures { λ r. ⌜ r ≤ limits .incidences * (to - from) ⌝ }
@@ -61,19 +62,20 @@ fn subs_listed(ends: &[Index], inc: &[Index], from: usize, to: usize) -> usize
     n
 }
 
-// What a factor has in use.
-pub fn count_used(min: bool, max: bool, counts: &[Index], ends: &[Index], inc: &[Index]) -> Used
-    requires { ⌜ Usable min max (held counts ends inc) ⌝ }
-    ensures { λ r. ⌜ Little r × Counted (trimmed min max
-        (layers (held (counts .entry) (ends .entry) (inc .entry)))) r ⌝ }
+// The extent of what a product uses of a factor.
+pub fn count_used(kind: Kind, counts: &[Index], ends: &[Index], inc: &[Index]) -> Extent
+    requires { ⌜ Usable (kind .min) (kind .max) (held counts ends inc) ⌝ }
+    ensures { λ r. ⌜ Little r ⌝ }
+    ensures { λ r. ⌜ r ≡ extentOf (trimmed (kind .min) (kind .max)
+        (layers (held (counts .entry) (ends .entry) (inc .entry)))) ⌝ }
 {
-    let p = range(min, max, counts);
-    let base = block::bit_of(min);
+    let p = range(kind, counts);
+    let base = block::bit_of(kind.min);
     let elements = inner::elements_before(p, p.len());
     let lowest = inner::wide(p[0]);
     let highest = inner::wide(p[p.len() - 1]);
     let subs = subs_listed(ends, inc, base + lowest, base + elements);
-    Used {
+    Extent {
         ranks: p.len(),
         elements,
         subs,
@@ -84,8 +86,8 @@ pub fn count_used(min: bool, max: bool, counts: &[Index], ends: &[Index], inc: &
 
 // The product of two counts, the second one of elements.
 fn times(x: usize, y: usize) -> usize
-    requires { ⌜ (x ≤ limits .incidences * limits .elements) × (y ≤ limits .elements) ⌝ }
-    ensures { λ r. ⌜ (r ≡ x * y) × (r ≤ 549755813888) ⌝ }
+    requires { ⌜ (x ≤ limits .elements * limits .incidences) × (y ≤ limits .elements) ⌝ }
+    ensures { λ r. ⌜ (r ≡ x * y) × (r ≤ limits .elements * limits .incidences * limits .elements) ⌝ }
 {
     x * y
 }
@@ -100,28 +102,27 @@ fn where_asked(asked: bool, n: usize) -> usize
     0
 }
 
-// How large the product is of two factors that have this in use.
-pub fn product_sizes(min: bool, max: bool, p: Used, q: Used) -> Sizes
+// How large the product is of two factors that have these extents in use.
+pub fn product_sizes(kind: Kind, p: Extent, q: Extent) -> Totals
     requires { ⌜ Little p × Little q ⌝ }
-    ensures { λ s. ⌜ ((A B : Listing) → Usable min max A → Usable min max B → Counted (trimmed min max (layers A)) p
-        → Counted (trimmed min max (layers B)) q → Measures (productOf min max A B) s) ⌝ }
+    ensures { λ r. ⌜ r ≡ totalsOf kind p q ⌝ }
 {
-    let low = block::bit_of(min);
-    let high = block::bit_of(max);
+    let low = block::bit_of(kind.min);
+    let high = block::bit_of(kind.max);
     let pairs = times(p.elements, q.elements);
     let subs = times(p.subs, q.elements) + times(q.subs, p.elements);
-    let lowest = where_asked(min, times(p.lowest, q.lowest));
-    let highest = where_asked(max, times(p.highest, q.highest));
-    Sizes {
+    let lowest = where_asked(kind.min, times(p.lowest, q.lowest));
+    let highest = where_asked(kind.max, times(p.highest, q.highest));
+    Totals {
         ranks: p.ranks + q.ranks - 1 + low + high,
         elements: pairs + low + high,
         incidences: 2 * (subs + lowest + highest),
     }
 }
 
-// Whether the sizes are within the limits, and then whether output slices of these lengths have room.
-pub fn check_sizes(s: Sizes, counts: usize, ends: usize, inc: usize) -> Answer
-    ensures { λ r. ⌜ ((R : Listing) → Measures R s → r ≡ sizeTest limits R counts ends inc) ⌝ }
+// Whether a product of these sizes is within the limits, and then whether there is room for it.
+pub fn check_sizes(s: Totals, room: Room) -> Answer
+    ensures { λ r. ⌜ r ≡ totalsTest limits s room ⌝ }
 {
     if limit::RANKS < s.ranks {
         return inner::plain(refusal::PRODUCT_RANKS);
@@ -138,6 +139,5 @@ pub fn check_sizes(s: Sizes, counts: usize, ends: usize, inc: usize) -> Answer
         ends: two_each,
         inc: s.incidences,
     };
-    let room = Room { counts, ends, inc };
     outputs::check_room(need, room)
 }

@@ -6,53 +6,42 @@ use mathlib.Core.List.{List, [], _∷_, _++_}
 use Prim.Native.Nat.{ℕ, zero, suc, _+_, _-_, _*_, _≤_, _<_}
 use native.Mathlib.Decide.{decLt}
 use native.Mathlib.Omega.{arith}
-use lib.ListN.{length, getD, set, length-append, List·getD-append}
+use lib.ListN.{length, getD, set, List·getD-append}
 use lib.Seq.{getD-at}
 use Rattle.order.specs.Sums.{sum}
-use Rattle.listing.specs.Listing.{width}
+use Rattle.order.proofs.Sums.{sum-none}
+use Rattle.listing.specs.Listing.{Listing, width}
+use Rattle.listing.specs.Laid.{Laid, LaidList}
+use Rattle.listing.proofs.Laying.{laid-none, laid-same, laid-list}
+use Rattle.listing_sups.specs.Filling.{starts, Put}
+use Rattle.listing_sups.proofs.Laying.{starts-room, put-none, put-one}
 use Rattle.product_pairs.specs.Trimmed.{bit}
 use Rattle.product_pairs.specs.Grown.{upTo}
-use Rattle.product_places.specs.Laid.{Laid, Holds}
-use Rattle.product_places.specs.Factors.{Factor}
+use Rattle.product_pairs.proofs.Sequences.{upTo-length}
 use Rattle.product_places.specs.Places.{pairsIn, pairsTo, firstAt}
-use Rattle.product_writing.specs.Filling.{starts, Put}
 use Rattle.product_writing.specs.Pairs.{listsOf, sizeOf, Plan}
-use Rattle.product_places.proofs.Laying.{laid-none, laid-same}
-use Rattle.product_places.proofs.Numbers.{sum-none, pairs-none}
-use Rattle.product_writing.proofs.Rows.{starts-room, put-none, put-one}
+use Rattle.product_places.proofs.Numbers.{pairs-none}
 use Rattle.product_writing.proofs.Target.{lists-low, lists-over-low, lists-high, lists-over-high}
 
 -- ---- the numbers below n
 
-up-to-length : (n : ℕ) → length (upTo n) ≡ n
+upTo-at : (n j : ℕ) → j < n → getD (upTo n) j 0 ≡ j
 unfolding upTo
-up-to-length zero = refl
-up-to-length (suc n) = omega (arith, length-append (upTo n) (n ∷ []), up-to-length n)
-
-up-to-at : (n j : ℕ) → j < n → getD (upTo n) j 0 ≡ j
-unfolding upTo
-up-to-at zero j h = absurd (omega arith)
-up-to-at (suc n) j h = go (λ l. up-to-at n j l) (decLt j n)
+upTo-at zero j h = absurd (omega arith)
+upTo-at (suc n) j h = go (λ l. upTo-at n j l) (decLt j n)
   where
     go : (j < n → getD (upTo n) j 0 ≡ j) → Dec (j < n) → getD (upTo n ++ (n ∷ [])) j 0 ≡ j
-    go ih (yes l) = List·getD-append (upTo n) (n ∷ []) 0 j (omega (arith, up-to-length n)) ∙ ih l
+    go ih (yes l) = List·getD-append (upTo n) (n ∷ []) 0 j (omega (arith, upTo-length n)) ∙ ih l
     go ih (no l) =
         let e : n ≡ j = omega arith in
-        getD-at (upTo n) n [] 0 j (up-to-length n ∙ e) ∙ e
+        getD-at (upTo n) n [] 0 j (upTo-length n ∙ e) ∙ e
 
-up-to-holds : (at n : ℕ) (d d′ : List ℕ) → Laid at (λ j. j) n d d′ → Holds at (upTo n) d d′
-up-to-holds at n d d′ l =
-    rw (up-to-length n)
-    (record {
-      same-length = l .same-length;
-      inside = λ j h. l .inside j h ∙ sym (up-to-at n j h);
-      before = l .before;
-      after = l .after;
-    })
+upTo-laid : (at n : ℕ) (d d′ : List ℕ) → Laid at (λ j. j) n d d′ → LaidList at (upTo n) d d′
+upTo-laid at n d d′ l = laid-list at d d′ (upTo n) (λ j. j) n (upTo-length n) (λ j h. sym (upTo-at n j h)) l
 
 -- ---- the element added below
 
-module _ (max : Bool) (P Q : Factor) (hp : 0 < length (P .counts)) (hq : 0 < length (Q .counts)) where
+module _ (max : Bool) (P Q : Listing) (hp : 0 < length (P .counts)) (hq : 0 < length (Q .counts)) where
   low-put : (min : Bool) (sups r : ℕ) (ends inc ends′ : List ℕ) → 2 * bit min ≤ length ends
       → sups ≡ pairsIn (P .counts) (Q .counts) 0 1 → r ≡ cond min sups 0
       → ends′ ≡ cond min (set (set ends 0 0) 1 sups) ends → Put (listsOf min max P Q) 0 (bit min) r ends inc ends′ inc
@@ -64,7 +53,7 @@ module _ (max : Bool) (P Q : Factor) (hp : 0 < length (P .counts)) (hq : 0 < len
 
 -- ---- the element added above
 
-module _ (min : Bool) (P Q : Factor) (hp : 0 < length (P .counts)) (hq : 0 < length (Q .counts)) where
+module _ (min : Bool) (P Q : Listing) (hp : 0 < length (P .counts)) (hq : 0 < length (Q .counts)) where
   abbrev p : List ℕ
   p = P .counts
 
@@ -81,7 +70,7 @@ module _ (min : Bool) (P Q : Factor) (hp : 0 < length (P .counts)) (hq : 0 < len
       → at + cond max k 0 ≤ starts (listsOf min max P Q) (2 * (e + bit max))
   high-room true at k ea ek =
       let r = starts-room (listsOf min true P Q) (e + 1) e (omega arith) in
-      let l = ap length (lists-high P Q hp hq min) ∙ up-to-length _ in
+      let l = ap length (lists-high P Q hp hq min) ∙ upTo-length _ in
       omega arith
   high-room false at k ea ek =
       let z : e + 0 ≡ e = omega arith in
@@ -92,17 +81,17 @@ module _ (min : Bool) (P Q : Factor) (hp : 0 < length (P .counts)) (hq : 0 < len
       → Laid at (λ j. j) (cond max k 0) inc inc′ → ends′ ≡ cond max (set (set ends (2 * e) r) (2 * e + 1) r) ends
       → Put (listsOf min max P Q) e (e + bit max) r ends inc ends′ inc′
   high-put true at k r ends inc ends′ inc′ room ea ek er l ee =
-      let s : r ≡ at + length (upTo k) = er ∙ ap (λ (m : ℕ). at + m) (sym (up-to-length k)) in
+      let s : r ≡ at + length (upTo k) = er ∙ ap (λ (m : ℕ). at + m) (sym (upTo-length k)) in
       put-one (listsOf min true P Q) e at 0 r (upTo k) ends inc ends′ inc′ ea
       (ap upTo ek ∙ sym (lists-high P Q hp hq min)) (sym (lists-over-high P Q hp hq min)) (omega arith) (omega arith)
-      (up-to-holds at k inc inc′ l) (rw (← s) ee)
+      (upTo-laid at k inc inc′ l) (rw (← s) ee)
   high-put false at k r ends inc ends′ inc′ room ea ek er l ee =
       let er′ : r ≡ starts (listsOf min false P Q) (2 * e) = omega arith in
       rw (ee, laid-same at _ inc inc′ l) (put-none (listsOf min false P Q) e (e + 0) r ends inc er′ (omega arith))
 
 -- ---- both, by the plan
 
-module _ (min max : Bool) (P Q : Factor) (upP upQ : List ℕ) (re ri : ℕ) (plan : Plan min max P Q upP upQ re ri) where
+module _ (min max : Bool) (P Q : Listing) (re ri : ℕ) (plan : Plan min max P Q re ri) where
   abbrev p′ : List ℕ
   p′ = P .counts
 

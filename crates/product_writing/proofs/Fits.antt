@@ -3,185 +3,258 @@
 use mathlib.Core.Path.{_≡_, sym, ap, subst, _∙_}
 use mathlib.Core.Bool.{Bool, true, false, cond, _&&_}
 use mathlib.Core.List.{List, []}
-use Prim.Native.Nat.{ℕ, suc, pred, _+_, _-_, _*_, _≤_, _<_}
+use Prim.Native.Nat.{ℕ, pred, _+_, _-_, _*_, _≤_, _<_}
 use native.Mathlib.Omega.{arith}
 use lib.Dec.{eqb}
 use lib.ListN.{length, getD, set}
 use Rattle.order.specs.Lists.{In}
-use Rattle.listing.specs.Listing.{width, limits, entries}
-use Rattle.listing.proofs.Listing.{count-le}
-use Rattle.product_pairs.specs.Trimmed.{bit}
+use Rattle.listing.specs.Listing.{Listing, width, limits, count, entries}
+use Rattle.listing.specs.Laid.{LaidList}
+use Rattle.listing.proofs.Listing.{some-rank, before-lt, count-le}
+use Rattle.listing_sups.specs.Sups.{UpCounts}
+use Rattle.listing_sups.specs.Filling.{starts, Put}
+use Rattle.listing_sups.proofs.Laying.{starts-room, put-one}
+use Rattle.product_places.specs.declared.Kind.{Kind}
 use Rattle.product_places.specs.declared.block.Block.{Block}
-use Rattle.product_places.specs.Laid.{Holds}
-use Rattle.product_places.specs.Factors.{Factor, used}
-use Rattle.product_places.specs.Places.{offsetIn, firstAt, number, subsOf}
-use Rattle.product_places.specs.Blocks.{BlockOf}
-use Rattle.product_writing.specs.Filling.{starts, Put}
-use Rattle.product_writing.specs.Pairs.{listsOf, underPair, overPair, sizeOf, Plan}
-use Rattle.product_places.proofs.Numbers.{bit-le, product-le, some-rank, before-lt}
-use Rattle.product_places.proofs.Numbers.{number-at, number-more, number-lt, first-le}
-use Rattle.product_writing.proofs.Rows.{starts-room, put-one}
-
--- the same plan, with room of the same size
-pub plan-room : {min max : Bool} {P Q : Factor} {upP upQ : List ℕ} {re ri : ℕ} → Plan min max P Q upP upQ re ri
-    → (re′ ri′ : ℕ) → re′ ≡ re → ri′ ≡ ri → Plan min max P Q upP upQ re′ ri′
-plan-room {min} {max} {P} {Q} {upP} {upQ} plan re′ ri′ e f = rw (e, f) plan
+use Rattle.product_places.specs.declared.put.Shift.{Shift}
+use Rattle.product_places.specs.Places.{offsetIn, firstAt, subsOf}
+use Rattle.product_places.specs.Blocks.{BlockOf, inBlock}
+use Rattle.product_places.proofs.Numbers.{bit-le, product-le, number-at, number-more, number-lt, first-le}
+use Rattle.product_writing.specs.Pairs.{subsInUse, productLists, underPair, overPair, sizeOf, Plan, Writable}
 
 cond-le : (b : Bool) → cond b 1 0 ≤ 1
 cond-le true = omega arith
 cond-le false = omega arith
 
--- ---- a block of pairs
+module _ {kind : Kind} {P Q : Listing} {psups qsups ends inc : List ℕ} (w : Writable kind P Q psups qsups ends inc) where
+  -- the same, with slices of the same size
+  pub writable-room : (ends′ inc′ : List ℕ) → length ends′ ≡ length ends → length inc′ ≡ length inc
+      → Writable kind P Q psups qsups ends′ inc′
+  writable-room ends′ inc′ e f = record { plan = rw (e, f) (w .plan); sups-P = w .sups-P; sups-Q = w .sups-Q }
 
-module _ (min max : Bool) (P Q : Factor) (upP upQ : List ℕ) (re ri : ℕ) (plan : Plan min max P Q upP upQ re ri) where
   -- the pairs are few
   pub first-few : (R i : ℕ) → i ≤ R + 1 → R + 2 ≤ length (P .counts) + length (Q .counts)
-      → firstAt min (P .counts) (Q .counts) R i ≤ limits .elements
+      → firstAt (kind .min) (P .counts) (Q .counts) R i ≤ limits .elements
   unfolding sizeOf
   first-few R i h k =
-      let l = first-le min (P .counts) (Q .counts) R (length (P .counts) + length (Q .counts) - 1) i h (omega arith) in
-      omega (arith, plan .elements)
+      let n = length (P .counts) + length (Q .counts) in
+      omega (arith, first-le (kind .min) (P .counts) (Q .counts) R (n - 1) i h (omega arith), w .plan .elements)
 
-  -- the lists of the first member of its pairs
-  module _ (i a j : ℕ) (B : Block) (block : BlockOf min max (P .counts) (Q .counts) i j B) (base : P .base ≡ bit min)
-      (ha : a < getD (P .counts) i 0) where
-    pub left-there : 2 * (B .base + B .pbefore + a) + 0 < length (P .ends)
-    left-there = omega (arith, block .base, block .p-before, before-lt (P .counts) i a ha, plan .ends-P)
+  -- ---- the lists of the first member of a block's pairs
 
-    pub left-few : B .base + B .pbefore + a ≤ width
-    left-few =
-        omega (arith, block .base, block .p-before, before-lt (P .counts) i a ha, plan .few-P, bit-le min)
+  module _ {B : Block} (block : BlockOf kind (P .counts) (Q .counts) (B .i) (B .j) B) {a : ℕ} (ha : a < count P (B .i))
+    where
+      pub left-there : 2 * (B .base + B .pbefore + a) + 0 < length (P .ends)
+      left-there =
+          omega (arith, block .base, block .p-before, before-lt (P .counts) (B .i) a ha, w .plan .ends-P)
 
-    pub left-used : (left : List ℕ)
-        → left ≡ cond (eqb i 0) [] (entries (P .ends) (P .inc) (2 * (B .base + B .pbefore + a) + 0)) → left ≡ used P i a
-    unfolding used
-    left-used left e = e ∙ rw (block .base, block .p-before, ← base)
+      pub left-few : B .base + B .pbefore + a ≤ width
+      left-few =
+          omega (
+            arith,
+            block .base,
+            block .p-before,
+            before-lt (P .counts) (B .i) a ha,
+            w .plan .few-P,
+            bit-le (kind .min),
+          )
+
+      pub left-used : (left : List ℕ)
+          → left ≡ cond (eqb (B .i) 0) [] (entries (P .ends) (P .inc) (2 * (B .base + B .pbefore + a) + 0))
+          → left ≡ subsInUse (kind .min) P (B .i) a
+      unfolding subsInUse
+      left-used left e = e ∙ rw (block .base, block .p-before)
+
+-- ---- a block, by the ranks that it was made for
+
+module _ {kind : Kind} {p q : List ℕ} {i j : ℕ} {B : Block} (block : BlockOf kind p q i j B) where
+  pub block-own : BlockOf kind p q (B .i) (B .j) B
+  block-own =
+      subst (λ (n : ℕ). BlockOf kind p q n (B .j) B) (sym (block .ranks .0))
+      (subst (λ (n : ℕ). BlockOf kind p q i n B) (sym (block .ranks .1)) block)
+
+  pub block-start : (lists : ℕ → List ℕ) {R at : ℕ} → i + j ≡ R → at ≡ starts lists (2 * firstAt (kind .min) p q R i)
+      → at ≡ starts lists (2 * firstAt (kind .min) p q (B .i + B .j) (B .i))
+  block-start lists e h = rw (block .ranks .0, block .ranks .1, e) h
+
+  pub block-put : {lists : ℕ → List ℕ} {R at : ℕ} {ends inc ends′ inc′ : List ℕ} → i + j ≡ R
+      → Put lists (firstAt (kind .min) p q (B .i + B .j) (B .i)) (firstAt (kind .min) p q (B .i + B .j) (B .i + 1)) at
+      ends inc ends′ inc′
+      → Put lists (firstAt (kind .min) p q R i) (firstAt (kind .min) p q R (i + 1)) at ends inc ends′ inc′
+  block-put e h = rw (block .ranks .0, block .ranks .1, e) at h
 
 -- ---- one pair
 
--- what holds of a pair
-pub record PairFits (min max : Bool) (P Q : Factor) (upP upQ : List ℕ) (re ri i a j b : ℕ) (B : Block) : Type 0 where
+-- a pair of a block
+pub record PairIn (kind : Kind) (P Q : Listing) (psups qsups ends inc : List ℕ) (B : Block) (a b : ℕ) : Type 0 where
+  pub ready : Writable kind P Q psups qsups ends inc
+  pub block : BlockOf kind (P .counts) (Q .counts) (B .i) (B .j) B
+  pub left : a < count P (B .i)
+  pub right : b < count Q (B .j)
+
+module _ {kind : Kind} {P Q : Listing} {psups qsups ends inc : List ℕ} {B : Block} {a b : ℕ}
+    (x : PairIn kind P Q psups qsups ends inc B a b) where
+  abbrev p : List ℕ
+  p = P .counts
+
+  abbrev q : List ℕ
+  q = Q .counts
+
+  abbrev e : ℕ
+  e = inBlock kind p q B a b
+
+  abbrev lists : ℕ → List ℕ
+  lists = productLists kind P Q
+
+  abbrev plan : Plan (kind .min) (kind .max) P Q (length ends) (length inc)
+  plan = x .ready .plan
+
+  -- its members' places
   pub right-there : 2 * (B .base + B .qbefore + b) + 0 < length (Q .ends)
-  pub up-P : B .pbefore + a ≤ width
-  pub up-Q : B .qbefore + b ≤ width
+  right-there =
+      omega (arith, x .block .base, x .block .q-before, before-lt q (B .j) b (x .right), plan .ends-Q)
+
+  pub up-P : B .pbefore + a ≤ limits .elements
+  up-P = omega (arith, x .block .p-before, before-lt p (B .i) a (x .left), plan .few-P)
+
+  pub up-Q : B .qbefore + b ≤ limits .elements
+  up-Q = omega (arith, x .block .q-before, before-lt q (B .j) b (x .right), plan .few-Q)
+
   pub cap-few : B .cap ≤ 1
-  pub index : B .first + a * B .width + b ≡ number min (P .counts) (Q .counts) i a j b
-  pub index-few : number min (P .counts) (Q .counts) i a j b < limits .elements
-  pub left-few : B .left + b ≤ width
-  pub right-few : a * B .step ≤ width * width
-  pub right-more : B .right ≤ width
-  pub ends-room : 2 * number min (P .counts) (Q .counts) i a j b + 1 < re
-  pub over : length (listsOf min max P Q (2 * number min (P .counts) (Q .counts) i a j b + 1))
-      ≡ getD upP (B .pbefore + a) 0 + getD upQ (B .qbefore + b) 0 + B .cap
+  cap-few = rw (x .block .cap) (cond-le (kind .max && eqb (B .i + B .j + 2) (length p + length q)))
 
-module _ (min max : Bool) (P Q : Factor) (upP upQ : List ℕ) (re ri : ℕ) (plan : Plan min max P Q upP upQ re ri)
-    (i a j b : ℕ) (B : Block) (block : BlockOf min max (P .counts) (Q .counts) i j B)
-    (base : Q .base ≡ bit min) (ha : a < getD (P .counts) i 0) (hb : b < getD (Q .counts) j 0)
-  where
-    abbrev p : List ℕ
-    p = P .counts
+  -- its number
+  pub index : B .from + a * B .qcount + b ≡ e
+  index =
+      let w : a * B .qcount ≡ a * count Q (B .j) = ap (λ (n : ℕ). a * n) (x .block .q-count) in
+      omega (arith, x .block .from, number-at (kind .min) p q (B .i) a (B .j) b)
 
-    abbrev q : List ℕ
-    q = Q .counts
+  pair-lt : e < sizeOf (kind .min) (kind .max) p q
+  unfolding sizeOf
+  pair-lt = omega (arith, number-lt (kind .min) p q (B .i) a (B .j) b (x .left) (x .right))
 
-    abbrev e : ℕ
-    e = number min p q i a j b
+  pub index-few : e < limits .elements
+  index-few = omega (arith, pair-lt, plan .elements)
 
-    abbrev lists : ℕ → List ℕ
-    lists = listsOf min max P Q
+  -- the numbers of its shift
+  offset-few : (h k : ℕ) → h + k ≤ B .i + B .j → offsetIn p q h k ≤ limits .elements
+  unfolding offsetIn
+  offset-few h k l =
+      let i = some-rank p (B .i) a (x .left) in
+      let j = some-rank q (B .j) b (x .right) in
+      omega (arith, first-few (x .ready) (h + k) h (omega arith) (omega arith))
 
-    in-range : suc (i + j) < length p + length q
-    in-range = omega (arith, some-rank p i a ha, some-rank q j b hb)
+  pub left-shift-few : B .left + b ≤ width
+  left-shift-few =
+      omega (
+        arith,
+        x .block .left,
+        offset-few (pred (B .i)) (B .j) (omega arith),
+        count-le q (B .j),
+        plan .few-Q,
+      )
 
-    pair-lt : e < sizeOf min max p q
-    unfolding sizeOf
-    pair-lt = omega (arith, number-lt min p q i a j b ha hb)
+  pub right-shift-few : (a * B .qbelow ≤ width * width) × (B .right ≤ width)
+  right-shift-few =
+      let s : B .qbelow < width = omega (arith, x .block .q-below, count-le q (pred (B .j)), plan .few-Q) in
+      let m = product-le a (B .qbelow) (omega (arith, x .left, count-le p (B .i), plan .few-P)) s in
+      (m, omega (arith, x .block .right, offset-few (B .i) (pred (B .j)) (omega arith)))
 
-    offset-few : (h k : ℕ) → h + k ≤ i + j → offsetIn p q h k ≤ limits .elements
-    unfolding offsetIn
-    offset-few h k l =
-        omega (arith, first-few min max P Q upP upQ re ri plan (h + k) h (omega arith) (omega (arith, in-range)))
+  -- ---- its lists
 
-    pub pair-fits : PairFits min max P Q upP upQ re ri i a j b B
-    unfolding overPair
-    pair-fits =
-        let w : a * B .width ≡ a * getD q j 0 = ap (λ (n : ℕ). a * n) (block .width) in
-        let s : B .step < width = omega (arith, block .step, count-le q (pred j), plan .few-Q) in
-        record {
-          right-there = omega (arith, block .base, block .q-before, before-lt q j b hb, plan .ends-Q, base);
-          up-P = omega (arith, block .p-before, before-lt p i a ha, plan .few-P);
-          up-Q = omega (arith, block .q-before, before-lt q j b hb, plan .few-Q);
-          cap-few = rw (block .cap) (cond-le (max && eqb (i + j + 2) (length p + length q)));
-          index = omega (arith, block .first, number-at min p q i a j b);
-          index-few = omega (arith, pair-lt, plan .elements);
-          left-few = omega (arith, block .left, offset-few (pred i) j (omega arith), count-le q j, plan .few-Q);
-          right-few = product-le a (B .step) (omega (arith, count-le p i, plan .few-P)) s;
-          right-more = omega (arith, block .right, offset-few i (pred j) (omega arith));
-          ends-room = omega (arith, pair-lt, plan .room-for-ends);
-          over = plan .over i a j b ha hb ∙ rw (block .p-before, block .q-before, block .cap);
-        }
+  over-pair : length (lists (2 * e + 1))
+      ≡ getD psups (B .pbefore + a) 0 + getD qsups (B .qbefore + b) 0 + B .cap
+  unfolding overPair UpCounts
+  over-pair =
+      plan .over (B .i) a (B .j) b (x .left) (x .right)
+      ∙ rw (
+        ← x .ready .sups-P (B .i) a (x .left),
+        ← x .ready .sups-Q (B .j) b (x .right),
+        x .block .p-before,
+        x .block .q-before,
+        x .block .cap,
+      )
 
-    -- there is room for its lists
-    pair-room : starts lists (2 * e) + length (lists (2 * e)) + length (lists (2 * e + 1)) ≤ ri
-    pair-room = omega (arith, starts-room lists _ e pair-lt, plan .room-for-inc)
+  -- there is room for them
+  pair-room : (starts lists (2 * e) + length (lists (2 * e)) + length (lists (2 * e + 1)) ≤ length inc)
+      × (starts lists (2 * e) + length (lists (2 * e)) + length (lists (2 * e + 1)) ≤ limits .incidences)
+  pair-room =
+      let r = starts-room lists _ e pair-lt in
+      (omega (arith, plan .room-for-inc), omega (arith, plan .incidences))
 
-    pair-few : starts lists (2 * e) + length (lists (2 * e)) + length (lists (2 * e + 1)) ≤ limits .incidences
-    pair-few = omega (arith, starts-room lists _ e pair-lt, plan .incidences)
+  pair-ends : 2 * e + 1 < length ends
+  pair-ends = omega (arith, pair-lt, plan .room-for-ends)
 
-    -- ---- the pair as it is written
+-- ---- a pair as it is written
 
-    module _ (left right : List ℕ) (l : left ≡ used P i a)
-        (r : right ≡ cond (eqb j 0) [] (entries (Q .ends) (Q .inc) (2 * (B .base + B .qbefore + b) + 0))) where
-      abbrev subs : List ℕ
-      subs = subsOf (B .low) left (B .left + b) (B .width) right (B .right + a * B .step)
+-- how its subs follow from those of its members
+abbrev pub shift : Block → ℕ → ℕ → Shift
+shift B a b =
+    record { low = B .low; left = B .left + b; scale = B .qcount; right = B .right + a * B .qbelow }
 
-      -- its subs are those of the plan
-      pair-subs : subs ≡ lists (2 * e)
-      unfolding underPair used
-      pair-subs =
-          rw (
-            l,
-            r,
-            block .low,
-            block .left,
-            block .width,
-            block .right,
-            block .step,
-            block .base,
-            block .q-before,
-            ← base,
-          )
-          (sym (plan .under i a j b ha hb))
+-- what the code has in hand: the subs of its members, how many lie over it, its number and its place
+pub record InHand (kind : Kind) (P Q : Listing) (psups qsups ends inc : List ℕ) (B : Block) (a b : ℕ)
+    (left right : List ℕ) (sups k at : ℕ) : Type 0 where
+  pub pair : PairIn kind P Q psups qsups ends inc B a b
+  pub left-is : left ≡ subsInUse (kind .min) P (B .i) a
+  pub right-is : right ≡ cond (eqb (B .j) 0) [] (entries (Q .ends) (Q .inc) (2 * (B .base + B .qbefore + b) + 0))
+  pub sups-is : sups ≡ getD psups (B .pbefore + a) 0 + getD qsups (B .qbefore + b) 0 + B .cap
+  pub k-is : k ≡ B .from + a * B .qcount + b
+  pub at-is : at ≡ starts (productLists kind P Q) (2 * inBlock kind (P .counts) (Q .counts) B a b)
 
-      module _ (at sups k : ℕ) (ea : at ≡ starts lists (2 * e))
-          (es : sups ≡ getD upP (B .pbefore + a) 0 + getD upQ (B .qbefore + b) 0 + B .cap)
-          (ek : k ≡ B .first + a * B .width + b) where
-        pair-sups : sups ≡ length (lists (2 * e + 1))
-        pair-sups = es ∙ sym (pair-fits .over)
+module _ {kind : Kind} {P Q : Listing} {psups qsups ends inc : List ℕ} {B : Block} {a b : ℕ} {left right : List ℕ}
+    {sups k at : ℕ} (h : InHand kind P Q psups qsups ends inc B a b left right sups k at) where
+  -- its subs are those of the plan
+  pair-subs : subsOf (shift B a b) left right ≡ lists (h .pair) (2 * e (h .pair))
+  unfolding underPair subsInUse
+  pair-subs =
+      let c = h .pair .block in
+      rw (
+        h .left-is,
+        h .right-is,
+        c .low,
+        c .left,
+        c .q-count,
+        c .right,
+        c .q-below,
+        c .base,
+        c .q-before,
+      )
+      (sym (h .pair .ready .plan .under (B .i) a (B .j) b (h .pair .left) (h .pair .right)))
 
-        -- what is asked of the code that writes it
-        pub pair-asked : (at + length subs + sups < width)
-            × ((at + length subs + sups ≤ ri) × ((2 * k + 1 < re) × ((x : ℕ) → In x subs → x < width)))
-        pair-asked =
-            let s = ap length pair-subs in
-            let f = pair-fits in (
-              omega (arith, pair-few, pair-sups),
-              (
-                omega (arith, pair-room, pair-sups),
-                (
-                  omega (arith, f .index, f .ends-room),
-                  λ x h. omega (arith, plan .small (2 * e) x (subst (λ (t : List ℕ). In x t) pair-subs h)),
-                ),
-              ),
-            )
+  pair-sups : sups ≡ length (lists (h .pair) (2 * e (h .pair) + 1))
+  pair-sups = h .sups-is ∙ sym (over-pair (h .pair))
 
-        -- and what that leaves
-        pub pair-put : (n : ℕ) (ends inc ends′ inc′ : List ℕ) → length ends ≡ re → n ≡ at + length subs + sups
-            → Holds at subs inc inc′ → ends′ ≡ set (set ends (2 * k) (at + length subs)) (2 * k + 1) n
-            → Put lists e (number min p q i a j (b + 1)) n ends inc ends′ inc′
-        pair-put n ends inc ends′ inc′ room en h eq =
-            let f = pair-fits in
-            let ke : k ≡ e = ek ∙ f .index in
-            rw (number-more min p q i a j b)
-            (put-one lists e at sups n subs ends inc ends′ inc′ ea pair-subs pair-sups en
-            (omega (arith, f .ends-room)) h (rw ke at eq))
+  pair-number : k ≡ e (h .pair)
+  pair-number = h .k-is ∙ index (h .pair)
+
+  -- what is asked of the code that writes it
+  pub pair-asked : let subs = subsOf (shift B a b) left right in
+      (at + length subs + sups < width)
+      × ((at + length subs + sups ≤ length inc) × ((2 * k + 1 < length ends) × ((x : ℕ) → In x subs → x < width)))
+  pair-asked =
+      let s = ap length pair-subs in
+      let r = pair-room (h .pair) in
+      let n = pair-sups in (
+        omega (arith, h .at-is),
+        (
+          omega (arith, h .at-is),
+          (
+            omega (arith, pair-number, pair-ends (h .pair)),
+            λ x m.
+                let l = subst (λ (t : List ℕ). In x t) pair-subs m in
+                omega (arith, h .pair .ready .plan .small (2 * e (h .pair)) x l),
+          ),
+        ),
+      )
+
+  -- and what that leaves
+  pub pair-put : (n : ℕ) (ends′ inc′ : List ℕ) → n ≡ at + length (subsOf (shift B a b) left right) + sups
+      → LaidList at (subsOf (shift B a b) left right) inc inc′
+      → ends′ ≡ set (set ends (2 * k) (at + length (subsOf (shift B a b) left right))) (2 * k + 1) n
+      → Put (productLists kind P Q) (inBlock kind (P .counts) (Q .counts) B a b)
+      (inBlock kind (P .counts) (Q .counts) B a (b + 1)) n ends inc ends′ inc′
+  pair-put n ends′ inc′ en l eq =
+      rw (number-more (kind .min) (P .counts) (Q .counts) (B .i) a (B .j) b)
+      (put-one (productLists kind P Q) _ at sups n _ ends inc ends′ inc′ (h .at-is) pair-subs pair-sups en
+      (pair-ends (h .pair)) l (rw pair-number at eq))

@@ -1,5 +1,4 @@
-pub mod Rows
-pub mod Fits
 pub mod Sizes
 pub mod Target
+pub mod Fits
 pub mod Extremes

@@ -1,7 +1,7 @@
 -- Layers with an element more at an end: their sizes together and in a row, and the lists of the elements added.
 -- Assumes nothing.
 use mathlib.Core.Path.{_≡_, refl, sym, ap, _∙_}
-use mathlib.Core.Bool.{Bool, true, false, cond}
+use mathlib.Core.Bool.{Bool, true, false}
 use mathlib.Core.List.{List, [], _∷_, _++_, append-nil}
 use Prim.Native.Nat.{ℕ, zero, suc, _+_, _*_, _<_}
 use native.Mathlib.Decide.{decLt}
@@ -15,28 +15,16 @@ use Rattle.listing.specs.Written.{joined, tabulated, listAt, nth}
 use Rattle.listing.proofs.Layers.{derived-length}
 use Rattle.listing.proofs.Written.{tabulated-same, nth-at}
 use Rattle.product_pairs.specs.Trimmed.{bit}
+use Rattle.product_pairs.proofs.Sequences.{sum-first, sum-all}
+use Rattle.product_places.proofs.Parts.{when}
 use Rattle.product_pairs.specs.Grown.{upTo, minSize, minUnder, maxSize, maxUnder, addMax, addMinIf, addMaxIf, grown}
-
-sum-first : (f : ℕ → ℕ) (n : ℕ) → sum f (suc n) ≡ f 0 + sum (λ k. f (suc k)) n
-unfolding sum
-sum-first f zero = omega arith
-sum-first f (suc n) = omega (arith, sum-first f n)
 
 table-first : (f : ℕ → ℕ) (n : ℕ) → tabulated f (suc n) ≡ f 0 ∷ tabulated (λ k. f (suc k)) n
 unfolding tabulated joined
 table-first f zero = refl
 table-first f (suc n) = ap (λ (l : List ℕ). l ++ (f (suc n) ∷ [])) (table-first f n)
 
-sum-ones : (f : ℕ → ℕ) (n : ℕ) → ((i : ℕ) → f i ≡ 1) → sum f n ≡ n
-unfolding sum
-sum-ones f zero h = refl
-sum-ones f (suc n) h = omega (arith, sum-ones f n h, h n)
-
 -- ---- sizes
-
--- a 1 where it is asked for
-abbrev pub one : Bool → List ℕ
-one b = cond b (1 ∷ []) []
 
 module _ (M : Layers) where
   max-in : (r : ℕ) → r < suc (M .top) → maxSize M r ≡ M .size r
@@ -68,13 +56,13 @@ module _ (M : Layers) where
   grow-min-sum false = omega arith
 
   grow-max-table : (max : Bool)
-      → tabulated (addMaxIf max M .size) (suc (addMaxIf max M .top)) ≡ tabulated (M .size) (suc (M .top)) ++ one max
+      → tabulated (addMaxIf max M .size) (suc (addMaxIf max M .top)) ≡ tabulated (M .size) (suc (M .top)) ++ when max 1
   unfolding tabulated joined
   grow-max-table true = rw (tabulated-same (maxSize M) (M .size) (suc (M .top)) max-in, max-top)
   grow-max-table false = sym (append-nil _)
 
   grow-min-table : (min : Bool)
-      → tabulated (addMinIf min M .size) (suc (addMinIf min M .top)) ≡ one min ++ tabulated (M .size) (suc (M .top))
+      → tabulated (addMinIf min M .size) (suc (addMinIf min M .top)) ≡ when min 1 ++ tabulated (M .size) (suc (M .top))
   unfolding minSize
   grow-min-table true = table-first (minSize M) (suc (M .top))
   grow-min-table false = refl
@@ -86,8 +74,8 @@ module _ (min max : Bool) (M : Layers) where
   pub grown-sum : sum (T .size) (suc (T .top)) ≡ bit min + sum (M .size) (suc (M .top)) + bit max
   grown-sum = omega (arith, grow-min-sum (addMaxIf max M) min, grow-max-sum M max)
 
-  pub grown-table : tabulated (T .size) (suc (T .top)) ≡ one min ++ (tabulated (M .size) (suc (M .top)) ++ one max)
-  grown-table = grow-min-table (addMaxIf max M) min ∙ ap (λ (l : List ℕ). one min ++ l) (grow-max-table M max)
+  pub grown-table : tabulated (T .size) (suc (T .top)) ≡ when min 1 ++ (tabulated (M .size) (suc (M .top)) ++ when max 1)
+  grown-table = grow-min-table (addMaxIf max M) min ∙ ap (λ (l : List ℕ). when min 1 ++ l) (grow-max-table M max)
 
 -- ---- the element added below
 
@@ -107,7 +95,7 @@ module _ (max : Bool) (M : Layers) where
   unfolding listAt minUnder sum minSize occurs
   low-sups =
       ap length (nth-at L (derived L) 1 0 0 (omega arith) (omega arith) (omega arith))
-      ∙ derived-length L 0 0 ∙ sum-ones _ _ (λ i. refl) ∙ low-size max
+      ∙ derived-length L 0 0 ∙ sum-all 1 (addMaxIf max M .size 0) ∙ omega (arith, low-size max)
 
 -- ---- the element added above
 
@@ -118,10 +106,7 @@ module _ (M : Layers) where
   unfolding sum minSize
   high-sum true =
       sum-first (minSize (addMax M)) (suc (M .top))
-      ∙ ap suc' (sum-same (maxSize M) (M .size) (suc (M .top)) (max-in M))
-    where
-      suc' : ℕ → ℕ
-      suc' n = 1 + n
+      ∙ ap (λ (n : ℕ). 1 + n) (sum-same (maxSize M) (M .size) (suc (M .top)) (max-in M))
   high-sum false = omega (arith, sum-same (maxSize M) (M .size) (suc (M .top)) (max-in M))
 
   high-size : (min : Bool) → grown min true M .size (grown min true M .top) ≡ 1

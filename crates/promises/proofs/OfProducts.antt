@@ -11,7 +11,7 @@ use Rattle.listing.specs.declared.Built.{Built}
 use Rattle.listing.specs.Answers.{plain, on, _orElse_}
 use Rattle.listing.specs.Listing.{Listing, Limits, limits}
 use Rattle.listing.specs.Shape.{elements}
-use Rattle.listing.specs.Output.{roomTest}
+use Rattle.listing.specs.Output.{shortTest}
 use Rattle.listing.proofs.Answers.{or-fine, or-stop}
 use Rattle.listing.proofs.Broken.{zero-or}
 use Rattle.listing.proofs.Output.{made-answer, made-once}
@@ -44,7 +44,7 @@ plain-or x y p q = go (zero-or (x .no))
     go (inr s) = rw (or-stop x y s) p
 
 size-plain : (m : Limits) (R : Listing) (c e i : ℕ) → Plain (sizeTest m R c e i)
-unfolding sizeTest roomTest
+unfolding sizeTest shortTest
 size-plain m R c e i =
     plain-or _ _ (plain-on (ltb (m .ranks) (length (R .counts))) 33)
     (plain-or _ _ (plain-on (ltb (m .elements) (elements R)) 34)

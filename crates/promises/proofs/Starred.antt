@@ -22,7 +22,7 @@ use Rattle.product_pairs.specs.Grown.{upTo, minSize, minUnder, maxSize, maxUnde
 use Rattle.product_pairs.specs.Product.{layerProduct, productOf}
 use Rattle.product_closure.specs.Result.{nullCase, combCase, resultOf}
 use Rattle.product_sizes.specs.Sizing.{sizeTest}
-use Rattle.listing.specs.Output.{roomTest}
+use Rattle.listing.specs.Output.{shortTest}
 use Rattle.product.specs.Outcome.{factorsTest, restTest, productTest}
 use Rattle.order.specs.Tests.{every}
 use Rattle.flag_change.specs.Flags.{flagAt, flagTest, startTest}
@@ -36,6 +36,6 @@ unfolding decLt has occurs choose sum partAt _orElse_ firstIn firstFor firstOf b
     derived joined tabulated listAt nth written boundedTest entryTest alongTest listTest elementTest incidencesTest climbs
     elementAscent ascentTest subsOfAll thirdTest seenAfter loneTest sectionsTest dyadicTest isValid closed trimSize
     trimUnder block offset position pairOf pairAt leftSubs rightSubs upTo minSize minUnder maxSize maxUnder
-    layerProduct productOf nullCase combCase resultOf roomTest sizeTest factorsTest restTest productTest every flagAt
+    layerProduct productOf nullCase combCase resultOf shortTest sizeTest factorsTest restTest productTest every flagAt
     flagTest startTest common other between changeAt padded changeTest changedOf answered
 starred = refl

@@ -2,12 +2,16 @@
 -- Assumes nothing.
 use native.Mathlib.Omega.{arith}
 use borrow.Author.Needs.{needs}
-use Rattle.product_places.proofs.Laying.{laid-at}
+use Rattle.listing.proofs.Laying.{laid-at}
 use Rattle.listing_sups.proofs.sups.fill.Statement.{statement}
 use Rattle.listing_sups.proofs.sups.fill.Tie as tie
 
+-- where the function began, seen from where the cursors are set
+abbrev begun : tie.After-set-cursors → tie.Start
+begun c = c .before .before .before .before .before .before
+
 elements-before-requires : tie.Need-elements-before-requires
-elements-before-requires c κs = search needs
+elements-before-requires c κs = omega (arith, c .before .before .before .pre .few-ranks)
 
 slice-aggregate-set-cursors : tie.Need-slice-aggregate-set-cursors
 slice-aggregate-set-cursors c = search needs
@@ -19,13 +23,15 @@ slice-aggregate-fill-ranks : tie.Need-slice-aggregate-fill-ranks
 slice-aggregate-fill-ranks c = search needs
 
 fill-ranks-requires : tie.Need-fill-ranks-requires
-fill-ranks-requires c κs = let s = c .before .before .before .before .before .before .before .before .before in
-    let l = c .before .before .before .set-cursors .ensures in
-    let n = c .before .before .before .before .before .elements-before .ensures in (
+fill-ranks-requires c κs =
+    let d = c .before .before .before in
+    let s = begun d in
+    let l = d .set-cursors .ensures in
+    let n = d .before .before .elements-before .ensures in (
       s .pre,
       (
         omega (arith, l .same-length, s .pre .few),
-        λ e h. laid-at _ _ _ _ l e (omega arith),
+        λ e h. laid-at _ _ _ _ l e (omega (arith, s .pre .few)),
       ),
     )
 

@@ -1,4 +1,4 @@
--- `fill_element`. Invariant: k is written for the entries from `from` up to t, at the cursor of each, and the cursors
+-- `fill_element`. Invariant: k is written for the entries lo `lo` up to t, at the cursor of each, and the cursors
 -- are raised by as many. Measure: the entries left.
 -- Assumes nothing.
 use mathlib.Core.Path.{_≡_, _∙_}
@@ -8,49 +8,51 @@ use lib.ListN.{length-take, replicate, length, getD, take, drop}
 use lib.Seq.{take-all}
 use borrow.Author.Needs.{needs}
 use Rattle.order.specs.Lists.{occurs}
-use Rattle.listing_sups.specs.Sups.{Raised, Strewn, between}
+use Rattle.order.proofs.Lists.{occurs-nil}
+use Rattle.listing_sups.specs.Sups.{Raised, Strewn, span}
 use Rattle.listing_sups.proofs.Gathering.{element-read, element-room, element-raised, element-strewn}
 use Rattle.listing_sups.proofs.Strewing.{strewn-none}
-use Rattle.order.proofs.Lists.{occurs-nil}
 use Rattle.listing_sups.proofs.Raising.{raised-none}
 use Rattle.listing_sups.proofs.sups.fill_element.Statement.{statement}
 use Rattle.listing_sups.proofs.sups.fill_element.Tie as tie
 
 abbrev Inv-loop : tie.InvT-loop
-Inv-loop inc₀ next₀ first n from to k t₀ inc next t =
-    (from ≤ t) × (t ≤ to) × Raised first n (λ y. occurs y (take (t - from) (between inc₀ from to))) next₀ next
-    × Strewn first n (λ y. replicate (occurs y (take (t - from) (between inc₀ from to))) k) next₀ inc₀ inc
+Inv-loop inc₀ next₀ from n lo hi k t₀ inc next t =
+    (lo ≤ t) × (t ≤ hi) × Raised from n (λ y. occurs y (take (t - lo) (span inc₀ lo hi))) next₀ next
+    × Strewn from n (λ y. replicate (occurs y (take (t - lo) (span inc₀ lo hi))) k) next₀ inc₀ inc
 
 abbrev μ-loop : tie.MeasureT-loop
-μ-loop inc₀ next₀ first n from to k t₀ inc next t = to - t
+μ-loop inc₀ next₀ from n lo hi k t₀ inc next t = hi - t
 
--- where the function began, seen from later states
-abbrev begun : tie.After-fill-entry-arg2 Inv-loop μ-loop → tie.Start Inv-loop μ-loop
-begun c = c .before .before .before .before .before .before .before .before
+-- where the function began, seen from the loop; the loop's turn, seen from the entry; the entry, seen from behind it
+abbrev begun : tie.In-loop Inv-loop μ-loop → tie.Start Inv-loop μ-loop
+begun c = c .before .before .before .before
+
+abbrev turn : tie.After-wide Inv-loop μ-loop → tie.In-loop Inv-loop μ-loop
+turn c = c .before .before
+
+abbrev passed : tie.After-slice-known5 Inv-loop μ-loop → tie.After-wide Inv-loop μ-loop
+passed c = c .before .before .before .before .before .before .before
 
 -- the entry is of the list
-inside : (c : tie.After-wide Inv-loop μ-loop)
-    → let a = c .before .before .before .before .before .before .args in
-    (a .from ≤ c .before .before .before .loop .t) × (c .before .before .before .loop .t < a .to)
-    × (a .to ≤ length (a .inc .now))
-inside c = (
-  c .before .before .before .loop .inv .0,
-  c .before .before .loop-test .taken,
-  c .before .before .before .before .before .before .pre .1 .0 .1,
-)
+inside : (c : tie.In-loop Inv-loop μ-loop)
+    → let a = begun c .args in
+    let t = c .before .loop .t in
+    (a .lo ≤ t) × (t < a .hi) × (a .hi ≤ length (a .inc .now))
+inside c = (c .before .loop .inv .0, c .loop-test .taken, begun c .pre .1 .0 .1)
 
 entry : (c : tie.After-wide Inv-loop μ-loop)
-    → let a = c .before .before .before .before .before .before .args in
-    c .wide .result ≡ getD (between (a .inc .now) (a .from) (a .to)) (c .before .before .before .loop .t - a .from) 0
+    → let a = begun (turn c) .args in
+    c .wide .result ≡ getD (span (a .inc .now) (a .lo) (a .hi)) (turn c .before .loop .t - a .lo) 0
 entry c =
-    let v = c .before .before .before .loop .inv in
-    c .wide .ensures .0 ∙ element-read _ _ _ _ _ _ _ _ _ _ (inside c)
-    (c .before .before .before .before .before .before .pre .1 .1) (v .3) (v .2)
+    let d = turn c in
+    let v = d .before .loop .inv in
+    c .wide .ensures .0 ∙ element-read _ _ _ _ _ _ _ _ _ _ (inside d) (begun d .pre .1 .1) (v .3) (v .2)
 
 loop-holds : tie.Need-loop-holds Inv-loop μ-loop
 loop-holds c =
     let s = c .before .before in
-    let e : s .args .from - s .args .from ≡ 0 = omega arith in
+    let e : s .args .lo - s .args .lo ≡ 0 = omega arith in
     rw e (
       omega arith,
       omega (arith, s .pre .1 .0),
@@ -64,18 +66,19 @@ mul-wide c = search needs
 slice-read-wide : tie.Need-slice-read-wide Inv-loop μ-loop
 slice-read-wide c =
     let v = c .before .before .loop .inv in
-    omega (arith, v .3 .same-length, c .before .before .before .before .before .pre .1 .0)
+    omega (arith, v .3 .same-length, begun (c .before) .pre .1 .0)
 
 wide-requires : tie.Need-wide-requires Inv-loop μ-loop
 wide-requires c κs = search needs
 
 fill-entry-requires : tie.Need-fill-entry-requires Inv-loop μ-loop
 fill-entry-requires c κs =
-    let s = begun c in
-    let v = c .before .before .before .before .before .loop .inv in
+    let d = turn (c .before .before) in
+    let s = begun d in
+    let v = d .before .loop .inv in
     let m = entry (c .before .before) in
     let b = s .pre .1 .0 in
-    let r = element-room _ _ _ _ _ _ _ _ _ _ (inside (c .before .before)) (s .pre .1 .1) (v .3) (v .2) _ m in (
+    let r = element-room _ _ _ _ _ _ _ _ _ _ (inside d) (s .pre .1 .1) (v .3) (v .2) _ m in (
       (omega (arith, v .2 .same-length, s .pre .0), s .pre .0 .1),
       (λ h. omega (arith, r h, v .3 .same-length), λ h. omega (arith, r h)),
     )
@@ -88,15 +91,15 @@ loop-less c = search needs
 
 loop-again : tie.Need-loop-again Inv-loop μ-loop
 loop-again c =
-    let s = begun (c .before .before .before .before .before) in
-    let v = c .before .before .before .before .before .before .before .before .before .before .loop .inv in
+    let d = turn (passed c) in
+    let s = begun d in
+    let v = d .before .loop .inv in
     let w = c .before .before .before .before .fill-entry .ensures in
-    let m = entry (c .before .before .before .before .before .before .before) in
-    let i = inside (c .before .before .before .before .before .before .before) in (
+    let m = entry (passed c) in (
       omega arith,
       omega arith,
-      element-raised _ _ _ _ _ _ _ _ _ _ i (s .pre .1 .1) (v .3) (v .2) _ _ _ m (w .0) (w .1),
-      element-strewn _ _ _ _ _ _ _ _ _ _ i (s .pre .1 .1) (v .3) (v .2) _ _ _ m (w .0) (w .1),
+      element-raised _ _ _ _ _ _ _ _ _ _ (inside d) (s .pre .1 .1) (v .3) (v .2) _ _ _ m (w .0) (w .1),
+      element-strewn _ _ _ _ _ _ _ _ _ _ (inside d) (s .pre .1 .1) (v .3) (v .2) _ _ _ m (w .0) (w .1),
     )
 
 same-length : tie.Need-same-length Inv-loop μ-loop
@@ -109,10 +112,10 @@ returns : tie.Need-returns Inv-loop μ-loop
 returns c =
     let a = c .before .before .before .before .args in
     let v = c .before .loop .inv in
-    let e : c .before .loop .t ≡ a .to = omega arith in
-    let l = between (a .inc .now) (a .from) (a .to) in
-    let f : take (c .before .loop .t - a .from) l ≡ l =
-    rw e (take-all (a .to - a .from) l (omega (arith, length-take (a .to - a .from) (drop (a .from) (a .inc .now))))) in
+    let e : c .before .loop .t ≡ a .hi = omega arith in
+    let l = span (a .inc .now) (a .lo) (a .hi) in
+    let f : take (c .before .loop .t - a .lo) l ≡ l =
+    rw e (take-all (a .hi - a .lo) l (omega (arith, length-take (a .hi - a .lo) (drop (a .lo) (a .inc .now))))) in
     (rw f at (v .2), rw f at (v .3))
 
 pub fill-element-spec : {M : Type 1} → statement M

@@ -1,4 +1,4 @@
--- `fill_ranks`. Invariant: the sups of the ranks below `rank` are filled in, `first` is the number of its first
+-- `fill_ranks`. Invariant: the sups of the ranks below `rank` are filled in, `from` is the number of its first
 -- element, and the cursors from there on stand as at the start. Measure: the ranks left.
 -- Assumes nothing.
 use mathlib.Core.Path.{_≡_, refl, sym, _∙_}
@@ -6,52 +6,78 @@ use Prim.Native.Nat.{ℕ, _+_, _-_, _*_, _≤_, _<_}
 use native.Mathlib.Omega.{arith}
 use lib.ListN.{length, getD}
 use borrow.Author.Needs.{needs}
-use Rattle.listing.specs.Listing.{before}
+use Rattle.listing.specs.Listing.{Listing, listing, before}
 use Rattle.listing.proofs.Listing.{before-zero, before-next, before-all}
-use Rattle.listing_sups.specs.Sups.{Filled}
-use Rattle.listing_sups.proofs.SupsFilled.{lists-stay, rank-ready, filled-next, filled-none, filled-all}
+use Rattle.listing_sups.specs.Sups.{SupsFilled}
+use Rattle.listing_sups.proofs.SupsFilled.{Turn, lists-stay, rank-ready, filled-next, filled-none}
+use Rattle.listing_sups.proofs.SupsFilled.{filled-all}
 use Rattle.listing_sups.proofs.sups.fill_ranks.Statement.{statement}
 use Rattle.listing_sups.proofs.sups.fill_ranks.Tie as tie
 
 abbrev Inv-loop : tie.InvT-loop
-Inv-loop counts ends inc₀ next₀ first₀ rank₀ inc next first rank = (rank < length counts) × (first ≡ before counts rank)
+Inv-loop counts ends inc₀ next₀ from₀ rank₀ inc next from rank = (rank ≤ length counts) × (from ≡ before counts rank)
     × (length next ≡ length next₀)
     × ((e : ℕ) → before counts rank ≤ e → e < before counts (length counts) → getD next e 0 ≡ getD ends (2 * e) 0)
-    × Filled counts ends inc₀ rank inc
+    × SupsFilled (listing counts ends inc₀) rank inc
 
 abbrev μ-loop : tie.MeasureT-loop
-μ-loop counts ends inc₀ next₀ first₀ rank₀ inc next first rank = length counts - rank
+μ-loop counts ends inc₀ next₀ from₀ rank₀ inc next from rank = length counts - rank
 
--- where the function began, seen from later states
-abbrev begun : tie.After-fill-rank-arg2 Inv-loop μ-loop → tie.Start Inv-loop μ-loop
-begun c = c .before .before .before .before .before .before .before .before .before .before .before .before
+-- where the function began, seen from the loop; the loop, seen from the call; and the call, seen from behind it
+abbrev begun : tie.At-loop Inv-loop μ-loop → tie.Start Inv-loop μ-loop
+begun c = c .before .before .before .before .before
+
+abbrev turn : tie.After-fill-rank-arg2 Inv-loop μ-loop → tie.At-loop Inv-loop μ-loop
+turn c = c .before .before .before .before .before .before .before
+
+abbrev called : tie.After-slice-known4 Inv-loop μ-loop → tie.After-fill-rank-arg2 Inv-loop μ-loop
+called c = c .before .before .before .before .before
+
+abbrev L : tie.Start Inv-loop μ-loop → Listing
+L s = listing (s .args .counts .now) (s .args .ends .now) (s .args .inc .now)
+
+-- how many elements the rank has, and the rank above
+sizes : (c : tie.After-fill-rank-arg2 Inv-loop μ-loop)
+    → let k = begun (turn c) .args .counts .now in
+    let r = turn c .loop .rank in
+    (c .before .before .before .before .wide .result ≡ getD k r 0) × (c .before .before .wide2 .result ≡ getD k (r + 1) 0)
+sizes c = (c .before .before .before .before .wide .ensures .0, c .before .before .wide2 .ensures .0)
 
 -- where the rank above begins, where it ends, and that both are within the lists
 places : (c : tie.After-fill-rank-arg2 Inv-loop μ-loop)
-    → let k = begun c .args .counts .now in
-    let r = c .before .before .before .before .before .before .before .loop .rank in
-    (c .before .before .before .before .before .before .before .loop .first
-    + c .before .before .before .before .wide .result ≡ before k (r + 1))
-    × (c .before .before .before .before .before .before .before .loop .first
-    + c .before .before .before .before .wide .result + c .before .before .wide2 .result ≡ before k (r + 1 + 1))
+    → let k = begun (turn c) .args .counts .now in
+    let r = turn c .loop .rank in
+    let here = turn c .loop .from + c .before .before .before .before .wide .result in
+    (here ≡ before k (r + 1)) × (here + c .before .before .wide2 .result ≡ before k (r + 1 + 1))
     × (before k (r + 1 + 1) ≤ before k (length k))
 places c =
-    let k = begun c .args .counts .now in
-    let r = c .before .before .before .before .before .before .before .loop .rank in
-    let v = c .before .before .before .before .before .before .before .loop .inv .1 in
-    let n = c .before .before .before .before .wide .ensures .0 in
-    let m = c .before .before .wide2 .ensures .0 in
+    let k = begun (turn c) .args .counts .now in
+    let r = turn c .loop .rank in
+    let v = turn c .loop .inv .1 in
+    let n = sizes c in
     omega (arith, before-next k r, before-next k (r + 1), before-all k (r + 1 + 1))
+
+-- what is known at the call
+here : (c : tie.After-fill-rank-arg2 Inv-loop μ-loop)
+    → let l = turn c .loop in
+    Turn (L (begun (turn c))) (l .rank) (l .from) (c .before .before .before .before .wide .result)
+    (l .from + c .before .before .before .before .wide .result) (c .before .before .wide2 .result) (l .next) (l .inc)
+here c =
+    let v = turn c .loop .inv in
+    record {
+      ready = begun (turn c) .pre .0;
+      filled = v .4;
+      from-is = v .1;
+      n-is = sizes c .0;
+      here-is = places c .0;
+      m-is = sizes c .1;
+      cursors = v .3;
+    }
 
 loop-holds : tie.Need-loop-holds Inv-loop μ-loop
 loop-holds c =
-    let s = c .before .before .before .before in (
-      s .pre .0 .ranks .0,
-      sym (before-zero (s .args .counts .now)),
-      refl,
-      λ e h l. s .pre .1 .1 e l,
-      filled-none _ _ _ (s .pre .0),
-    )
+    let s = c .before .before .before .before in
+    (omega arith, sym (before-zero (s .args .counts .now)), refl, λ e h l. s .pre .1 .1 e l, filled-none (L s))
 
 add-loop : tie.Need-add-loop Inv-loop μ-loop
 add-loop c = search needs
@@ -80,28 +106,21 @@ wide-requires-2 c κs = search needs
 add-fill-rank : tie.Need-add-fill-rank Inv-loop μ-loop
 add-fill-rank c =
     let p = places c in
-    omega (arith, begun c .pre .0 .few)
+    omega (arith, begun (turn c) .pre .0 .few)
 
 fill-rank-requires : tie.Need-fill-rank-requires Inv-loop μ-loop
 fill-rank-requires c κs =
-    let s = begun c in
+    let s = begun (turn c) in
     let p = places c in
-    let v = c .before .before .before .before .before .before .before .loop .inv in (
+    let v = turn c .loop .inv in (
       omega (arith, v .2, s .pre .1 .0, c .before .before .wide2 .ensures .1),
-      (
-        lists-stay _ _ _ (s .pre .0) _ _ (v .4),
-        (
-          omega (arith, s .pre .0 .two-each),
-          rank-ready _ _ _ (s .pre .0) _ _ (v .4) _ _ _ _ _ (v .1) (c .before .before .before .before .wide .ensures .0)
-              (p .0) (c .before .before .wide2 .ensures .0) (v .3),
-        ),
-      ),
+      (lists-stay (L s) (s .pre .0) _ _ (v .4), (omega (arith, s .pre .0 .two-each), rank-ready (here c))),
     )
 
-add-first : tie.Need-add-first Inv-loop μ-loop
-add-first c =
-    let p = places (c .before .before .before .before .before) in
-    omega (arith, begun (c .before .before .before .before .before) .pre .0 .few)
+add-from : tie.Need-add-from Inv-loop μ-loop
+add-from c =
+    let p = places (called c) in
+    omega (arith, begun (turn (called c)) .pre .0 .few)
 
 add-rank : tie.Need-add-rank Inv-loop μ-loop
 add-rank c = search needs
@@ -111,18 +130,14 @@ loop-less c = search needs
 
 loop-again : tie.Need-loop-again Inv-loop μ-loop
 loop-again c =
-    let s = begun (c .before .before .before .before .before) in
-    let p = places (c .before .before .before .before .before) in
-    let v =
-    c .before .before .before .before .before .before .before .before .before .before .before .before .loop .inv in
+    let p = places (called c) in
+    let v = turn (called c) .loop .inv in
     let w = c .before .before .before .before .fill-rank .ensures in (
-      c .before .before .before .before .before .before .before .before .before .before .before .loop-test .taken,
+      omega arith,
       p .0,
       w .0 .same-length ∙ v .2,
-      λ e h l. w .0 .after e (omega (arith, p .0)) ∙ v .3 e (omega (arith, p .0, v .1)) l,
-      filled-next _ _ _ (s .pre .0) _ _ (v .4) _ _ _ _ _ (v .1)
-          (c .before .before .before .before .before .before .before .before .before .wide .ensures .0) (p .0)
-          (c .before .before .before .before .before .before .before .wide2 .ensures .0) (v .3) _ (w .1),
+      λ e h l. w .0 .later e (omega (arith, p .0)) ∙ v .3 e (omega (arith, p .0, v .1)) l,
+      filled-next (here (called c)) _ (w .1),
     )
 
 same-length : tie.Need-same-length Inv-loop μ-loop
@@ -133,9 +148,8 @@ same-length-2 c = c .before .loop .inv .2
 
 returns : tie.Need-returns Inv-loop μ-loop
 returns c =
-    let s = c .before .before .before .before .before .before in
     let v = c .before .loop .inv in
-    filled-all _ _ _ (s .pre .0) _ _ (omega (arith, v .0)) (v .4)
+    filled-all (L (begun (c .before))) _ _ (v .0) (c .loop-test .left) (v .4)
 
 pub fill-ranks-spec : {M : Type 1} → statement M
 fill-ranks-spec =
@@ -154,7 +168,7 @@ fill-ranks-spec =
     wide-requires-2
     add-fill-rank
     fill-rank-requires
-    add-first
+    add-from
     add-rank
     loop-less
     loop-again

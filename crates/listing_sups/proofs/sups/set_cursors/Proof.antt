@@ -6,8 +6,8 @@ use Prim.Native.Nat.{_+_, _-_, _*_, _≤_}
 use native.Mathlib.Omega.{arith}
 use lib.ListN.{getD}
 use borrow.Author.Needs.{needs}
-use Rattle.product_places.specs.Laid.{Laid}
-use Rattle.product_places.proofs.Laying.{laid-none, laid-next}
+use Rattle.listing.specs.Laid.{Laid}
+use Rattle.listing.proofs.Laying.{laid-none, laid-next}
 use Rattle.listing_sups.proofs.sups.set_cursors.Statement.{statement}
 use Rattle.listing_sups.proofs.sups.set_cursors.Tie as tie
 

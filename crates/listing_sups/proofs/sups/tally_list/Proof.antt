@@ -7,21 +7,27 @@ use lib.Seq.{take-all}
 use lib.ListN.{length, take}
 use borrow.Author.Needs.{needs}
 use Rattle.order.specs.Lists.{occurs}
-use Rattle.listing_sups.specs.Sups.{Raised}
 use Rattle.order.proofs.Lists.{occurs-nil}
+use Rattle.listing_sups.specs.Sups.{Raised}
 use Rattle.listing_sups.proofs.Raising.{occurs-take, raised-none, raised-then, list-few}
 use Rattle.listing_sups.proofs.sups.tally_list.Statement.{statement}
 use Rattle.listing_sups.proofs.sups.tally_list.Tie as tie
 
 abbrev Inv-loop : tie.InvT-loop
-Inv-loop up₀ first n list t₀ up t = (t ≤ length list) × Raised first n (λ y. occurs y (take t list)) up₀ up
+Inv-loop up₀ from n list t₀ up t = (t ≤ length list) × Raised from n (λ y. occurs y (take t list)) up₀ up
 
 abbrev μ-loop : tie.MeasureT-loop
-μ-loop up₀ first n list t₀ up t = length list - t
+μ-loop up₀ from n list t₀ up t = length list - t
 
--- where the function began, seen from later states
-abbrev begun : tie.After-slice-known2 Inv-loop μ-loop → tie.Start Inv-loop μ-loop
-begun c = c .before .before .before .before .before .before .before .before .before .before
+-- where the function began, seen from the loop; the loop, seen from the entry; and the entry, seen from behind it
+abbrev begun : tie.At-loop Inv-loop μ-loop → tie.Start Inv-loop μ-loop
+begun c = c .before .before .before
+
+abbrev turn : tie.After-wide Inv-loop μ-loop → tie.At-loop Inv-loop μ-loop
+turn c = c .before .before .before .before
+
+abbrev entered : tie.After-slice-known2 Inv-loop μ-loop → tie.After-wide Inv-loop μ-loop
+entered c = c .before .before .before
 
 loop-holds : tie.Need-loop-holds Inv-loop μ-loop
 loop-holds c = (omega arith, raised-none _ _ _ _ (λ x h. occurs-nil x))
@@ -37,11 +43,10 @@ wide-requires c κs = search needs
 
 tally-entry-requires : tie.Need-tally-entry-requires Inv-loop μ-loop
 tally-entry-requires c κs =
-    let s = c .before .before .before .before .before .before .before in
-    let v = c .before .before .before .before .loop .inv in (
+    let s = begun (turn c) in
+    let v = turn c .loop .inv in (
       omega (arith, v .1 .same-length, s .pre .0),
-      list-few _ _ _ _ _ _ (s .pre .1) (v .1)
-          (c .before .before .before .loop-test .taken) _,
+      list-few _ _ _ _ _ _ (s .pre .1) (v .1) (c .before .before .before .loop-test .taken) _,
     )
 
 add-t : tie.Need-add-t Inv-loop μ-loop
@@ -52,13 +57,11 @@ loop-less c = search needs
 
 loop-again : tie.Need-loop-again Inv-loop μ-loop
 loop-again c =
-    let v = c .before .before .before .before .before .before .before .loop .inv in
-    let l = begun c .args .list .now in (
+    let v = turn (entered c) .loop .inv in
+    let l = begun (turn (entered c)) .args .list .now in (
       omega arith,
       raised-then _ _ _ _ _ _ _ _ (v .1) (c .before .before .tally-entry .ensures)
-          (λ y. rw (c .before .before .before .wide .ensures .0)
-          (occurs-take y l (c .before .before .before .before .before .before .before .loop .t)
-          (c .before .before .before .before .before .before .loop-test .taken))),
+          (λ y. occurs-take y l _ _ (entered c .before .before .before .loop-test .taken) (entered c .wide .ensures .0)),
     )
 
 same-length : tie.Need-same-length Inv-loop μ-loop
@@ -66,7 +69,7 @@ same-length c = c .before .loop .inv .1 .same-length
 
 returns : tie.Need-returns Inv-loop μ-loop
 returns c =
-    let l = c .before .before .before .before .args .list .now in
+    let l = begun (c .before) .args .list .now in
     let v = c .before .loop .inv .1 in
     let e : take (c .before .loop .t) l ≡ l = take-all (c .before .loop .t) l (c .loop-test .left) in
     rw e at v

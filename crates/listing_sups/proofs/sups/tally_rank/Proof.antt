@@ -8,24 +8,27 @@ use lib.ListN.{getD}
 use borrow.Author.Needs.{needs}
 use Rattle.order.specs.Sums.{sum}
 use Rattle.order.specs.Lists.{occurs}
-use Rattle.listing.specs.Listing.{start, entries}
-use Rattle.product_places.proofs.Numbers.{sum-none}
-use Rattle.listing_sups.specs.Sups.{Raised}
+use Rattle.listing.specs.Listing.{start}
+use Rattle.order.proofs.Sums.{sum-none}
+use Rattle.listing_sups.specs.Sups.{subsAt, Raised}
 use Rattle.listing_sups.proofs.Raising.{raised-none, rank-next, rank-few, rank-most}
 use Rattle.listing_sups.proofs.sups.tally_rank.Statement.{statement}
 use Rattle.listing_sups.proofs.sups.tally_rank.Tie as tie
 
 abbrev Inv-loop : tie.InvT-loop
-Inv-loop up₀ first n ends inc here m a₀ up a =
-    (a ≤ m) × Raised first n (λ y. sum (λ b. occurs y (entries ends inc (2 * (here + b) + 0))) a) up₀ up
+Inv-loop up₀ from n ends inc here m a₀ up a =
+    (a ≤ m) × Raised from n (λ y. sum (λ b. occurs y (subsAt ends inc here b)) a) up₀ up
     × ((k : ℕ) → getD up k 0 ≤ start ends (2 * (here + a)))
 
 abbrev μ-loop : tie.MeasureT-loop
-μ-loop up₀ first n ends inc here m a₀ up a = m - a
+μ-loop up₀ from n ends inc here m a₀ up a = m - a
 
--- where the function began, seen from later states
-abbrev begun : tie.After-slice-known2 Inv-loop μ-loop → tie.Start Inv-loop μ-loop
-begun c = c .before .before .before .before .before .before .before .before .before .before
+-- where the function began, seen from the loop; and the loop, seen from the list that is read
+abbrev begun : tie.At-loop Inv-loop μ-loop → tie.Start Inv-loop μ-loop
+begun c = c .before .before .before .before
+
+abbrev turn : tie.After-list-of Inv-loop μ-loop → tie.At-loop Inv-loop μ-loop
+turn c = c .before .before .before
 
 loop-holds : tie.Need-loop-holds Inv-loop μ-loop
 loop-holds c =
@@ -46,13 +49,13 @@ list-of-requires c κs =
 
 tally-list-requires : tie.Need-tally-list-requires Inv-loop μ-loop
 tally-list-requires c κs =
-    let s = c .before .before .before .before .before .before .before in
-    let v = c .before .before .before .loop .inv in
-    let e = s .args .here + c .before .before .before .loop .a in (
+    let l = turn c in
+    let s = begun l in
+    let v = l .loop .inv in
+    let e = s .args .here + l .loop .a in (
       omega (arith, v .1 .same-length, s .pre .0),
-      rank-few _ _ (s .pre .1 .0) e (omega (arith, s .pre .1 .1 .0)) (c .before .before .before .loop .up) (v .2) _
-          (c .list-of .ensures)
-          (omega (arith, c .before .before .before .before .before .shared-slice-known .given (2 * e))),
+      rank-few _ _ (s .pre .1 .0) e (omega (arith, s .pre .1 .1 .0)) (l .loop .up) (v .2) _ (c .list-of .ensures)
+          (omega (arith, l .before .before .shared-slice-known .given (2 * e))),
     )
 
 add-a : tie.Need-add-a Inv-loop μ-loop
@@ -63,18 +66,18 @@ loop-less c = search needs
 
 loop-again : tie.Need-loop-again Inv-loop μ-loop
 loop-again c =
-    let s = begun c in
-    let v = c .before .before .before .before .before .before .loop .inv in
-    let e = s .args .here + c .before .before .before .before .before .before .loop .a in
-    let z : s .args .here + (c .before .before .before .before .before .before .loop .a + 1) ≡ e + 1 = omega arith in (
+    let d = c .before .before .before in
+    let l = turn d in
+    let s = begun l in
+    let v = l .loop .inv in
+    let w = c .before .before .tally-list .ensures in
+    let e = s .args .here + l .loop .a in
+    let z : s .args .here + (l .loop .a + 1) ≡ e + 1 = omega arith in (
       omega arith,
-      rank-next _ _ (s .pre .1 .0) _ _ _ _ _ _ _ _ (v .1) (c .before .before .tally-list .ensures)
-          (c .before .before .before .list-of .ensures),
+      rank-next _ _ _ _ _ _ _ _ _ _ (v .1) w (d .list-of .ensures),
       rw z
-          (rank-most _ _ (s .pre .1 .0) e (omega (arith, s .pre .1 .1 .0))
-          (c .before .before .before .before .before .before .loop .up) (v .2) _
-          (c .before .before .before .list-of .ensures)
-          _ _ _ (c .before .before .tally-list .ensures)),
+          (rank-most _ _ (s .pre .1 .0) e (omega (arith, s .pre .1 .1 .0)) (l .loop .up) (v .2) _
+          (d .list-of .ensures) _ _ _ w),
     )
 
 same-length : tie.Need-same-length Inv-loop μ-loop

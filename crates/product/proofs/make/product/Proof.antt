@@ -1,17 +1,19 @@
 -- `product`: where the sizes pass, all that the builder asks holds, and what it writes is the product.
 -- Assumes nothing.
-use mathlib.Core.Path.{_≡_}
+use mathlib.Core.Path.{_≡_, _∙_}
 use native.Mathlib.Omega.{arith}
 use borrow.Author.Needs.{needs}
 use lib.ListN.{length}
 use Rattle.listing.specs.Listing.{Listing, listing, limits}
 use Rattle.listing.proofs.Answers.{no-of}
 use Rattle.product_pairs.specs.Product.{productOf}
+use Rattle.product_places.specs.declared.Kind.{Kind}
 use Rattle.product_sizes.specs.Sizing.{sizeTest}
 use Rattle.product_sizes.specs.Sizing.{Measures}
-use Rattle.product_sizes.proofs.Planned.{built-is, build-asked}
+use Rattle.product_sizes.proofs.Counted.{measured-by}
+use Rattle.product_plan.proofs.Planned.{built-is, build-asked}
 use Rattle.product_sizes.proofs.Parts.{usable-shaped, usable-high}
-use Rattle.product_sizes.proofs.Tested.{Passed, sizes-passed}
+use Rattle.product_sizes.proofs.Tested.{listing-tested, Passed, sizes-passed}
 use Rattle.listing.proofs.Output.{made-refused, made-written}
 use Rattle.product.proofs.make.product.Statement.{statement}
 use Rattle.product.proofs.make.product.Tie as tie
@@ -31,6 +33,10 @@ tried c = c .before .before .before .before .before .before
 abbrev done : tie.After-slice-known6 → tie.After-build
 done c = c .before .before .before .before .before .before
 
+-- which product it is
+abbrev kind : tie.Start → Kind
+kind s = record { min = s .args .min; max = s .args .max }
+
 -- the factors, and their product
 abbrev left : tie.Start → Listing
 left s = listing (s .args .pcounts .now) (s .args .pends .now) (s .args .pinc .now)
@@ -48,13 +54,13 @@ measures c =
     let d = c .before in
     let a = d .before .before .count-used .ensures .1 in
     let b = d .before .count-used2 .ensures .1 in
-    d .product-sizes .ensures _ _ (s .pre .0) (s .pre .1) a b
+    measured-by (kind s) (s .pre .0) (s .pre .1) a b (d .product-sizes .ensures)
 
 -- the test's answer is that of the product's sizes
 tested : (c : tie.After-check-sizes) → let a = start c .args in
     c .check-sizes .result
     ≡ sizeTest limits (result (start c)) (length (a .counts .now)) (length (a .ends .now)) (length (a .inc .now))
-tested c = c .check-sizes .ensures _ (measures c)
+tested c = c .check-sizes .ensures ∙ listing-tested _ (result (start c)) _ _ (measures c)
 
 -- past the test they are within the limits and the room
 passed : (c : tie.Else1) → let s = start (c .before .before) in
@@ -100,7 +106,7 @@ build-requires c κs =
     let h = passed d in
     let p = r .before .range .ensures in
     let q = r .range2 .ensures in
-    build-asked _ _ _ _ (s .pre .0) (s .pre .1) _ _ p q (a .counts .now) (a .ends .now) (a .inc .now) h
+    build-asked (kind s) _ _ (s .pre .0) (s .pre .1) _ _ p q (a .counts .now) (a .ends .now) (a .inc .now) h
 
 written-requires : tie.Need-written-requires
 written-requires c κs =
@@ -126,7 +132,7 @@ returns-2 c =
     let s = start t in
     let z = d .if1 .left in
     let w = c .written .ensures _ (measures t) z in
-    let e = built-is _ _ _ _ (s .pre .0) (s .pre .1) _ _ (r .before .range .ensures) (r .range2 .ensures) in
+    let e = built-is (kind s) _ _ (s .pre .0) (s .pre .1) _ _ (r .before .range .ensures) (r .range2 .ensures) in
     made-written _ _ z _ (tested t) _ _ _ w
     (rw e at (b .build .ensures .0)) (rw e at (b .build .ensures .1 .0)) (rw e at (b .build .ensures .1 .1))
 

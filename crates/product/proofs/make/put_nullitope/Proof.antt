@@ -1,13 +1,13 @@
 -- `put_nullitope`: its sizes are 1, 1 and 0; where there is room, three numbers are written.
 -- Assumes nothing.
-use mathlib.Core.Path.{_≡_, refl}
+use mathlib.Core.Path.{_≡_, refl, _∙_}
 use native.Mathlib.Omega.{arith}
 use borrow.Author.Needs.{needs}
 use lib.ListN.{length, length-set}
 use Rattle.listing.specs.Listing.{limits}
 use Rattle.listing.proofs.Answers.{no-of}
 use Rattle.listing.specs.Cells.{nullitope}
-use Rattle.product_sizes.proofs.Tested.{Passed, sizes-passed}
+use Rattle.product_sizes.proofs.Tested.{listing-tested, Passed, sizes-passed}
 use Rattle.product_sizes.specs.Sizing.{sizeTest}
 use Rattle.listing.proofs.Output.{made-refused, made-written}
 use Rattle.product.proofs.Made.{nullitope-measures, one-set, two-set}
@@ -18,7 +18,7 @@ use Rattle.product.proofs.make.put_nullitope.Tie as tie
 tested : (c : tie.After-check-sizes) → let a = c .before .before .before .before .args in
     c .check-sizes .result
     ≡ sizeTest limits nullitope (length (a .counts .now)) (length (a .ends .now)) (length (a .inc .now))
-tested c = c .check-sizes .ensures nullitope nullitope-measures
+tested c = c .check-sizes .ensures ∙ listing-tested _ nullitope _ _ nullitope-measures
 
 -- past the test there is room
 passed : (c : tie.Else1) → let a = c .before .before .before .before .before .before .args in

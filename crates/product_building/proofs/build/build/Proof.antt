@@ -1,53 +1,70 @@
--- `build`: the up-counts are right, so the plan holds; what put_counts, put_elements and fill leave is the product.
+-- `build`: the sups are counted, so the elements can be written; what put_counts, put_elements and fill leave is the
+-- product.
 -- Assumes nothing.
 use mathlib.Core.Path.{sym}
-use Prim.Native.Nat.{_≤_}
 use native.Mathlib.Omega.{arith}
 use lib.Seq.{length-take-le}
-use lib.ListN.{length}
 use borrow.Author.Needs.{needs}
-use Rattle.listing.specs.Listing.{limits}
-use Rattle.product_places.specs.Factors.{Factor, part}
-use Rattle.product_places.proofs.Numbers.{bit-le}
-use Rattle.product_writing.specs.Pairs.{Plan}
-use Rattle.product_building.specs.Built.{countsOf}
-use Rattle.product_building.proofs.Built.{zeros, ups, ups-right, counts-room, fill-asked, built-all}
+use Rattle.listing.specs.Listing.{Listing, listing, limits}
+use Rattle.product_building.proofs.Built.{zeros, counted-from, Buildable, counts-room, BeforeFill}
+use Rattle.product_building.proofs.Built.{fill-asked, built-all}
 use Rattle.product_building.proofs.build.build.Statement.{statement}
 use Rattle.product_building.proofs.build.build.Tie as tie
 
--- where the function began, seen from later states
-abbrev begun : tie.After-upp → tie.Start
-begun c = c .before .before .before .before .before .before .before .before .before .before .before
+-- where the function began, seen from where the slices are known; and each step, seen from the next: the sups of the
+-- first factor counted, those of the second, the counts written, the elements written, the sups filled in
+abbrev begun : tie.After-slice-known2 → tie.Start
+begun c = c .before .before .before .before .before .before .before .before
 
-abbrev begun₂ : tie.After-put-counts-arg → tie.Start
-begun₂ c = begun (c .before .before .before .before .before .before)
+abbrev first : tie.After-psups → tie.Start
+first c = begun (c .before .before .before)
 
-abbrev begun₃ : tie.After-put-elements-arg2 → tie.Start
-begun₃ c = begun₂ (c .before .before .before .before .before .before .before)
+abbrev second : tie.After-qsups → tie.After-psups
+second c = c .before .before .before
 
-abbrev begun₄ : tie.After-fill-arg3 → tie.Start
-begun₄ c = begun₃ (c .before .before .before .before .before .before .before .before)
+abbrev counts : tie.After-put-counts-arg → tie.After-qsups
+counts c = c .before .before .before
 
-abbrev P : tie.Start → Factor
-P s = part (s .args .min) (s .args .p .now) (s .args .pends .now) (s .args .pinc .now)
+abbrev elements : tie.After-put-elements-arg2 → tie.After-put-counts-arg
+elements c = c .before .before .before .before .before .before .before
 
-abbrev Q : tie.Start → Factor
-Q s = part (s .args .min) (s .args .q .now) (s .args .qends .now) (s .args .qinc .now)
+abbrev laid : tie.After-slice-known6 → tie.After-put-elements-arg2
+laid c = c .before .before .before .before .before
 
--- the plan, at up-counts that are right
-sound : (s : tie.Start)
-    → Plan (s .args .min) (s .args .max) (P s) (Q s) (ups (P s)) (ups (Q s)) (length (s .args .ends .now))
-    (length (s .args .inc .now))
-sound s = s .pre .0 (ups (P s)) (ups (Q s)) (ups-right (P s)) (ups-right (Q s))
+abbrev filled : tie.After-fill-arg3 → tie.After-slice-known6
+filled c = c .before .before .before
 
--- the counts fit
-fits : (s : tie.Start)
-    → length (countsOf (s .args .min) (s .args .max) (s .args .p .now) (s .args .q .now))
-    ≤ length (s .args .counts .now)
-fits s =
+abbrev P : tie.Start → Listing
+P s = listing (s .args .p .now) (s .args .pends .now) (s .args .pinc .now)
+
+abbrev Q : tie.Start → Listing
+Q s = listing (s .args .q .now) (s .args .qends .now) (s .args .qinc .now)
+
+ready : (s : tie.Start)
+    → let a = s .args in
+    Buildable (a .kind) (P s) (Q s) (a .counts .now) (a .ends .now) (a .inc .now)
+ready s = record { plan = s .pre .0; room = s .pre .1 }
+
+-- what is written before the sups are filled in
+written : (c : tie.After-slice-known6)
+    → let d = elements (laid c) in
+    let s = first (second (counts d)) in
     let a = s .args in
-    counts-room (a .min) (a .max) (P s) (Q s) (ups (P s)) (ups (Q s)) (a .counts .now) (a .ends .now) (a .inc .now)
-    (sound s) (s .pre .1 .0) (s .pre .1 .1)
+    let w = laid c .before .before .before .before .before .before in
+    let v = c .before .before .before .before in
+    BeforeFill (a .kind) (P s) (Q s) (a .counts .now) (a .ends .now) (a .inc .now) (w .put-counts .last .1 .1 .1 .0)
+    (v .put-elements .last .1 .1 .1 .1 .1 .1 .1 .1 .1 .0) (v .put-elements .last .1 .1 .1 .1 .1 .1 .1 .1 .1 .1 .0)
+    (w .put-counts .result) (v .put-elements .result)
+written c =
+    let w = laid c .before .before .before .before .before .before .put-counts .ensures in
+    let v = c .before .before .before .before .put-elements .ensures in
+    record {
+      ready = ready (first (second (counts (elements (laid c)))));
+      k-is = w .0;
+      counts = w .1;
+      n-is = v .0;
+      elements = v .1;
+    }
 
 bit-of-requires : tie.Need-bit-of-requires
 bit-of-requires c κs = search needs
@@ -57,32 +74,26 @@ slice-aggregate-tally c = search needs
 
 tally-requires : tie.Need-tally-requires
 tally-requires c κs =
-    let s = begun c in
+    let g = first c .pre .0 in
     let e = c .before .bit-of .ensures in
-    let g = sound s in (
-      omega (arith, g .ranks-P, bit-le (s .args .min)),
-      (g .lists-P, (omega (arith, g .ends-P), (g .few-P, zeros (limits .elements)))),
-    )
+    (g .lists-P, (omega (arith, g .ends-P), (g .few-P, zeros (limits .elements))))
 
 slice-aggregate-tally-2 : tie.Need-slice-aggregate-tally-2
 slice-aggregate-tally-2 c = search needs
 
 tally-requires-2 : tie.Need-tally-requires-2
 tally-requires-2 c κs =
-    let s = begun (c .before .before .before) in
-    let e = c .before .before .before .before .bit-of .ensures in
-    let g = sound s in (
-      omega (arith, g .ranks-Q, bit-le (s .args .min)),
-      (g .lists-Q, (omega (arith, g .ends-Q), (g .few-Q, zeros (limits .elements)))),
-    )
+    let g = first (second c) .pre .0 in
+    let e = second c .before .bit-of .ensures in
+    (g .lists-Q, (omega (arith, g .ends-Q), (g .few-Q, zeros (limits .elements))))
 
 put-counts-requires : tie.Need-put-counts-requires
 put-counts-requires c κs =
-    let s = begun₂ c in
-    let g = sound s in
+    let s = first (second (counts c)) in
+    let g = s .pre .0 in
     let p = g .ranks-P in
     let q = g .ranks-Q in
-    (omega arith, (g .elements, fits s))
+    ((p .0, p .1, q .0, q .1), (g .elements, counts-room (ready s)))
 
 slice-aggregate-put-elements : tie.Need-slice-aggregate-put-elements
 slice-aggregate-put-elements c = search needs
@@ -92,48 +103,42 @@ slice-aggregate-put-elements-2 c = search needs
 
 put-elements-requires : tie.Need-put-elements-requires
 put-elements-requires c κs =
-    let s = begun₃ c in
-    let d = c .before .before .before .before .before .before .before .before .before in
-    let e = d .before .before .before .before .before .bit-of .ensures in
-    s .pre .0 _ _ (rw e at (d .before .before .before .tally .ensures)) (rw e at (d .tally2 .ensures))
+    let d = elements c in
+    let b = second (counts d) in
+    let e = b .before .bit-of .ensures in
+    record {
+      plan = first b .pre .0;
+      sups-P = counted-from (P (first b)) _ e (counts d .before .before .tally .ensures);
+      sups-Q = counted-from (Q (first b)) _ e (d .before .before .tally2 .ensures);
+    }
 
 slice-reshare-prefix-fill : tie.Need-slice-reshare-prefix-fill
 slice-reshare-prefix-fill c =
-    let d = c .before .before .before .before in
-    let w = d .before .before .before .before .before .before .before .put-counts .ensures in
-    omega (arith, w .0, w .1 .same-length, fits (begun₃ (d .before)))
+    let w = written c in
+    omega (arith, w .k-is, w .counts .same-length, counts-room (w .ready))
 
 slice-aggregate-fill : tie.Need-slice-aggregate-fill
 slice-aggregate-fill c =
-    let d = c .before .before .before .before .before in
-    let w = d .before .before .before .before .before .before .before .put-counts .ensures in
-    sym (length-take-le _ _ (omega (arith, w .0, w .1 .same-length, fits (begun₃ (d .before)))))
+    let w = written (c .before) in
+    sym (length-take-le _ _ (omega (arith, w .k-is, w .counts .same-length, counts-room (w .ready))))
 
 mul-fill : tie.Need-mul-fill
 mul-fill c =
-    let d = c .before .before .before .before .before in
-    omega (arith, d .put-elements .ensures .0, sound (begun₃ (d .before)) .elements)
+    let w = written (c .before) in
+    omega (arith, w .n-is, w .ready .plan .elements)
 
 slice-reshare-prefix-fill-2 : tie.Need-slice-reshare-prefix-fill-2
 slice-reshare-prefix-fill-2 c =
-    let d = c .before .before .before .before .before in
-    let w = d .put-elements .ensures in
-    omega (arith, w .0, w .1 .ends-length, sound (begun₃ (d .before)) .room-for-ends)
+    let w = written (c .before) in
+    omega (arith, w .n-is, w .elements .ends-length, w .ready .plan .room-for-ends)
 
 slice-aggregate-fill-2 : tie.Need-slice-aggregate-fill-2
 slice-aggregate-fill-2 c =
-    let d = c .before .before .before .before .before .before in
-    let w = d .put-elements .ensures in
-    let r = sound (begun₃ (d .before)) .room-for-ends in
-    sym (length-take-le _ _ (omega (arith, w .0, w .1 .ends-length, r)))
+    let w = written (c .before .before) in
+    sym (length-take-le _ _ (omega (arith, w .n-is, w .elements .ends-length, w .ready .plan .room-for-ends)))
 
 fill-requires : tie.Need-fill-requires
-fill-requires c κs =
-    let s = begun₄ c in
-    let d = c .before .before .before .before .before .before .before in
-    let w = d .before .before .before .before .before .before .before .put-counts .ensures in
-    let v = d .put-elements .ensures in
-    fill-asked _ _ (P s) (Q s) _ _ _ _ _ (sound s) (s .pre .1 .0) (s .pre .1 .1) _ _ _ _ _ (w .0) (w .1) (v .0) (v .1)
+fill-requires c κs = fill-asked (written (filled c))
 
 same-length : tie.Need-same-length
 same-length c = search needs
@@ -145,13 +150,7 @@ same-length-3 : tie.Need-same-length-3
 same-length-3 c = search needs
 
 returns : tie.Need-returns
-returns c =
-    let s = begun₄ (c .before .before .before) in
-    let d = c .before .before .before .before .before .before .before .before .before .before in
-    let w = d .before .before .before .before .before .before .before .put-counts .ensures in
-    let v = d .put-elements .ensures in
-    built-all _ _ (P s) (Q s) _ _ _ _ _ (sound s) (s .pre .1 .0) (s .pre .1 .1) _ _ _ _ _ (w .0) (w .1) (v .0) (v .1) _
-    (c .before .before .fill .ensures)
+returns c = built-all (written (filled (c .before .before .before))) _ (c .before .before .fill .ensures)
 
 pub build-spec : {M : Type 1} → statement M
 build-spec =

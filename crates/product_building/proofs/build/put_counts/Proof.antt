@@ -5,29 +5,36 @@ use Prim.Native.Nat.{_+_, _-_}
 use native.Mathlib.Omega.{arith}
 use lib.ListN.{length}
 use Rattle.product_pairs.specs.Trimmed.{bit}
-use Rattle.product_places.specs.Laid.{Holds}
+use Rattle.listing.specs.Laid.{LaidList}
 use Rattle.product_writing.specs.Pairs.{sizeOf}
 use Rattle.product_building.specs.Built.{countsOf}
 use Rattle.product_building.proofs.CountsLaid.{counts-length, counts-laid}
 use Rattle.product_building.proofs.build.put_counts.Statement.{statement}
 use Rattle.product_building.proofs.build.put_counts.Tie as tie
 
--- where the function began, seen from later states
+-- where the function began, and where each part was asked for, seen from the next
 abbrev begun : tie.After-put-sizes-arg → tie.Start
 begun c = c .before .before .before .before .before .before .before .before
 
+abbrev low : tie.After-put-if-arg2 → tie.After-put-sizes-arg
+low c = c .before .before .before .before
+
+abbrev middle : tie.After-slice-known4 → tie.After-put-if-arg2
+middle c = c .before .before .before
+
 size : (s : tie.Start)
     → let a = s .args in
-    length (countsOf (a .min) (a .max) (a .p .now) (a .q .now))
-    ≡ bit (a .min) + (length (a .p .now) + length (a .q .now) - 1) + bit (a .max)
+    length (countsOf (a .kind .min) (a .kind .max) (a .p .now) (a .q .now))
+    ≡ bit (a .kind .min) + (length (a .p .now) + length (a .q .now) - 1) + bit (a .kind .max)
 size s = counts-length _ _ _ _
 
 all : (c : tie.After-slice-known4)
-    → let a = begun (c .before .before .before .before .before .before .before) .args in
-    Holds 0 (countsOf (a .min) (a .max) (a .p .now) (a .q .now)) (a .counts .now) (c .before .before .put-if2 .last .0)
+    → let a = begun (low (middle c)) .args in
+    LaidList 0 (countsOf (a .kind .min) (a .kind .max) (a .p .now) (a .q .now)) (a .counts .now)
+    (c .before .before .put-if2 .last .0)
 all c =
-    let x = c .before .before .before .before .before .before .before .before .before .before .put-if .ensures in
-    let y = c .before .before .before .before .before .before .put-sizes .ensures in
+    let x = low (middle c) .before .before .before .put-if .ensures in
+    let y = middle c .before .before .before .put-sizes .ensures in
     counts-laid _ _ _ _ _ _ _ _ _ _ (x .0) (y .0) (x .1) (y .1) (c .before .before .put-if2 .ensures .1)
 
 put-if-requires : tie.Need-put-if-requires
@@ -51,9 +58,9 @@ put-sizes-requires c κs =
 
 put-if-requires-2 : tie.Need-put-if-requires-2
 put-if-requires-2 c κs =
-    let s = begun (c .before .before .before .before) in
+    let s = begun (low c) in
     let n = size s in
-    let a = c .before .before .before .before .before .before .before .put-if .ensures in
+    let a = low c .before .before .before .put-if .ensures in
     let b = c .before .before .before .put-sizes .ensures in
     omega (arith, s .pre .1 .1, a .0, a .1 .same-length, b .0, b .1 .same-length)
 
@@ -62,10 +69,9 @@ same-length c = all c .same-length
 
 returns : tie.Need-returns
 returns c =
-    let s = begun (c .before .before .before .before .before .before .before) in
-    let n = size s in
-    let a = c .before .before .before .before .before .before .before .before .before .before .put-if .ensures .0 in
-    let b = c .before .before .before .before .before .before .put-sizes .ensures .0 in
+    let n = size (begun (low (middle c))) in
+    let a = low (middle c) .before .before .before .put-if .ensures .0 in
+    let b = middle c .before .before .before .put-sizes .ensures .0 in
     let d = c .before .before .put-if2 .ensures .0 in
     (omega arith, all c)
 

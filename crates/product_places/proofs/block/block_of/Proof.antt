@@ -1,6 +1,6 @@
 -- `block_of`: each part of the block is what its function answers.
 -- Assumes nothing.
-use mathlib.Core.Path.{ap, _∙_}
+use mathlib.Core.Path.{refl, ap, _∙_}
 use Prim.Native.Nat.{ℕ}
 use native.Mathlib.Omega.{arith}
 use lib.ListN.{getD}
@@ -9,10 +9,12 @@ use Rattle.product_places.specs.Places.{offsetIn}
 use Rattle.product_places.proofs.block.block_of.Statement.{statement}
 use Rattle.product_places.proofs.block.block_of.Tie as tie
 
--- where the function began, seen from later states
-abbrev begun : tie.After-count-at → tie.Start
-begun c =
-    c .before .before .before .before .before .before .before .before .before .before .before .before .before
+-- where the elements before each rank are known, seen from the end; and where the function began, seen from there
+abbrev known : tie.After-wide2 → tie.After-elements-before2
+known c = c .before .before .before .before .before .before .before .before
+
+abbrev begun : tie.After-elements-before2 → tie.Start
+begun c = c .before .before .before .before .before .before .before .before
 
 bit-of-requires : tie.Need-bit-of-requires
 bit-of-requires c κs = search needs
@@ -20,9 +22,9 @@ bit-of-requires c κs = search needs
 offset-requires : tie.Need-offset-requires
 offset-requires c κs = search needs
 
-add-first : tie.Need-add-first
+add-from : tie.Need-add-from
 unfolding offsetIn
-add-first c = omega (arith, c .offset .ensures, c .before .before .before .before .pre .1)
+add-from c = omega (arith, c .offset .ensures, c .before .before .before .before .pre .1)
 
 is-low-requires : tie.Need-is-low-requires
 is-low-requires c κs = search needs
@@ -63,25 +65,26 @@ wide-requires-2 c κs = search needs
 returns : tie.Need-returns
 unfolding offsetIn
 returns c =
-    let s = begun (c .before .before .before) in
+    let d = known c in
+    let s = begun d in
     let p = s .args .p .now in
     let q = s .args .q .now in
-    let d = c .before .before .before .before .before .before .before .before in
     let h = c .before .before .before .before .before .before .before .less .ensures in
     let l = c .before .before .before .before .before .before .offset2 .ensures in
     let k = c .before .before .before .before .before .less2 .ensures in
-    let step = c .wide2 .ensures .0 ∙ c .before .count-at2 .ensures in
+    let below = c .wide2 .ensures .0 ∙ c .before .count-at2 .ensures in
     record {
+      ranks = (refl, refl);
       base = d .before .before .before .before .before .bit-of .ensures;
-      first = omega (arith, d .before .before .before .before .offset .ensures, s .pre .1);
+      from = omega (arith, d .before .before .before .before .offset .ensures, s .pre .1);
       low = d .before .before .before .is-low .ensures;
       cap = d .before .before .cap-of .ensures;
       p-before = d .before .elements-before .ensures;
       q-before = d .elements-before2 .ensures;
       left = l ∙ ap (λ (x : ℕ). offsetIn p q x (s .args .j)) h;
       right = c .before .before .before .before .offset3 .ensures ∙ ap (offsetIn p q (s .args .i)) k;
-      width = c .before .before .wide .ensures .0 ∙ c .before .before .before .count-at .ensures;
-      step = step ∙ ap (λ (x : ℕ). getD q x 0) k;
+      q-count = c .before .before .wide .ensures .0 ∙ c .before .before .before .count-at .ensures;
+      q-below = below ∙ ap (λ (x : ℕ). getD q x 0) k;
     }
 
 pub block-of-spec : {M : Type 1} → statement M
@@ -90,7 +93,7 @@ block-of-spec =
     (tie.spec
     bit-of-requires
     offset-requires
-    add-first
+    add-from
     is-low-requires
     cap-of-requires
     elements-before-requires

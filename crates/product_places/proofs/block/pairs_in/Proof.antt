@@ -8,7 +8,8 @@ use lib.ListN.{getD}
 use borrow.Author.Needs.{needs}
 use Rattle.listing.specs.Listing.{width}
 use Rattle.product_places.specs.Places.{pairsIn}
-use Rattle.product_places.proofs.Numbers.{sum-none, sum-next, product-le}
+use Rattle.order.proofs.Sums.{sum-none, sum-next}
+use Rattle.product_places.proofs.Numbers.{product-le}
 use Rattle.product_places.proofs.block.pairs_in.Statement.{statement}
 use Rattle.product_places.proofs.block.pairs_in.Tie as tie
 

@@ -5,7 +5,7 @@ use Prim.Native.Nat.{_<_}
 use native.Mathlib.Omega.{arith}
 use lib.ListN.{length}
 use borrow.Author.Needs.{needs}
-use Rattle.product_places.proofs.Laying.{laid-none, laid-one}
+use Rattle.listing.proofs.Laying.{laid-none, laid-one}
 use Rattle.product_places.proofs.put.put_if.Statement.{statement}
 use Rattle.product_places.proofs.put.put_if.Tie as tie
 

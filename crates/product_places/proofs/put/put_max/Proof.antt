@@ -6,67 +6,52 @@ use native.Mathlib.Omega.{arith}
 use lib.ListN.{length-set, length}
 use borrow.Author.Needs.{needs}
 use Rattle.listing.specs.Listing.{width}
-use Rattle.product_places.proofs.Laying.{laid-none}
+use Rattle.listing.proofs.Laying.{laid-none}
 use Rattle.product_places.proofs.put.put_max.Statement.{statement}
 use Rattle.product_places.proofs.put.put_max.Tie as tie
+
+-- where the element is written, seen from behind the numbers
+abbrev asked : tie.After-slice-known3 → tie.Then1
+asked c = c .before .before .before .before
 
 -- there is room for two ends and for all that lies under the element
 room : (c : tie.Then1)
     → let a = c .before .before .before .args in
-    (2 * a .e + 2 ≤ length (a .ends .now)) × (a .at + a .n ≤ length (a .inc .now)) × (a .at + a .n < width)
+    let s = a .spot in
+    (2 * s .e + 2 ≤ length (a .ends .now)) × (s .at + a .n ≤ length (a .inc .now)) × (s .at + a .n < width)
 room c =
     let r = rw (c .if1 .taken) at (c .before .before .before .pre) in
     omega arith
 
 put-up-to-requires : tie.Need-put-up-to-requires
-put-up-to-requires c κs =
-    let r = room (c .before) in
-    omega arith
+put-up-to-requires c κs = omega (arith, room (c .before))
 
 cast-ends : tie.Need-cast-ends
-cast-ends c =
-    let r = room (c .before .before .before .before) in
-    omega arith
+cast-ends c = omega (arith, room (asked c))
 
 mul-ends : tie.Need-mul-ends
-mul-ends c =
-    let r = room (c .before .before .before .before) in
-    omega arith
+mul-ends c = omega (arith, room (asked c))
 
 mul-ends-2 : tie.Need-mul-ends-2
-mul-ends-2 c =
-    let r = room (c .before .before .before .before) in
-    omega arith
+mul-ends-2 c = omega (arith, room (asked c))
 
 slice-write-ends : tie.Need-slice-write-ends
-slice-write-ends c =
-    let r = room (c .before .before .before .before) in
-    omega arith
+slice-write-ends c = omega (arith, room (asked c))
 
 cast-ends-2 : tie.Need-cast-ends-2
-cast-ends-2 c =
-    let r = room (c .before .before .before .before) in
-    omega arith
+cast-ends-2 c = omega (arith, room (asked c))
 
 mul-ends-3 : tie.Need-mul-ends-3
-mul-ends-3 c =
-    let r = room (c .before .before .before .before) in
-    omega arith
+mul-ends-3 c = omega (arith, room (asked c))
 
 add-ends : tie.Need-add-ends
-add-ends c =
-    let r = room (c .before .before .before .before) in
-    omega arith
+add-ends c = omega (arith, room (asked c))
 
 mul-ends-4 : tie.Need-mul-ends-4
-mul-ends-4 c =
-    let r = room (c .before .before .before .before) in
-    omega arith
+mul-ends-4 c = omega (arith, room (asked c))
 
 slice-write-ends-2 : tie.Need-slice-write-ends-2
-slice-write-ends-2 c =
-    let r = room (c .before .before .before .before) in
-    simp length-set (omega arith)
+slice-write-ends-2 c = simp length-set (omega (arith, room (asked c)))
 
 same-length : tie.Need-same-length
 same-length c = search needs
@@ -76,7 +61,7 @@ same-length-2 c = search needs
 
 returns : tie.Need-returns
 returns c =
-    rw (c .before .before .before .before .if1 .taken) (
+    rw (asked c .if1 .taken) (
       c .before .before .put-up-to .ensures .0,
       (c .before .before .put-up-to .ensures .1, refl),
     )

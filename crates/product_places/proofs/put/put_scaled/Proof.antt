@@ -7,8 +7,8 @@ use native.Mathlib.Omega.{arith}
 use lib.ListN.{length, getD}
 use borrow.Author.Needs.{needs}
 use Rattle.listing.specs.Listing.{width}
-use Rattle.product_places.specs.Laid.{Laid}
-use Rattle.product_places.proofs.Laying.{laid-none, laid-next}
+use Rattle.listing.specs.Laid.{Laid}
+use Rattle.listing.proofs.Laying.{laid-none, laid-next}
 use Rattle.product_places.proofs.put.put_scaled.Statement.{statement}
 use Rattle.product_places.proofs.put.put_scaled.Tie as tie
 

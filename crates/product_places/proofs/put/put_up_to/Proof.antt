@@ -4,8 +4,8 @@ use mathlib.Core.Path.{_≡_, refl}
 use Prim.Native.Nat.{_-_, _≤_}
 use native.Mathlib.Omega.{arith}
 use borrow.Author.Needs.{needs}
-use Rattle.product_places.specs.Laid.{Laid}
-use Rattle.product_places.proofs.Laying.{laid-none, laid-next}
+use Rattle.listing.specs.Laid.{Laid}
+use Rattle.listing.proofs.Laying.{laid-none, laid-next}
 use Rattle.product_places.proofs.put.put_up_to.Statement.{statement}
 use Rattle.product_places.proofs.put.put_up_to.Tie as tie
 

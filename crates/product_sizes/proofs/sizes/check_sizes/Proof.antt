@@ -11,19 +11,19 @@ plain-requires : tie.Need-plain-requires
 plain-requires c κs = search needs
 
 returns : tie.Need-returns
-returns c = λ R z. c .plain .ensures ∙ sym (over-ranks _ R _ _ _ (omega arith))
+returns c = c .plain .ensures ∙ sym (over-ranks _ _ _ (omega arith))
 
 plain-requires-2 : tie.Need-plain-requires-2
 plain-requires-2 c κs = search needs
 
 returns-2 : tie.Need-returns-2
-returns-2 c = λ R z. c .plain2 .ensures ∙ sym (over-elements _ R _ _ _ (omega arith) (omega arith))
+returns-2 c = c .plain2 .ensures ∙ sym (over-elements _ _ _ (omega arith) (omega arith))
 
 plain-requires-3 : tie.Need-plain-requires-3
 plain-requires-3 c κs = search needs
 
 returns-3 : tie.Need-returns-3
-returns-3 c = λ R z. c .plain3 .ensures ∙ sym (over-incidences _ R _ _ _ (omega arith) (omega arith) (omega arith))
+returns-3 c = c .plain3 .ensures ∙ sym (over-incidences _ _ _ (omega arith) (omega arith) (omega arith))
 
 mul-two-each : tie.Need-mul-two-each
 mul-two-each c = search needs
@@ -32,9 +32,7 @@ check-room-requires : tie.Need-check-room-requires
 check-room-requires c κs = search needs
 
 returns-4 : tie.Need-returns-4
-returns-4 c = λ R z.
-    c .check-room .ensures R (z .ranks) (z .ends) (z .incidences)
-    ∙ sym (room-decides _ R _ _ _ (omega arith) (omega arith) (omega arith))
+returns-4 c = c .check-room .ensures ∙ sym (room-decides _ _ _ (omega arith) (omega arith) (omega arith))
 
 pub check-sizes-spec : {M : Type 1} → statement M
 check-sizes-spec =

@@ -1,14 +1,34 @@
 -- `count_used`: there is a rank in use, its counts are small, and what is counted is what the layers in use have.
 -- Assumes nothing.
 use mathlib.Core.Path.{refl}
+use Prim.Native.Nat.{_+_, _*_, _≤_, _<_}
 use native.Mathlib.Omega.{arith}
+use lib.ListN.{length, getD}
 use borrow.Author.Needs.{needs}
+use Rattle.listing.specs.Listing.{limits, before}
 use Rattle.listing.proofs.ShapeExact.{shaped-ends}
+use Rattle.product_pairs.specs.Trimmed.{bit}
 use Rattle.product_places.proofs.Numbers.{bit-le}
 use Rattle.product_sizes.proofs.Counted.{room, counted, little}
 use Rattle.product_sizes.proofs.Parts.{usable-shaped, usable-high}
 use Rattle.product_sizes.proofs.sizes.count_used.Statement.{statement}
 use Rattle.product_sizes.proofs.sizes.count_used.Tie as tie
+
+-- where the elements are counted, seen from where the ends are known; and where the function began, seen from there
+abbrev counted-at : tie.After-wide2 → tie.After-elements-before
+counted-at c = c .before .before .before .before
+
+abbrev begun : tie.After-elements-before → tie.Start
+begun c = c .before .before .before .before .before .before
+
+-- what is asked to count
+asked : (c : tie.After-elements-before)
+    → let a = begun c .args in
+    let x = c .before .before .range .result .now in
+    let n = before x (length x) in
+    (0 < length x) × (length x ≤ limits .ranks) × (getD x 0 0 ≤ n) × (bit (a .kind .min) + n ≤ limits .elements)
+    × (2 * (bit (a .kind .min) + n) ≤ length (a .ends .now))
+asked c = room _ _ _ (begun c .pre) _ (c .before .before .range .ensures)
 
 range-requires : tie.Need-range-requires
 range-requires c κs =
@@ -20,51 +40,42 @@ bit-of-requires c κs = search needs
 
 elements-before-requires : tie.Need-elements-before-requires
 elements-before-requires c κs =
-    let d = c .before in
-    omega (arith, room _ _ _ (d .before .before .before .before .pre) _ (d .range .ensures))
+    let s = c .before .before .before .before .before in
+    omega (arith, room _ _ _ (s .pre) _ (c .before .range .ensures))
 
 shared-slice-read-wide : tie.Need-shared-slice-read-wide
-shared-slice-read-wide c =
-    let d = c .before .before .before in
-    omega (arith, room _ _ _ (d .before .before .before .before .pre) _ (d .range .ensures))
+shared-slice-read-wide c = omega (arith, asked (c .before))
 
 wide-requires : tie.Need-wide-requires
 wide-requires c κs = search needs
 
 sub-wide : tie.Need-sub-wide
-sub-wide c =
-    let d = c .before .before .before .before in
-    omega (arith, room _ _ _ (d .before .before .before .before .pre) _ (d .range .ensures))
+sub-wide c = omega (arith, asked (c .before .before))
 
 mul-wide : tie.Need-mul-wide
 mul-wide c = search needs
 
 shared-slice-read-wide-2 : tie.Need-shared-slice-read-wide-2
-shared-slice-read-wide-2 c =
-    let d = c .before .before .before .before .before in
-    omega (arith, room _ _ _ (d .before .before .before .before .pre) _ (d .range .ensures))
+shared-slice-read-wide-2 c = omega (arith, asked (c .before .before .before))
 
 wide-requires-2 : tie.Need-wide-requires-2
 wide-requires-2 c κs = search needs
 
 add-subs-listed : tie.Need-add-subs-listed
 add-subs-listed c =
-    let d = c .before .before .before .before .before in
-    let b = bit-le (d .before .before .before .before .before .args .min) in
-    omega (arith, d .bit-of .ensures, c .before .before .wide .ensures .1)
+    let d = counted-at c in
+    omega (arith, d .before .bit-of .ensures, bit-le (begun d .args .kind .min), c .before .before .wide .ensures .1)
 
 add-subs-listed-2 : tie.Need-add-subs-listed-2
 add-subs-listed-2 c =
-    let d = c .before .before .before .before .before in
-    let r = room _ _ _ (d .before .before .before .before .before .pre) _ (d .before .range .ensures) in
-    omega (arith, d .bit-of .ensures, c .before .before .before .before .elements-before .ensures, r .3)
+    let d = counted-at c in
+    omega (arith, d .before .bit-of .ensures, d .elements-before .ensures, asked d)
 
 subs-listed-requires : tie.Need-subs-listed-requires
 subs-listed-requires c κs =
-    let d = c .before .before .before .before in
-    let u = d .before .before .before .before .before .before .pre in
-    let S = usable-shaped _ _ _ u in
-    let r = room _ _ _ u _ (d .before .before .range .ensures) in
+    let d = counted-at c in
+    let S = usable-shaped _ _ _ (begun d .pre) in
+    let r = asked d in
     let n = d .elements-before .ensures in
     let b = d .before .bit-of .ensures in (
       shaped-ends _ S,
@@ -78,8 +89,8 @@ subs-listed-requires c κs =
 
 returns : tie.Need-returns
 returns c =
-    let d = c .before .before .before .before .before in
-    let u = d .before .before .before .before .before .before .pre in
+    let d = counted-at (c .before) in
+    let u = begun d .pre in
     let n = d .elements-before .ensures in
     let l = c .before .before .before .wide .ensures .0 in
     let h = c .before .wide2 .ensures .0 in

@@ -6,37 +6,39 @@ use native.Mathlib.Omega.{arith}
 use borrow.Author.Needs.{needs}
 use Rattle.product_pairs.specs.Trimmed.{bit}
 use Rattle.product_places.proofs.Numbers.{bit-le}
-use Rattle.product_sizes.proofs.Counted.{measured}
+use Rattle.product_sizes.proofs.Counted.{totals-are}
 use Rattle.product_sizes.proofs.sizes.product_sizes.Statement.{statement}
 use Rattle.product_sizes.proofs.sizes.product_sizes.Tie as tie
 
--- where the function began, and where it had the flags as numbers
-abbrev start : tie.After-struct-known2 → tie.Start
-start c = c .before .before .before .before .before .before .before .before .before .before .before
+-- where the elements of the lowest pairs are known, seen from the end; where the flags are numbers, seen from there; and
+-- where the function began
+abbrev low : tie.After-struct-known2 → tie.After-where-asked
+low c = c .before .before .before .before
 
-abbrev flags : tie.After-struct-known2 → tie.After-bit-of2
-flags c = c .before .before .before .before .before .before .before .before .before
+abbrev flags : tie.After-where-asked → tie.After-bit-of2
+flags c = c .before .before .before .before .before
+
+abbrev begun : tie.After-bit-of2 → tie.Start
+begun c = c .before .before
 
 -- the added ends are at most one each
-few : (c : tie.After-struct-known2)
-    → (flags c .before .bit-of .result ≤ 1) × (flags c .bit-of2 .result ≤ 1)
+few : (c : tie.After-bit-of2) → (c .before .bit-of .result ≤ 1) × (c .bit-of2 .result ≤ 1)
 few c =
-    let a = start c .args in
-    let d = flags c in
-    omega (arith, d .before .bit-of .ensures, bit-le (a .min), d .bit-of2 .ensures, bit-le (a .max))
+    let k = begun c .args .kind in
+    omega (arith, c .before .bit-of .ensures, bit-le (k .min), c .bit-of2 .ensures, bit-le (k .max))
 
 -- what they bring: one incidence for each lowest, and for each highest pair
-lowest : (c : tie.After-struct-known2) → let a = start c .args in
-    c .before .before .before .before .where-asked .result ≡ bit (a .min) * (a .p .lowest * a .q .lowest)
+lowest : (c : tie.After-where-asked) → let a = begun (flags c) .args in
+    c .where-asked .result ≡ bit (a .kind .min) * (a .p .lowest * a .q .lowest)
 lowest c =
-    let d = c .before .before .before .before in
-    d .where-asked .ensures .0 ∙ ap (λ (n : ℕ). bit (start c .args .min) * n) (d .before .times4 .ensures .0)
+    c .where-asked .ensures .0
+    ∙ ap (λ (n : ℕ). bit (begun (flags c) .args .kind .min) * n) (c .before .times4 .ensures .0)
 
-highest : (c : tie.After-struct-known2) → let a = start c .args in
-    c .before .before .where-asked2 .result ≡ bit (a .max) * (a .p .highest * a .q .highest)
+highest : (c : tie.After-struct-known2) → let a = begun (flags (low c)) .args in
+    c .before .before .where-asked2 .result ≡ bit (a .kind .max) * (a .p .highest * a .q .highest)
 highest c =
-    let d = c .before .before in
-    d .where-asked2 .ensures .0 ∙ ap (λ (n : ℕ). bit (start c .args .max) * n) (d .before .times5 .ensures .0)
+    c .before .before .where-asked2 .ensures .0
+    ∙ ap (λ (n : ℕ). bit (begun (flags (low c)) .args .kind .max) * n) (c .before .before .before .times5 .ensures .0)
 
 bit-of-requires : tie.Need-bit-of-requires
 bit-of-requires c κs = search needs
@@ -68,41 +70,41 @@ times-requires-5 c κs = search needs
 where-asked-requires-2 : tie.Need-where-asked-requires-2
 where-asked-requires-2 c κs = search needs
 
-add-t11 : tie.Need-add-t11
-add-t11 c = search needs
+add-t10 : tie.Need-add-t10
+add-t10 c = search needs
 
-sub-t12 : tie.Need-sub-t12
-sub-t12 c = search needs
+sub-t11 : tie.Need-sub-t11
+sub-t11 c = search needs
+
+add-t12 : tie.Need-add-t12
+add-t12 c = omega (arith, few (flags (low c)))
 
 add-t13 : tie.Need-add-t13
-add-t13 c = omega (arith, few c)
+add-t13 c = omega (arith, few (flags (low c)))
 
 add-t14 : tie.Need-add-t14
-add-t14 c = omega (arith, few c)
+add-t14 c = omega (arith, few (flags (low c)))
 
 add-t15 : tie.Need-add-t15
-add-t15 c = omega (arith, few c)
+add-t15 c = omega (arith, few (flags (low c)))
 
 add-t16 : tie.Need-add-t16
-add-t16 c = omega (arith, few c)
+add-t16 c = search needs
 
 add-t17 : tie.Need-add-t17
 add-t17 c = search needs
 
-add-t18 : tie.Need-add-t18
-add-t18 c = search needs
-
-mul-t19 : tie.Need-mul-t19
-mul-t19 c = search needs
+mul-t18 : tie.Need-mul-t18
+mul-t18 c = search needs
 
 returns : tie.Need-returns
-returns c = λ A B uA uB cA cB.
-    let a = start c .args in
-    let d = c .before .before .before .before .before .before in
-    measured (a .min) (a .max) A B uA uB (a .p) (a .q) cA cB
-    (flags c .before .bit-of .ensures) (flags c .bit-of2 .ensures)
-    (d .before .before .times .ensures .0) (d .before .times2 .ensures .0) (d .times3 .ensures .0)
-    (lowest c) (highest c)
+returns c =
+    let d = low c .before .before in
+    let f = flags (low c) in
+    let a = begun f .args in
+    totals-are (a .kind) (a .p) (a .q) (f .before .bit-of .ensures) (f .bit-of2 .ensures)
+    (d .before .before .times .ensures .0) (d .before .times2 .ensures .0) (d .times3 .ensures .0) (lowest (low c))
+    (highest c)
 
 pub product-sizes-spec : {M : Type 1} → statement M
 product-sizes-spec =
@@ -118,13 +120,13 @@ product-sizes-spec =
     where-asked-requires
     times-requires-5
     where-asked-requires-2
-    add-t11
-    sub-t12
+    add-t10
+    sub-t11
+    add-t12
     add-t13
     add-t14
     add-t15
     add-t16
     add-t17
-    add-t18
-    mul-t19
+    mul-t18
     returns)

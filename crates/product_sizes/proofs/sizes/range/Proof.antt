@@ -1,7 +1,7 @@
 -- `range`: the part that is returned is the counts in use.
 -- Assumes nothing.
 use borrow.Author.Needs.{needs}
-use Rattle.product_sizes.specs.Sizing.{inUse}
+use Rattle.product_sizes.specs.Sizing.{countsInUse}
 use Rattle.product_sizes.proofs.sizes.range.Statement.{statement}
 use Rattle.product_sizes.proofs.sizes.range.Tie as tie
 
@@ -27,7 +27,7 @@ part-result-end : tie.Need-part-result-end
 part-result-end c = search needs
 
 returns : tie.Need-returns
-unfolding inUse
+unfolding countsInUse
 returns c = rw (← c .before .bit-of2 .ensures, ← c .before .before .bit-of .ensures)
 
 pub range-spec : {M : Type 1} → statement M

@@ -1,4 +1,4 @@
--- `subs_listed`. Invariant: n is how many subs the elements from `from` up to e list, and at most 32,768 for each.
+-- `subs_listed`. Invariant: n is how many subs the elements from `from` up to e list, and at most as many for each as there may be incidences.
 -- Measure: the elements left.
 -- Assumes nothing.
 use mathlib.Core.Path.{_≡_, ap, _∙_}
@@ -20,11 +20,15 @@ Inv-loop ends inc from to n₀ e₀ n e =
 abbrev μ-loop : tie.MeasureT-loop
 μ-loop ends inc from to n₀ e₀ n e = to - e
 
+-- where the function began, seen from the loop
+abbrev begun : tie.At-loop Inv-loop μ-loop → tie.Start Inv-loop μ-loop
+begun c = c .before .before .before
+
 -- the list at hand is no longer than all incidences
-few : (c : tie.After-list-of Inv-loop μ-loop) → let a = c .before .before .before .before .before .args in
+few : (c : tie.After-list-of Inv-loop μ-loop) → let a = begun (c .before .before) .args in
     length (c .list-of .result .now) ≤ length (a .inc .now)
 few c =
-    let a = c .before .before .before .before .before .args in
+    let a = begun (c .before .before) .args in
     let e = ap length (c .list-of .ensures) in
     omega (arith, e, entries-few (a .ends .now) (a .inc .now) (2 * c .before .before .loop .e))
 
@@ -57,7 +61,7 @@ loop-again c =
 
 returns : tie.Need-returns Inv-loop μ-loop
 returns c =
-    let a = c .before .before .before .before .args in
+    let a = begun (c .before) .args in
     let f : ℕ → ℕ = λ k. length (entries (a .ends .now) (a .inc .now) (2 * (a .from + k))) in
     let e : c .before .loop .e ≡ a .to = omega arith in
     (c .before .loop .inv .2 ∙ ap (λ (t : ℕ). sum f (t - a .from)) e, omega arith)

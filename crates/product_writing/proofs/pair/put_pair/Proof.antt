@@ -1,110 +1,120 @@
 -- `put_pair`: the plan says what the pair has under it and how many lie over it, and put_element writes that.
 -- Assumes nothing.
-use mathlib.Core.List.{List}
-use mathlib.Core.Path.{refl}
-use Prim.Native.Nat.{ℕ, _+_}
+use Prim.Native.Nat.{_+_}
 use native.Mathlib.Omega.{arith}
-use lib.ListN.{length}
-use Rattle.product_places.specs.Factors.{Factor, part}
-use Rattle.product_places.specs.Places.{number}
+use Rattle.listing.specs.Listing.{Listing, listing}
+use Rattle.listing_sups.specs.Filling.{Put}
+use Rattle.product_places.specs.Blocks.{inBlock}
 use Rattle.product_places.proofs.Numbers.{bit-le}
-use Rattle.product_writing.specs.Pairs.{listsOf}
-use Rattle.product_writing.specs.Filling.{Put}
-use Rattle.product_writing.proofs.Fits.{PairFits, pair-fits, pair-asked, pair-put}
+use Rattle.product_writing.specs.Pairs.{productLists}
+use Rattle.product_writing.proofs.Fits.{PairIn, right-there, up-P, up-Q, cap-few, index, index-few}
+use Rattle.product_writing.proofs.Fits.{left-shift-few, right-shift-few, InHand, pair-asked, pair-put}
 use Rattle.product_writing.proofs.pair.put_pair.Statement.{statement}
 use Rattle.product_writing.proofs.pair.put_pair.Tie as tie
 
--- where the function began, seen from later states
+-- where the function began, seen from where the block is read; where the pair's number is known, seen from the call; and
+-- the call, seen from the end
+abbrev lent : tie.After-shared-slice-known8 → tie.Start
+lent c = c .before .before .before .before .before .before .before .before
+
 abbrev begun : tie.After-struct-known → tie.Start
-begun c = c .before .before .before .before .before .before .before .before .before .before .before .before
+begun c = lent (c .before .before .before .before)
 
-abbrev begun₂ : tie.After-slice-known3 → tie.Start
-begun₂ c = begun (c .before .before .before .before .before .before .before .before .before .before .before)
+abbrev indexed : tie.After-put-element-arg2 → tie.After-get-element-index
+indexed c = c .before .before .before .before .before .before .before
 
-abbrev P : tie.Start → Factor
-P s = part (s .args .min) (s .args .p .now) (s .args .pends .now) (s .args .pinc .now)
+abbrev called : tie.After-slice-known4 → tie.After-put-element-arg2
+called c = c .before .before .before .before .before
 
-abbrev Q : tie.Start → Factor
-Q s = part (s .args .min) (s .args .q .now) (s .args .qends .now) (s .args .qinc .now)
+-- the factors
+abbrev P : tie.Start → Listing
+P s = listing (s .args .p .now) (s .args .pends .now) (s .args .pinc .now)
 
-abbrev lists : tie.Start → ℕ → List ℕ
-lists s = listsOf (s .args .min) (s .args .max) (P s) (Q s)
+abbrev Q : tie.Start → Listing
+Q s = listing (s .args .q .now) (s .args .qends .now) (s .args .qinc .now)
 
-abbrev e : tie.Start → ℕ
-e s = number (s .args .min) (s .args .p .now) (s .args .q .now) (s .args .i) (s .args .a) (s .args .j) (s .args .b)
-
--- what the plan says of the pair
-fits : (s : tie.Start)
+pair : (s : tie.Start)
     → let a = s .args in
-    PairFits (a .min) (a .max) (P s) (Q s) (a .upp .now) (a .upq .now) (length (a .ends .now)) (length (a .inc .now))
-    (a .i) (a .a) (a .j) (a .b) (a .block)
-fits s =
-    pair-fits _ _ (P s) (Q s) _ _ _ _ (s .pre .0) _ _ _ _ _ (s .pre .1 .0) refl (s .pre .1 .1 .0 .0)
-    (s .pre .1 .1 .0 .1)
+    PairIn (a .kind) (P s) (Q s) (a .psups .now) (a .qsups .now) (a .ends .now) (a .inc .now) (a .block) (a .pair .a)
+    (a .pair .b)
+pair s = record {
+  ready = s .pre .0;
+  block = s .pre .1 .0;
+  left = s .pre .1 .1 .0 .0;
+  right = s .pre .1 .1 .0 .1;
+}
+
+-- what is in hand at the call
+hand : (c : tie.After-put-element-arg2)
+    → let d = indexed c in
+    let s = begun (d .before .before .before .before) in
+    let a = s .args in
+    InHand (a .kind) (P s) (Q s) (a .psups .now) (a .qsups .now) (a .ends .now) (a .inc .now) (a .block) (a .pair .a)
+    (a .pair .b) (a .left .now) (d .before .before .subs-in-use .result .now) (d .before .sups-over .result)
+    (d .get-element-index .result) (a .at)
+hand c =
+    let s = begun (indexed c .before .before .before .before) in
+    record {
+      pair = pair s;
+      left-is = s .pre .1 .1 .1 .0;
+      right-is = indexed c .before .before .subs-in-use .ensures;
+      sups-is = indexed c .before .sups-over .ensures;
+      k-is = indexed c .get-element-index .ensures;
+      at-is = s .pre .1 .1 .1 .1;
+    }
 
 -- what writing it leaves
 put : (c : tie.After-slice-known4)
-    → let s = begun₂ (c .before .before) in
-    Put (lists s) (e s)
-    (number (s .args .min) (s .args .p .now) (s .args .q .now) (s .args .i) (s .args .a) (s .args .j) (s .args .b + 1))
-    (c .before .before .before .before .put-element .result) (s .args .ends .now) (s .args .inc .now)
-    (c .before .before .before .before .put-element .last .0)
-    (c .before .before .before .before .put-element .last .1 .0)
+    → let s = begun (indexed (called c) .before .before .before .before) in
+    let a = s .args in
+    let d = c .before .before .before .before in
+    Put (productLists (a .kind) (P s) (Q s))
+    (inBlock (a .kind) (a .p .now) (a .q .now) (a .block) (a .pair .a) (a .pair .b))
+    (inBlock (a .kind) (a .p .now) (a .q .now) (a .block) (a .pair .a) (a .pair .b + 1)) (d .put-element .result)
+    (a .ends .now) (a .inc .now) (d .put-element .last .0) (d .put-element .last .1 .0)
 put c =
-    let s = begun₂ (c .before .before) in
-    let d = c .before .before .before .before .before .before .before .before .before .before in
     let w = c .before .before .before .before .put-element .ensures in
-    pair-put _ _ (P s) (Q s) _ _ _ _ (s .pre .0) _ _ _ _ _ (s .pre .1 .0) refl (s .pre .1 .1 .0 .0)
-    (s .pre .1 .1 .0 .1) _ _ (s .pre .1 .1 .1 .0)
-    (d .before .before .used-subs .ensures) _ _ _ (s .pre .1 .1 .1 .1) (d .before .sups-over .ensures)
-    (d .get-element-index .ensures) _ _ _ _ _ refl (w .0) (w .1 .0) (w .1 .1)
+    pair-put (hand (called c)) _ _ _ (w .0) (w .1 .0) (w .1 .1)
 
-add-used-subs : tie.Need-add-used-subs
-add-used-subs c =
-    let f = fits (begun c) in
-    omega (arith, f .up-Q, begun c .pre .1 .0 .base, bit-le (begun c .args .min))
+add-subs-in-use : tie.Need-add-subs-in-use
+add-subs-in-use c =
+    let s = begun c in
+    omega (arith, up-Q (pair s), s .pre .1 .0 .base, bit-le (s .args .kind .min))
 
-add-used-subs-2 : tie.Need-add-used-subs-2
-add-used-subs-2 c =
-    let f = fits (begun c) in
-    omega (arith, f .up-Q, begun c .pre .1 .0 .base, bit-le (begun c .args .min))
+add-subs-in-use-2 : tie.Need-add-subs-in-use-2
+add-subs-in-use-2 c =
+    let s = begun (c .before) in
+    omega (arith, up-Q (pair s), s .pre .1 .0 .base, bit-le (s .args .kind .min))
 
-used-subs-requires : tie.Need-used-subs-requires
-used-subs-requires c κs = (begun c .pre .0 .lists-Q, fits (begun c) .right-there)
+subs-in-use-requires : tie.Need-subs-in-use-requires
+subs-in-use-requires c κs =
+    let s = begun (c .before) in
+    (s .pre .0 .plan .lists-Q, right-there (pair s))
 
 sups-over-requires : tie.Need-sups-over-requires
 sups-over-requires c κs =
-    let f = fits (begun (c .before)) in
-    (f .up-P, f .up-Q, f .cap-few)
+    let x = pair (begun (c .before .before)) in
+    (omega (arith, up-P x), omega (arith, up-Q x), cap-few x)
 
 get-element-index-requires : tie.Need-get-element-index-requires
 get-element-index-requires c κs =
-    let f = fits (begun (c .before .before)) in
-    omega (arith, f .index, f .index-few)
+    let x = pair (begun (c .before .before .before)) in
+    omega (arith, index x, index-few x)
 
-add-loff : tie.Need-add-loff
-add-loff c =
-    let f = fits (begun (c .before .before .before .before)) in
-    omega (arith, f .left-few)
+add-t21 : tie.Need-add-t21
+add-t21 c = omega (arith, left-shift-few (pair (begun (c .before .before .before .before .before .before))))
 
-mul-roff : tie.Need-mul-roff
-mul-roff c =
-    let f = fits (begun (c .before .before .before .before .before)) in
-    omega (arith, f .right-few)
+mul-t22 : tie.Need-mul-t22
+mul-t22 c =
+    omega (arith, right-shift-few (pair (begun (c .before .before .before .before .before .before .before .before))))
 
-add-roff : tie.Need-add-roff
-add-roff c =
-    let f = fits (begun (c .before .before .before .before .before .before)) in
-    omega (arith, f .right-few, f .right-more)
+add-t23 : tie.Need-add-t23
+add-t23 c =
+    let d = c .before in
+    omega (arith, right-shift-few (pair (begun (d .before .before .before .before .before .before .before .before))))
 
 put-element-requires : tie.Need-put-element-requires
-put-element-requires c κs =
-    let s = begun (c .before .before .before .before .before .before .before .before) in
-    pair-asked _ _ (P s) (Q s) _ _ _ _ (s .pre .0) _ _ _ _ _ (s .pre .1 .0) refl (s .pre .1 .1 .0 .0)
-    (s .pre .1 .1 .0 .1) _ _ (s .pre .1 .1 .1 .0)
-    (c .before .before .before .before .before .before .before .used-subs .ensures) _ _ _ (s .pre .1 .1 .1 .1)
-    (c .before .before .before .before .before .before .sups-over .ensures)
-    (c .before .before .before .before .before .get-element-index .ensures)
+put-element-requires c κs = pair-asked (hand c)
 
 same-length : tie.Need-same-length
 same-length c = put c .ends-length
@@ -119,14 +129,14 @@ pub put-pair-spec : {M : Type 1} → statement M
 put-pair-spec =
     tie.close
     (tie.spec
-    add-used-subs
-    add-used-subs-2
-    used-subs-requires
+    add-subs-in-use
+    add-subs-in-use-2
+    subs-in-use-requires
     sups-over-requires
     get-element-index-requires
-    add-loff
-    mul-roff
-    add-roff
+    add-t21
+    mul-t22
+    add-t23
     put-element-requires
     same-length
     same-length-2

@@ -1,47 +1,54 @@
--- `put_block`. Invariant: the rows of the first a elements of rank i are written. Measure: the elements left.
+-- `put_block`. Invariant: the pairs of the first a elements of the block's first rank are written. Measure: the elements
+-- left.
 -- Assumes nothing.
 use mathlib.Core.Path.{_≡_, refl, sym, _∙_}
-use Prim.Native.Nat.{_+_, _-_, _≤_}
+use Prim.Native.Nat.{_-_, _≤_}
 use native.Mathlib.Omega.{arith}
 use lib.ListN.{getD}
 use borrow.Author.Needs.{needs}
-use Rattle.product_places.specs.Factors.{Factor, part}
-use Rattle.product_places.specs.Places.{number}
+use Rattle.listing.specs.Listing.{listing}
+use Rattle.listing_sups.specs.Filling.{Put}
+use Rattle.listing_sups.proofs.Laying.{put-none, put-then}
+use Rattle.product_places.specs.Blocks.{inBlock}
 use Rattle.product_places.proofs.Numbers.{number-first, number-last, first-same}
-use Rattle.product_writing.specs.Pairs.{listed}
-use Rattle.product_writing.specs.Filling.{Put}
-use Rattle.product_writing.proofs.Fits.{plan-room, first-few}
-use Rattle.product_writing.proofs.Rows.{put-none, put-then}
+use Rattle.product_writing.specs.Pairs.{productLists}
+use Rattle.product_writing.proofs.Fits.{writable-room}
 use Rattle.product_writing.proofs.pairs.put_block.Statement.{statement}
 use Rattle.product_writing.proofs.pairs.put_block.Tie as tie
 
 abbrev Inv-loop : tie.InvT-loop
-Inv-loop min max p pends pinc q qends qinc upp upq ends₀ inc₀ start i j at block n to₀ a₀ ends inc to a = (a ≤ n)
-    × (n ≡ getD p i 0)
-    × Put (listed min max p pends pinc q qends qinc) (number min p q i 0 j 0) (number min p q i a j 0) to ends₀ inc₀
-    ends inc
+Inv-loop kind p pends pinc q qends qinc psups qsups ends₀ inc₀ block at n to₀ a₀ ends inc to a = (a ≤ n)
+    × (n ≡ getD p (block .i) 0)
+    × Put (productLists kind (listing p pends pinc) (listing q qends qinc)) (inBlock kind p q block 0 0)
+    (inBlock kind p q block a 0) to ends₀ inc₀ ends inc
 
 abbrev μ-loop : tie.MeasureT-loop
-μ-loop min max p pends pinc q qends qinc upp upq ends₀ inc₀ start i j at block n to₀ a₀ ends inc to a = n - a
+μ-loop kind p pends pinc q qends qinc psups qsups ends₀ inc₀ block at n to₀ a₀ ends inc to a = n - a
 
--- where the function began, seen from later states
-abbrev begun : tie.After-slice-known2 Inv-loop μ-loop → tie.Start Inv-loop μ-loop
-begun c = c .before .before .before .before .before .before .before .before .before .before
+-- where the function began, seen from where the block is read; that, seen from the loop; the loop, seen from the call;
+-- the call, seen from behind it
+abbrev lent : tie.After-shared-slice-known8 Inv-loop μ-loop → tie.Start Inv-loop μ-loop
+lent c = c .before .before .before .before .before .before .before .before
 
-abbrev P : tie.Start Inv-loop μ-loop → Factor
-P s = part (s .args .min) (s .args .p .now) (s .args .pends .now) (s .args .pinc .now)
+abbrev begun : tie.After-struct-known Inv-loop μ-loop → tie.Start Inv-loop μ-loop
+begun c = lent (c .before .before .before)
 
-abbrev Q : tie.Start Inv-loop μ-loop → Factor
-Q s = part (s .args .min) (s .args .q .now) (s .args .qends .now) (s .args .qinc .now)
+abbrev asked : tie.At-loop Inv-loop μ-loop → tie.After-struct-known Inv-loop μ-loop
+asked c = c .before .before .before .before
 
-block-of-requires : tie.Need-block-of-requires Inv-loop μ-loop
-block-of-requires c κs =
-    let s = begun c in
-    let f = first-few _ _ (P s) (Q s) _ _ _ _ (s .pre .0) (s .args .i + s .args .j) (s .args .i) (omega arith)
-    (s .pre .1 .0) in
-    let p = s .pre .0 .ranks-P in
-    let q = s .pre .0 .ranks-Q in
-    (omega arith, (s .pre .1 .1 .0, omega (arith, s .pre .1 .1 .0)))
+abbrev turn : tie.After-put-pairs-of-arg2 Inv-loop μ-loop → tie.At-loop Inv-loop μ-loop
+turn c = c .before .before .before
+
+abbrev called : tie.After-slice-known4 Inv-loop μ-loop → tie.After-put-pairs-of-arg2 Inv-loop μ-loop
+called c = c .before .before .before .before .before
+
+returns : tie.Need-returns Inv-loop μ-loop
+returns c =
+    let s = begun (c .before) in
+    let a = s .args in
+    put-none _ _ _ _ _ _ (s .pre .1 .1)
+    (first-same (a .kind .min) (a .p .now) (a .q .now) (a .block .i) (a .block .j)
+    (sym (s .pre .1 .0 .q-count) ∙ c .if1 .taken))
 
 count-at-requires : tie.Need-count-at-requires Inv-loop μ-loop
 count-at-requires c κs = search needs
@@ -49,32 +56,22 @@ count-at-requires c κs = search needs
 wide-requires : tie.Need-wide-requires Inv-loop μ-loop
 wide-requires c κs = search needs
 
-returns : tie.Need-returns Inv-loop μ-loop
-returns c =
-    let s = begun (c .before .before .before .before .before) in
-    put-none _ _ _ _ _ _ (s .pre .1 .1 .1)
-    (first-same (s .args .min) (s .args .p .now) (s .args .q .now) (s .args .i) (s .args .j)
-    (sym (c .before .before .before .before .block-of .ensures .width) ∙ c .if1 .taken))
-
 loop-holds : tie.Need-loop-holds Inv-loop μ-loop
 loop-holds c =
-    let s = begun (c .before .before .before .before .before) in
-    let m = number-first (s .args .min) (s .args .p .now) (s .args .q .now) (s .args .i) (s .args .j) in (
+    let s = begun (c .before .before .before) in
+    let a = s .args in
+    let m = number-first (a .kind .min) (a .p .now) (a .q .now) (a .block .i) (a .block .j) in (
       omega arith,
-      c .before .before .wide .ensures .0 ∙ c .before .before .before .count-at .ensures,
-      put-none _ _ _ _ _
-          _ (rw m (s .pre .1 .1 .1)) refl,
+      c .wide .ensures .0 ∙ c .before .count-at .ensures,
+      put-none _ _ _ _ _ _ (rw m (s .pre .1 .1)) refl,
     )
 
-put-row-requires : tie.Need-put-row-requires Inv-loop μ-loop
-put-row-requires c κs =
-    let s = begun (c .before .before .before .before .before .before .before .before .before) in
-    let v = c .before .before .before .loop .inv in (
-      plan-room (s .pre .0) _ _ (v .2 .ends-length) (v .2 .inc-length),
-      (
-        c .before .before .before .before .before .before .before .before .block-of .ensures,
-        (omega (arith, v .1), v .2 .place),
-      ),
+put-pairs-of-requires : tie.Need-put-pairs-of-requires Inv-loop μ-loop
+put-pairs-of-requires c κs =
+    let s = begun (asked (turn c)) .pre in
+    let v = turn c .loop .inv in (
+      writable-room (s .0) _ _ (v .2 .ends-length) (v .2 .inc-length),
+      (s .1 .0, (omega (arith, v .1), v .2 .place)),
     )
 
 add-a : tie.Need-add-a Inv-loop μ-loop
@@ -85,8 +82,9 @@ loop-less c = search needs
 
 loop-again : tie.Need-loop-again Inv-loop μ-loop
 loop-again c =
-    let v = c .before .before .before .before .before .before .before .before .loop .inv in
-    (omega arith, v .1, put-then _ _ _ _ _ _ _ _ _ _ _ _ (v .2) (c .before .before .before .before .put-row .ensures))
+    let v = turn (called c) .loop .inv in
+    let w = c .before .before .before .before .put-pairs-of .ensures in
+    (omega arith, v .1, put-then _ _ _ _ _ _ _ _ _ _ _ _ (v .2) w)
 
 same-length : tie.Need-same-length Inv-loop μ-loop
 same-length c = c .before .loop .inv .2 .ends-length
@@ -96,13 +94,12 @@ same-length-2 c = c .before .loop .inv .2 .inc-length
 
 returns-2 : tie.Need-returns-2 Inv-loop μ-loop
 returns-2 c =
-    let s = begun (c .before .before .before .before .before .before .before) .args in
+    let s = begun (asked (c .before)) .args in
     let v = c .before .loop .inv in
-    let e : c .before .loop .a ≡ getD (s .p .now) (s .i) 0 = omega (arith, v .1) in
+    let e : c .before .loop .a ≡ getD (s .p .now) (s .block .i) 0 = omega (arith, v .1) in
     rw (
-      ← number-last (s .min) (s .p .now) (s .q .now) (s .i) (s .j),
-      ← number-first (s .min) (s .p .now) (s .q .now)
-          (s .i) (s .j),
+      ← number-last (s .kind .min) (s .p .now) (s .q .now) (s .block .i) (s .block .j),
+      ← number-first (s .kind .min) (s .p .now) (s .q .now) (s .block .i) (s .block .j),
       ← e,
     )
     (v .2)
@@ -113,12 +110,11 @@ put-block-spec =
     (tie.spec
     Inv-loop
     μ-loop
-    block-of-requires
+    returns
     count-at-requires
     wide-requires
-    returns
     loop-holds
-    put-row-requires
+    put-pairs-of-requires
     add-a
     loop-less
     loop-again

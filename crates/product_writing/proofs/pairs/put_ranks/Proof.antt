@@ -2,49 +2,63 @@
 -- Measure: the ranks left.
 -- Assumes nothing.
 use mathlib.Core.Path.{_≡_, refl}
-use Prim.Native.Nat.{_+_, _-_, _≤_}
+use Prim.Native.Nat.{_+_, _-_, _≤_, _<_}
 use native.Mathlib.Omega.{arith}
 use lib.ListN.{length}
 use borrow.Author.Needs.{needs}
+use Rattle.listing.specs.Listing.{listing, limits}
+use Rattle.listing_sups.specs.Filling.{Put}
+use Rattle.listing_sups.proofs.Laying.{put-none, put-then}
 use Rattle.product_pairs.specs.Trimmed.{bit}
-use Rattle.product_places.specs.Factors.{Factor, part}
 use Rattle.product_places.specs.Places.{pairsTo, firstAt}
 use Rattle.product_places.proofs.Numbers.{pairs-none, pairs-next}
-use Rattle.product_writing.specs.Pairs.{listed}
-use Rattle.product_writing.specs.Filling.{Put}
-use Rattle.product_writing.proofs.Fits.{plan-room, first-few}
-use Rattle.product_writing.proofs.Rows.{put-none, put-then}
+use Rattle.product_writing.specs.Pairs.{productLists}
+use Rattle.product_writing.proofs.Fits.{writable-room, first-few}
 use Rattle.product_writing.proofs.pairs.put_ranks.Statement.{statement}
 use Rattle.product_writing.proofs.pairs.put_ranks.Tie as tie
 
 abbrev Inv-loop : tie.InvT-loop
-Inv-loop min max p pends pinc q qends qinc upp upq ends₀ inc₀ at ranks start₀ to₀ rank₀ ends inc start to rank =
-    (rank ≤ ranks) × (start ≡ bit min + pairsTo p q rank)
-    × Put (listed min max p pends pinc q qends qinc) (firstAt min p q 0 0) (firstAt min p q rank 0) to ends₀ inc₀
-    ends inc
+Inv-loop kind p pends pinc q qends qinc psups qsups ends₀ inc₀ at ranks start₀ to₀ rank₀ ends inc start to rank =
+    (rank ≤ ranks) × (start ≡ bit (kind .min) + pairsTo p q rank)
+    × Put (productLists kind (listing p pends pinc) (listing q qends qinc)) (firstAt (kind .min) p q 0 0)
+    (firstAt (kind .min) p q rank 0) to ends₀ inc₀ ends inc
 
 abbrev μ-loop : tie.MeasureT-loop
-μ-loop min max p pends pinc q qends qinc upp upq ends₀ inc₀ at ranks start₀ to₀ rank₀ ends inc start to rank =
+μ-loop kind p pends pinc q qends qinc psups qsups ends₀ inc₀ at ranks start₀ to₀ rank₀ ends inc start to rank =
     ranks - rank
 
--- where the function began, seen from later states
+-- where the function began, seen from where the slices are known; that, seen from the loop; the loop, seen from the
+-- call; the call, seen from behind it
+abbrev lent : tie.After-shared-slice-known8 Inv-loop μ-loop → tie.Start Inv-loop μ-loop
+lent c = c .before .before .before .before .before .before .before .before
+
 abbrev begun : tie.After-slice-known2 Inv-loop μ-loop → tie.Start Inv-loop μ-loop
-begun c = c .before .before .before .before .before .before .before .before .before .before
+begun c = lent (c .before .before)
 
-abbrev begun₂ : tie.After-slice-known4 Inv-loop μ-loop → tie.Start Inv-loop μ-loop
-begun₂ c = begun (c .before .before .before .before .before .before .before .before .before .before)
+abbrev asked : tie.At-loop Inv-loop μ-loop → tie.After-slice-known2 Inv-loop μ-loop
+asked c = c .before .before
 
-abbrev P : tie.Start Inv-loop μ-loop → Factor
-P s = part (s .args .min) (s .args .p .now) (s .args .pends .now) (s .args .pinc .now)
+abbrev turn : tie.After-put-rank-arg2 Inv-loop μ-loop → tie.At-loop Inv-loop μ-loop
+turn c = c .before .before .before
 
-abbrev Q : tie.Start Inv-loop μ-loop → Factor
-Q s = part (s .args .min) (s .args .q .now) (s .args .qends .now) (s .args .qinc .now)
+abbrev called : tie.After-slice-known4 Inv-loop μ-loop → tie.After-put-rank-arg2 Inv-loop μ-loop
+called c = c .before .before .before .before .before
+
+-- each factor has a rank, and few
+ranks : (s : tie.Start Inv-loop μ-loop)
+    → let p = length (s .args .p .now) in
+    let q = length (s .args .q .now) in
+    (0 < p) × (p ≤ limits .ranks) × (0 < q) × (q ≤ limits .ranks)
+ranks s =
+    let p = s .pre .0 .plan .ranks-P in
+    let q = s .pre .0 .plan .ranks-Q in
+    (p .0, p .1, q .0, q .1)
 
 add-ranks : tie.Need-add-ranks Inv-loop μ-loop
-add-ranks c = omega (arith, begun c .pre .0 .ranks-P, begun c .pre .0 .ranks-Q)
+add-ranks c = omega (arith, ranks (begun c))
 
 sub-ranks : tie.Need-sub-ranks Inv-loop μ-loop
-sub-ranks c = omega (arith, begun c .pre .0 .ranks-P, begun c .pre .0 .ranks-Q)
+sub-ranks c = omega (arith, ranks (begun c))
 
 bit-of-requires : tie.Need-bit-of-requires Inv-loop μ-loop
 bit-of-requires c κs = search needs
@@ -59,45 +73,44 @@ loop-holds c =
 
 put-rank-requires : tie.Need-put-rank-requires Inv-loop μ-loop
 put-rank-requires c κs =
-    let s = begun (c .before .before .before .before .before) in
-    let v = c .before .before .before .loop .inv in (
-      plan-room (s .pre .0) _ _ (v .2 .ends-length) (v .2 .inc-length),
-      (omega arith, (v .1, v .2 .place)),
+    let s = begun (asked (turn c)) in
+    let v = turn c .loop .inv in (
+      writable-room (s .pre .0) _ _ (v .2 .ends-length) (v .2 .inc-length),
+      (omega (arith, ranks s), (v .1, v .2 .place)),
     )
 
 add-pairs-in : tie.Need-add-pairs-in Inv-loop μ-loop
-add-pairs-in c = search needs
+add-pairs-in c = omega (arith, ranks (begun (asked (turn (called c)))))
 
 pairs-in-requires : tie.Need-pairs-in-requires Inv-loop μ-loop
-pairs-in-requires c κs = omega (arith, begun₂ c .pre .0 .ranks-P, begun₂ c .pre .0 .ranks-Q)
+pairs-in-requires c κs = omega (arith, ranks (begun (asked (turn (called c)))))
 
 add-start : tie.Need-add-start Inv-loop μ-loop
 add-start c =
-    let s = begun₂ (c .before) in
-    let l = c .before .before .before .before .before .before .before .before .before .loop in
-    let k = l .rank in
-    let p = s .pre .0 .ranks-P in
-    let q = s .pre .0 .ranks-Q in
+    let d = turn (called (c .before)) in
+    let s = begun (asked d) in
+    let k = d .loop .rank in
+    let r = ranks s in
     omega (
       arith,
-      first-few _ _ (P s) (Q s) _ _ _ _ (s .pre .0) k (k + 1) (omega arith) (omega arith),
+      first-few (s .pre .0) k (k + 1) (omega arith) (omega arith),
       c .pairs-in .ensures,
-      l .inv .1,
+      d .loop .inv .1,
     )
 
 add-rank : tie.Need-add-rank Inv-loop μ-loop
-add-rank c = omega (arith, begun₂ (c .before) .pre .0 .ranks-P, begun₂ (c .before) .pre .0 .ranks-Q)
+add-rank c = omega (arith, ranks (begun (asked (turn (called (c .before))))))
 
 loop-less : tie.Need-loop-less Inv-loop μ-loop
 loop-less c = search needs
 
 loop-again : tie.Need-loop-again Inv-loop μ-loop
 loop-again c =
-    let s = begun₂ (c .before) .args in
-    let l = c .before .before .before .before .before .before .before .before .before .loop in
-    let v = l .inv in (
+    let d = turn (called (c .before)) in
+    let s = begun (asked d) .args in
+    let v = d .loop .inv in (
       omega arith,
-      omega (arith, v .1, c .pairs-in .ensures, pairs-next (s .p .now) (s .q .now) (l .rank)),
+      omega (arith, v .1, c .pairs-in .ensures, pairs-next (s .p .now) (s .q .now) (d .loop .rank)),
       put-then _ _ _ _ _ _ _ _ _ _ _ _ (v .2) (c .before .before .before .before .before .put-rank .ensures),
     )
 
@@ -109,7 +122,7 @@ same-length-2 c = c .before .loop .inv .2 .inc-length
 
 returns : tie.Need-returns Inv-loop μ-loop
 returns c =
-    let s = begun (c .before .before .before) .args in
+    let s = begun (asked (c .before)) .args in
     let v = c .before .loop .inv in
     let e : c .before .loop .rank ≡ length (s .p .now) + length (s .q .now) - 1 = omega arith in
     rw (← e) (v .2)

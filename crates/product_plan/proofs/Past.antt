@@ -17,17 +17,18 @@ use Rattle.listing.specs.Layers.{Layers, Topped}
 use Rattle.listing.proofs.Listing.{before-next, before-le}
 use Rattle.valid_incidence.specs.Incidence.{Incident}
 use Rattle.valid.specs.Bounds.{Bounded}
+use Rattle.valid.proofs.ClosedExact.{valid-exact}
 use Rattle.product_pairs.specs.Trimmed.{bit}
 use Rattle.product_pairs.specs.Paired.{block, pairOf, pairAt, leftSubs, rightSubs, paired}
 use Rattle.product_pairs.specs.Grown.{minSize, minUnder, grown}
 use Rattle.product_pairs.proofs.Sequences.{upTo-in}
 use Rattle.product_pairs.proofs.Grown.{grown-size, grown-max-under}
-use Rattle.product_places.specs.Factors.{used}
-use Rattle.product_writing.specs.Pairs.{factorLayers, target}
-use Rattle.product_sizes.specs.Sizing.{Usable, inUse, partOf}
-use Rattle.product_sizes.proofs.Parts.{used-above, usable-shaped, usable-bounded, usable-incident, usable-high}
+use Rattle.product_writing.specs.Pairs.{subsInUse, factorLayers, target}
+use Rattle.product_sizes.specs.Sizing.{Usable, countsInUse}
+use Rattle.product_sizes.proofs.Parts.{usable-shaped, usable-bounded, usable-high}
 use Rattle.product_sizes.proofs.Parts.{in-use-length, in-use-at, in-use-before}
-use Rattle.product_sizes.proofs.Entries.{place-past, exists-few}
+use Rattle.product_plan.proofs.Factors.{factorOf, used-above}
+use Rattle.product_plan.proofs.Entries.{place-past, exists-few}
 
 entries-past : (ends inc : List ℕ) (k : ℕ) → length ends ≤ k → entries ends inc k ≡ []
 unfolding entries
@@ -48,16 +49,16 @@ lowest-count true L b i h =
     omega (arith, a .each (s .0) (s .1) .0)
 
 module _ (min max : Bool) (L : Listing) (u : Usable min max L) where
-  lowest-some : 0 < getD (inUse min max (L .counts)) 0 0
+  lowest-some : 0 < getD (countsInUse min max (L .counts)) 0 0
   lowest-some =
       let h = usable-high min max L u in
       let e : 0 + bit min ≡ bit min = omega arith in
-      let c = lowest-count min L (usable-bounded min max L u) (usable-incident min max L u) (omega arith) in
+      let c = lowest-count min L (usable-bounded min max L u) (valid-exact limits L .0 (u .valid) .2) (omega arith) in
       omega (arith, in-use-at min max L u 0 (omega (arith, in-use-length min max L u)), ap (λ (r : ℕ). count L r) e)
 
 module _ (min : Bool) (L : Listing) (u : Usable min false L) where
   abbrev p : List ℕ
-  p = inUse min false (L .counts)
+  p = countsInUse min false (L .counts)
 
   all-in-use : bit min + before p (length p) ≡ elements L
   all-in-use =
@@ -66,11 +67,11 @@ module _ (min : Bool) (L : Listing) (u : Usable min false L) where
       let e : bit min + length p ≡ length (L .counts) = omega (arith, in-use-length min false L u) in
       in-use-before min false L u (length p) (omega arith) ∙ ap (before (L .counts)) e
 
-  used-past : (i a : ℕ) → length p ≤ suc i → getD p i 0 ≤ a → used (partOf min false L) i a ≡ []
-  unfolding used
+  used-past : (i a : ℕ) → length p ≤ suc i → getD p i 0 ≤ a → subsInUse min (factorOf min false L) i a ≡ []
+  unfolding subsInUse
   used-past zero a h g = refl
   used-past (suc i) a h g =
-      used-above (partOf min false L) i a
+      used-above min (factorOf min false L) i a
       ∙ entries-past (L .ends) (L .inc) (2 * (bit min + before p (suc i) + a) + 0)
       (omega (
         arith,
@@ -123,17 +124,17 @@ low-past true M k x e h n = min-past M (M .top) k x (e h) n
 low-past false M k x e h n = absurd (rw (e h) at n)
 
 abbrev M : (min max : Bool) (A B : Listing) → Layers
-M min max A B = paired (factorLayers (partOf min max A)) (factorLayers (partOf min max B))
+M min max A B = paired (factorLayers min (factorOf min max A)) (factorLayers min (factorOf min max B))
 
 abbrev T : (min max : Bool) (A B : Listing) → Layers
-T min max A B = target min max (partOf min max A) (partOf min max B)
+T min max A B = target min max (factorOf min max A) (factorOf min max B)
 
 -- what the highest rank lists past its last element is small
 pub highest-past : (min max : Bool) (A B : Listing) → Usable min max A → Usable min max B → Topped (T min max A B)
     → sum (T min max A B .size) (suc (T min max A B .top)) ≤ limits .elements
     → (k x : ℕ) → T min max A B .size (T min max A B .top) ≤ k → In x (T min max A B .under (T min max A B .top) k)
     → x < limits .elements
-unfolding target used
+unfolding target subsInUse
 highest-past min true A B uA uB t few k x h n =
     let m = M min true A B in
     let l = upTo-in x (m .size (m .top)) (rw (grown-max-under min m k) at n) in

@@ -1,30 +1,28 @@
--- What the builder is asked to write is the product.
+-- What the builder is asked to write is the layerProduct.
 -- Assumes nothing.
-use mathlib.Core.Path.{_≡_, refl, sym, ap, _∙_}
+use mathlib.Core.Path.{_≡_, refl, sym, ap}
 use mathlib.Core.Bool.{Bool, true, false}
 use mathlib.Core.List.{List}
 use Prim.Native.Nat.{ℕ, zero, suc, pred, _<_}
 use native.Mathlib.Decide.{decLt}
-use native.Mathlib.Omega.{arith}
 use Rattle.order.specs.Sums.{choose}
 use Rattle.order.specs.Pairs.{Pairs}
 use Rattle.listing.specs.Listing.{Listing, limits}
-use Rattle.listing.specs.Layers.{Layers, Topped, layers, order, derived}
+use Rattle.listing.specs.Layers.{Layers, layers, order, derived}
 use Rattle.listing.specs.Written.{written}
 use Rattle.listing.proofs.Written.{written-same}
 use Rattle.product_pairs.specs.Sound.{Sound}
-use Rattle.product_pairs.specs.Paired.{El, block, offset, position, pairOf, pairAt, leftSubs, rightSubs, pairSubs}
-use Rattle.product_pairs.specs.Paired.{paired}
+use Rattle.product_pairs.specs.Paired.{El, block, offset, position, pairOf, pairAt, leftSubs, rightSubs, pairSubs, paired}
 use Rattle.product_pairs.specs.Grown.{upTo, minSize, minUnder, maxSize, maxUnder, addMin, addMax, grown}
 use Rattle.product_pairs.specs.Product.{layerProduct, productOf}
 use Rattle.product_pairs.proofs.Trimmed.{trimmed-sound}
 use Rattle.product_pairs.proofs.Positions.{pairAt-exists}
-use Rattle.product_pairs.proofs.Product.{product-topped, product-sound}
+use Rattle.product_pairs.proofs.Product.{product-sound}
 use Rattle.product_closure.proofs.Alike.{Alike, alike-derived, alike-exists}
 use Rattle.product_closure.proofs.Valid.{valid-sound}
 use Rattle.product_writing.specs.Pairs.{factorLayers, target}
-use Rattle.product_sizes.specs.Sizing.{Usable, partOf}
-use Rattle.product_sizes.proofs.Parts.{part-alike}
+use Rattle.product_sizes.specs.Sizing.{Usable}
+use Rattle.product_plan.proofs.Factors.{factorOf, factor-alike}
 
 -- layers with other lists
 abbrev listing-of : Layers → (ℕ → ℕ → List ℕ) → Layers
@@ -43,10 +41,6 @@ alike-layers {M} {N} k = λ t. record {
 }
 
 module _ {M N : Layers} (k : Alike M N) where
-  alike-topped : Topped M → Topped N
-  unfolding Topped
-  alike-topped t r h = k .same-size r ∙ t r (omega (arith, k .same-top))
-
   alike-sound : Sound M → Sound N
   unfolding Sound
   alike-sound s r b a h m =
@@ -119,15 +113,15 @@ grown-alike true false k = addMin-alike k
 grown-alike false true k = addMax-alike k
 grown-alike false false k = k
 
--- ---- the product
+-- ---- the layerProduct
 
 module _ (min max : Bool) (A B : Listing) (uA : Usable min max A) (uB : Usable min max B) where
   abbrev T : Layers
-  T = target min max (partOf min max A) (partOf min max B)
+  T = target min max (factorOf min max A) (factorOf min max B)
 
   target-alike : Alike (layerProduct min max (layers A) (layers B)) T
   unfolding layerProduct target
-  target-alike = grown-alike min max (paired-alike (part-alike min max A uA) (part-alike min max B uB))
+  target-alike = grown-alike min max (paired-alike (factor-alike min max A uA) (factor-alike min max B uB))
 
   pub target-written : written T (derived T) ≡ productOf min max A B
   unfolding productOf
@@ -136,15 +130,12 @@ module _ (min max : Bool) (A B : Listing) (uA : Usable min max A) (uB : Usable m
       sym (written-same _ T _ (derived T) (sym (k .same-top)) (λ r. sym (k .same-size r))
       (λ r i h. sym (k .same-under r i h)) (λ r i h. sym (alike-derived k r i)))
 
-  pub target-topped : Topped T
-  target-topped = alike-topped target-alike (product-topped min max (layers A) (layers B))
-
   pub target-sound : Sound T
   target-sound =
       let sA = valid-sound limits A (uA .valid) in
       let sB = valid-sound limits B (uB .valid) in
       alike-sound target-alike (product-sound min max (layers A) (layers B) sA sB)
 
-pub part-sound : (min max : Bool) (L : Listing) → Usable min max L → Sound (factorLayers (partOf min max L))
-part-sound min max L u =
-    alike-sound (part-alike min max L u) (trimmed-sound min max (layers L) (valid-sound limits L (u .valid)))
+pub factor-sound : (min max : Bool) (L : Listing) → Usable min max L → Sound (factorLayers min (factorOf min max L))
+factor-sound min max L u =
+    alike-sound (factor-alike min max L u) (trimmed-sound min max (layers L) (valid-sound limits L (u .valid)))

@@ -7,15 +7,15 @@ use native.Mathlib.Decide.{decLt}
 use native.Mathlib.Omega.{arith}
 use lib.ListN.{length, getD, set, length-append, length-set, List·getD-append}
 use lib.Seq.{ext-getD, getD-set-same, getD-set-other, getD-append-add}
-use Rattle.product_places.specs.Laid.{Laid, Holds}
+use Rattle.listing.specs.Laid.{Laid, LaidList}
 
 module _ (at : ℕ) (f : ℕ → ℕ) where
   pub laid-none : (d : List ℕ) → Laid at f 0 d d
   laid-none d = record {
     same-length = refl;
     inside = λ j h. absurd (omega arith);
-    before = λ p h. refl;
-    after = λ p h. refl;
+    earlier = λ p h. refl;
+    later = λ p h. refl;
   }
 
   -- one number more, stored behind the others
@@ -33,8 +33,8 @@ module _ (at : ℕ) (f : ℕ → ℕ) where
     laid-next = record {
       same-length = length-set d′ (at + n) v ∙ l .same-length;
       inside = next-inside;
-      before = λ p k. getD-set-other d′ (at + n) p v 0 (omega arith) ∙ l .before p k;
-      after = λ p k. getD-set-other d′ (at + n) p v 0 (omega arith) ∙ l .after p (omega arith);
+      earlier = λ p k. getD-set-other d′ (at + n) p v 0 (omega arith) ∙ l .earlier p k;
+      later = λ p k. getD-set-other d′ (at + n) p v 0 (omega arith) ∙ l .later p (omega arith);
     }
 
 -- a number written from the very beginning on
@@ -54,47 +54,47 @@ pub laid-same : (at : ℕ) (f : ℕ → ℕ) (d d′ : List ℕ) → Laid at f 0
 laid-same at f d d′ l = ext-getD 0 d′ d (l .same-length) (λ i h. go i (decLt i at))
   where
     go : (i : ℕ) → Dec (i < at) → getD d′ i 0 ≡ getD d i 0
-    go i (yes b) = l .before i b
-    go i (no b) = l .after i (omega arith)
+    go i (yes b) = l .earlier i b
+    go i (no b) = l .later i (omega arith)
 
 -- a part, and another behind it
 module _ (at n m : ℕ) (f g h : ℕ → ℕ) (d d′ d″ : List ℕ) (l : Laid at f n d d′) (k : Laid (at + n) g m d′ d″)
-    (first : (j : ℕ) → j < n → h j ≡ f j) (second : (j : ℕ) → j < m → h (n + j) ≡ g j) where
+    (front : (j : ℕ) → j < n → h j ≡ f j) (back : (j : ℕ) → j < m → h (n + j) ≡ g j) where
   then-inside : (j : ℕ) → j < n + m → getD d″ (at + j) 0 ≡ h j
   then-inside j b = go (decLt j n)
     where
       go : Dec (j < n) → getD d″ (at + j) 0 ≡ h j
-      go (yes q) = k .before (at + j) (omega arith) ∙ l .inside j q ∙ sym (first j q)
+      go (yes q) = k .earlier (at + j) (omega arith) ∙ l .inside j q ∙ sym (front j q)
       go (no q) =
           let e : at + j ≡ at + n + (j - n) = omega arith in
           let s : j ≡ n + (j - n) = omega arith in
-          ap (λ (p : ℕ). getD d″ p 0) e ∙ k .inside (j - n) (omega arith) ∙ sym (second (j - n) (omega arith))
+          ap (λ (p : ℕ). getD d″ p 0) e ∙ k .inside (j - n) (omega arith) ∙ sym (back (j - n) (omega arith))
           ∙ ap h (sym s)
 
   laid-then : Laid at h (n + m) d d″
   laid-then = record {
     same-length = k .same-length ∙ l .same-length;
     inside = then-inside;
-    before = λ p b. k .before p (omega arith) ∙ l .before p b;
-    after = λ p b. k .after p (omega arith) ∙ l .after p (omega arith);
+    earlier = λ p b. k .earlier p (omega arith) ∙ l .earlier p b;
+    later = λ p b. k .later p (omega arith) ∙ l .later p (omega arith);
   }
 
 -- ---- lists
 
 module _ (at : ℕ) (d d′ : List ℕ) where
-  pub laid-holds : (s : List ℕ) (f : ℕ → ℕ) (n : ℕ) → length s ≡ n → ((j : ℕ) → j < n → f j ≡ getD s j 0)
-      → Laid at f n d d′ → Holds at s d d′
-  laid-holds s f n e same l =
+  pub laid-list : (s : List ℕ) (f : ℕ → ℕ) (n : ℕ) → length s ≡ n → ((j : ℕ) → j < n → f j ≡ getD s j 0)
+      → Laid at f n d d′ → LaidList at s d d′
+  laid-list s f n e same l =
       rw e
       (record {
         same-length = l .same-length;
         inside = λ j h. l .inside j h ∙ same j h;
-        before = l .before;
-        after = l .after;
+        earlier = l .earlier;
+        later = l .later;
       })
 
-  pub holds-then : (s t d″ : List ℕ) → Holds at s d d′ → Holds (at + length s) t d′ d″ → Holds at (s ++ t) d d″
-  holds-then s t d″ l k =
+  pub list-then : (s t d″ : List ℕ) → LaidList at s d d′ → LaidList (at + length s) t d′ d″ → LaidList at (s ++ t) d d″
+  list-then s t d″ l k =
       rw (length-append s t)
       (laid-then at (length s) (length t) _ _ _ d d′ d″ l k (λ j h. List·getD-append s t 0 j h)
       (λ j h. getD-append-add s t j 0))

@@ -1,6 +1,6 @@
 -- The lists of what the builder is asked to write: where those of a pair stand, what it has under it and how many over.
 -- Assumes nothing.
-use mathlib.Core.Path.{_≡_, refl, sym, ap, _∙_}
+use mathlib.Core.Path.{_≡_, refl, ap, _∙_}
 use mathlib.Core.Bool.{Bool, true, false, cond, _&&_}
 use mathlib.Core.List.{List, _++_, map}
 use Prim.Native.Nat.{ℕ, suc, pred, _+_, _-_, _*_, _≤_, _<_}
@@ -10,12 +10,13 @@ use native.Mathlib.Numerals.{add-one}
 use native.Mathlib.Omega.{arith}
 use borrow.Author.Tests.{eq-eqb, ne-eqb}
 use lib.Dec.{eqb}
-use lib.ListN.{length, getD, List·getD-eq-default}
+use lib.ListN.{length}
 use Rattle.order.specs.Sums.{sum}
 use Rattle.order.proofs.Sums.{sum-same}
-use Rattle.listing.specs.Listing.{before}
+use Rattle.listing.specs.Listing.{Listing, count}
 use Rattle.listing.specs.Layers.{Layers, Topped, derived}
 use Rattle.listing.specs.Written.{listAt}
+use Rattle.listing.proofs.Listing.{some-rank}
 use Rattle.listing.proofs.Layers.{in-range, derived-length}
 use Rattle.listing.proofs.Written.{nth-at}
 use Rattle.product_pairs.specs.Sound.{Sound}
@@ -28,20 +29,15 @@ use Rattle.product_pairs.proofs.AddMax.{max-size-low}
 use Rattle.product_pairs.proofs.Grown.{grown-top, grown-size, grown-under, grown-min-under}
 use Rattle.product_pairs.proofs.PairedLengths.{paired-sups}
 use Rattle.product_pairs.proofs.GrownLengths.{grown-sups, grown-max-sups}
-use Rattle.product_places.specs.Factors.{Factor, used}
-use Rattle.product_places.specs.Places.{pairsTo, offsetIn, number, subsOf}
-use Rattle.product_writing.specs.Pairs.{factorLayers, target, listsOf, underPair, overPair}
-use Rattle.listing_sups.specs.Sups.{upCount, UpCounts}
-use Rattle.product_places.proofs.Numbers.{some-rank}
-
-factor-topped : (P : Factor) → Topped (factorLayers P)
-unfolding Topped
-factor-topped P r h = List·getD-eq-default (P .counts) 0 (omega arith)
+use Rattle.product_places.specs.Places.{pairsTo, offsetIn, pairNumber, subsOf}
+use Rattle.product_writing.specs.Pairs.{subsInUse, factorLayers, target, listsOf, pairShift, underPair, overPair}
+use Rattle.product_writing.proofs.Target.{factor-topped}
+use Rattle.product_plan.proofs.Factors.{factor-derived}
 
 -- where no rank is higher there is nothing over an element
-none-over : (P : Factor) (i a : ℕ) → factorLayers P .top ≤ i → length (derived (factorLayers P) i a) ≡ 0
+none-over : (min : Bool) (P : Listing) (i a : ℕ) → factorLayers min P .top ≤ i → length (derived (factorLayers min P) i a) ≡ 0
 unfolding Topped sum
-none-over P i a h = derived-length (factorLayers P) i a ∙ rw (factor-topped P (suc i) (omega arith))
+none-over min P i a h = derived-length (factorLayers min P) i a ∙ rw (factor-topped min P (suc i) (omega arith))
 
 -- ---- how many elements come before a rank
 
@@ -58,12 +54,12 @@ grown-before false max M r h = rw add-zero (max-before max M r h ∙ omega arith
 
 -- ---- a pair
 
-module _ (min max : Bool) (P Q : Factor) where
+module _ (min max : Bool) (P Q : Listing) where
   abbrev A : Layers
-  A = factorLayers P
+  A = factorLayers min P
 
   abbrev B : Layers
-  B = factorLayers Q
+  B = factorLayers min Q
 
   abbrev T : Layers
   T = target min max P Q
@@ -71,7 +67,7 @@ module _ (min max : Bool) (P Q : Factor) where
   abbrev lists : ℕ → List ℕ
   lists = listsOf min max P Q
 
-  module _ (i a j b : ℕ) (ha : a < getD (P .counts) i 0) (hb : b < getD (Q .counts) j 0) where
+  module _ (i a j b : ℕ) (ha : a < count P i) (hb : b < count Q j) where
     abbrev x : El × El
     x = ((i, a), (j, b))
 
@@ -79,18 +75,18 @@ module _ (min max : Bool) (P Q : Factor) where
     k = position A B x .1
 
     abbrev e : ℕ
-    e = number min (P .counts) (Q .counts) i a j b
+    e = pairNumber min (P .counts) (Q .counts) i a j b
 
     there : k < paired A B .size (i + j)
     unfolding position
     there = position-exists A B x (ha, hb)
 
     low-enough : i + j ≤ paired A B .top
-    low-enough = in-range (paired A B) (paired-topped A B (factor-topped P) (factor-topped Q)) (i + j) k there
+    low-enough = in-range (paired A B) (paired-topped A B (factor-topped min P) (factor-topped min Q)) (i + j) k there
 
     -- its number is the elements before its rank, and its place there
     number-is : e ≡ sum (T .size) (i + j + bit min) + k
-    unfolding number pairsTo offsetIn position offset block target
+    unfolding pairNumber pairsTo offsetIn position offset block target
     number-is = omega (arith, grown-before min max (paired A B) (i + j) (omega (arith, low-enough)))
 
     pair-lists : (s : ℕ) → s < 2 → lists (2 * e + s) ≡ listAt T (derived T) s (i + j + bit min, k)
@@ -103,22 +99,20 @@ module _ (min max : Bool) (P Q : Factor) where
     -- ---- what it has under it
 
     pair-subs : pairSubs A B x
-        ≡ subsOf false (used P i a) (offsetIn (P .counts) (Q .counts) (pred i) j + b) (getD (Q .counts) j 0)
-        (used Q j b) (offsetIn (P .counts) (Q .counts) i (pred j) + a * getD (Q .counts) (pred j) 0)
+        ≡ subsOf (pairShift false P Q i a j b) (subsInUse min P i a) (subsInUse min Q j b)
     unfolding leftSubs rightSubs position offset block subsOf offsetIn
-    pair-subs = λ t. map (λ y. left y t) (used P i a) ++ map (λ z. right z t) (used Q j b)
+    pair-subs = λ t. map (λ y. left y t) (subsInUse min P i a) ++ map (λ z. right z t) (subsInUse min Q j b)
       where
         left : (y : ℕ) → position A B ((pred i, y), (j, b)) .1
-            ≡ offsetIn (P .counts) (Q .counts) (pred i) j + b + y * getD (Q .counts) j 0
+            ≡ offsetIn (P .counts) (Q .counts) (pred i) j + b + y * count Q j
         left y = omega arith
 
         right : (z : ℕ) → position A B ((i, a), (pred j, z)) .1
-            ≡ offsetIn (P .counts) (Q .counts) i (pred j) + a * getD (Q .counts) (pred j) 0 + z * 1
+            ≡ offsetIn (P .counts) (Q .counts) i (pred j) + a * count Q (pred j) + z * 1
         right z = omega arith
 
     high-under : bit min ≤ i + j → T .under (i + j + bit min) k
-        ≡ subsOf false (used P i a) (offsetIn (P .counts) (Q .counts) (pred i) j + b) (getD (Q .counts) j 0)
-        (used Q j b) (offsetIn (P .counts) (Q .counts) i (pred j) + a * getD (Q .counts) (pred j) 0)
+        ≡ subsOf (pairShift false P Q i a j b) (subsInUse min P i a) (subsInUse min Q j b)
     unfolding target position
     high-under h =
         grown-under min max (paired A B) (i + j) k h low-enough ∙ paired-under A B x (ha, hb) ∙ pair-subs
@@ -134,24 +128,24 @@ module _ (min max : Bool) (P Q : Factor) where
     -- the elements of the highest rank in use have none over them
     highest : i + j ≡ paired A B .top → (length (derived A i a) ≡ 0) × (length (derived B j b) ≡ 0)
     highest h =
-        let p = in-range A (factor-topped P) i a ha in
-        let q = in-range B (factor-topped Q) j b hb in
-        (none-over P i a (omega arith), none-over Q j b (omega arith))
+        let p = in-range A (factor-topped min P) i a ha in
+        let q = in-range B (factor-topped min Q) j b hb in
+        (none-over min P i a (omega arith), none-over min Q j b (omega arith))
 
 -- a pair of the lowest ranks has the added minimal element under it
-low-under : (max : Bool) (P Q : Factor) (a b k : ℕ) → target true max P Q .under 1 k ≡ underPair true P Q 0 a 0 b
-unfolding target used underPair subsOf
-low-under max P Q a b k = grown-min-under max (paired (factorLayers P) (factorLayers Q)) k
+low-under : (max : Bool) (P Q : Listing) (a b k : ℕ) → target true max P Q .under 1 k ≡ underPair true P Q 0 a 0 b
+unfolding target subsInUse underPair subsOf
+low-under max P Q a b k = grown-min-under max (paired (factorLayers true P) (factorLayers true Q)) k
 
-under-at : (min max : Bool) (P Q : Factor) (i a j b : ℕ) → a < getD (P .counts) i 0 → b < getD (Q .counts) j 0
-    → target min max P Q .under (i + j + bit min) (position (factorLayers P) (factorLayers Q) ((i, a), (j, b)) .1)
+under-at : (min max : Bool) (P Q : Listing) (i a j b : ℕ) → a < count P i → b < count Q j
+    → target min max P Q .under (i + j + bit min) (position (factorLayers min P) (factorLayers min Q) ((i, a), (j, b)) .1)
     ≡ underPair min P Q i a j b
 unfolding underPair
 under-at false max P Q i a j b ha hb = high-under false max P Q i a j b ha hb (omega arith)
 under-at true max P Q i a j b ha hb = go (decLt 0 (i + j))
   where
     go : Dec (0 < i + j)
-        → target true max P Q .under (i + j + 1) (position (factorLayers P) (factorLayers Q) ((i, a), (j, b)) .1)
+        → target true max P Q .under (i + j + 1) (position (factorLayers true P) (factorLayers true Q) ((i, a), (j, b)) .1)
         ≡ underPair true P Q i a j b
     go (yes l) = rw (ne-eqb (i + j) 0 (λ z. omega arith)) (high-under true max P Q i a j b ha hb (omega arith))
     go (no l) =
@@ -160,19 +154,19 @@ under-at true max P Q i a j b ha hb = go (decLt 0 (i + j))
         rw (p, q) (low-under max P Q a b _)
 
 -- a pair of the highest ranks has the added maximal element alone over it
-highest-over : (min : Bool) (P Q : Factor) (i a j b : ℕ) → a < getD (P .counts) i 0 → b < getD (Q .counts) j 0
-    → i + j ≡ paired (factorLayers P) (factorLayers Q) .top
+highest-over : (min : Bool) (P Q : Listing) (i a j b : ℕ) → a < count P i → b < count Q j
+    → i + j ≡ paired (factorLayers min P) (factorLayers min Q) .top
     → length (derived (target min true P Q) (i + j + bit min)
-    (position (factorLayers P) (factorLayers Q) ((i, a), (j, b)) .1)) ≡ 1
+    (position (factorLayers min P) (factorLayers min Q) ((i, a), (j, b)) .1)) ≡ 1
 unfolding target
 highest-over min P Q i a j b ha hb e =
     rw e (ap length (grown-max-sups min _ _ (rw e at (there min true P Q i a j b ha hb))))
 
-over-at : (min max : Bool) (P Q : Factor) → Sound (factorLayers P) → Sound (factorLayers Q) → (i a j b : ℕ)
-    → a < getD (P .counts) i 0 → b < getD (Q .counts) j 0
+over-at : (min max : Bool) (P Q : Listing) → Sound (factorLayers min P) → Sound (factorLayers min Q) → (i a j b : ℕ)
+    → a < count P i → b < count Q j
     → length (derived (target min max P Q) (i + j + bit min)
-    (position (factorLayers P) (factorLayers Q) ((i, a), (j, b)) .1))
-    ≡ length (derived (factorLayers P) i a) + length (derived (factorLayers Q) j b)
+    (position (factorLayers min P) (factorLayers min Q) ((i, a), (j, b)) .1))
+    ≡ length (derived (factorLayers min P) i a) + length (derived (factorLayers min Q) j b)
     + cond (max && eqb (i + j + 2) (length (P .counts) + length (Q .counts))) 1 0
 over-at min false P Q sP sQ i a j b ha hb =
     let l = low-enough min false P Q i a j b ha hb in
@@ -187,8 +181,8 @@ over-at min true P Q sP sQ i a j b ha hb = go (decLt (i + j) (length (P .counts)
 
     go : Dec (i + j < length (P .counts) - 1 + (length (Q .counts) - 1))
         → length (derived (target min true P Q) (i + j + bit min)
-        (position (factorLayers P) (factorLayers Q) ((i, a), (j, b)) .1))
-        ≡ length (derived (factorLayers P) i a) + length (derived (factorLayers Q) j b)
+        (position (factorLayers min P) (factorLayers min Q) ((i, a), (j, b)) .1))
+        ≡ length (derived (factorLayers min P) i a) + length (derived (factorLayers min Q) j b)
         + cond (eqb (i + j + 2) (length (P .counts) + length (Q .counts))) 1 0
     go (yes l) =
         rw (ne-eqb (i + j + 2) (length (P .counts) + length (Q .counts)) (λ z. omega (arith, p, q)))
@@ -200,18 +194,12 @@ over-at min true P Q sP sQ i a j b ha hb = go (decLt (i + j) (length (P .counts)
         rw (eq-eqb (i + j + 2) (length (P .counts) + length (Q .counts)) (omega (arith, p, q)))
         (highest-over min P Q i a j b ha hb t ∙ omega (arith, z))
 
--- how many lie over an element is what has been counted
-counted-over : (P : Factor) (up : List ℕ) → UpCounts P up → (i a : ℕ) → a < getD (P .counts) i 0
-    → length (derived (factorLayers P) i a) ≡ getD up (before (P .counts) i + a) 0
-unfolding UpCounts upCount
-counted-over P up u i a h = derived-length (factorLayers P) i a ∙ rw (← add-one i) (sym (u i a h))
-
 -- ---- the same, as a plan has it
 
-module _ (min max : Bool) (P Q : Factor) (i a j b : ℕ) (ha : a < getD (P .counts) i 0) (hb : b < getD (Q .counts) j 0)
+module _ (min max : Bool) (P Q : Listing) (i a j b : ℕ) (ha : a < count P i) (hb : b < count Q j)
   where
     abbrev n : ℕ
-    n = number min (P .counts) (Q .counts) i a j b
+    n = pairNumber min (P .counts) (Q .counts) i a j b
 
     pub pair-under : listsOf min max P Q (2 * n) ≡ underPair min P Q i a j b
     unfolding listAt
@@ -219,9 +207,9 @@ module _ (min max : Bool) (P Q : Factor) (i a j b : ℕ) (ha : a < getD (P .coun
         let z : 2 * n ≡ 2 * n + 0 = omega arith in
         rw z (pair-lists min max P Q i a j b ha hb 0 (omega arith) ∙ under-at min max P Q i a j b ha hb)
 
-    pub pair-over : Sound (factorLayers P) → Sound (factorLayers Q) → (upP upQ : List ℕ)
-        → UpCounts P upP → UpCounts Q upQ → length (listsOf min max P Q (2 * n + 1)) ≡ overPair max P Q upP upQ i a j b
+    pub pair-over : Sound (factorLayers min P) → Sound (factorLayers min Q)
+        → length (listsOf min max P Q (2 * n + 1)) ≡ overPair min max P Q i a j b
     unfolding listAt overPair
-    pair-over sP sQ upP upQ cP cQ =
+    pair-over sP sQ =
         ap length (pair-lists min max P Q i a j b ha hb 1 (omega arith)) ∙ over-at min max P Q sP sQ i a j b ha hb
-        ∙ rw (counted-over P upP cP i a ha, counted-over Q upQ cQ j b hb)
+        ∙ rw (factor-derived min P i a, factor-derived min Q j b)

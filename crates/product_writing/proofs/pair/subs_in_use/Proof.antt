@@ -1,12 +1,12 @@
--- `used_subs`: an empty list at rank 0, else the one that list_of reads.
+-- `subs_in_use`: an empty list at rank 0, else the one that list_of reads.
 -- Assumes nothing.
 use mathlib.Core.Path.{_≡_}
 use Prim.Native.Nat.{_+_, _*_}
 use native.Mathlib.Omega.{arith}
 use borrow.Author.Tests.{eq-eqb, ne-eqb}
 use borrow.Author.Needs.{needs}
-use Rattle.product_writing.proofs.pair.used_subs.Statement.{statement}
-use Rattle.product_writing.proofs.pair.used_subs.Tie as tie
+use Rattle.product_writing.proofs.pair.subs_in_use.Statement.{statement}
+use Rattle.product_writing.proofs.pair.subs_in_use.Tie as tie
 
 sub-result : tie.Need-sub-result
 sub-result c = search needs
@@ -28,12 +28,12 @@ list-of-requires c κs = search needs
 
 returns-2 : tie.Need-returns-2
 returns-2 c =
-    let k = c .before .before .before .before .args .place in
+    let k = c .before .before .before .before .args .e in
     let z : 2 * k + 0 ≡ 2 * k = omega arith in
     rw (ne-eqb _ _ (c .before .if1 .left), z) (c .list-of .ensures)
 
-pub used-subs-spec : {M : Type 1} → statement M
-used-subs-spec =
+pub subs-in-use-spec : {M : Type 1} → statement M
+subs-in-use-spec =
     tie.close
     (tie.spec
     sub-result

@@ -7,35 +7,25 @@ use native.Mathlib.Decide.{decLt}
 use native.Mathlib.Omega.{arith}
 use lib.ListN.{length, getD, set, length-set}
 use lib.Seq.{getD-set-same, getD-set-other}
-use Rattle.order.specs.Sums.{sum}
-use Rattle.order.proofs.Sums.{sum-le}
-use Rattle.product_places.specs.Laid.{Holds}
-use Rattle.product_writing.specs.Filling.{starts, Row, Put}
+use Rattle.order.proofs.Sums.{sum-next, sum-le}
+use Rattle.listing.specs.Written.{lengths}
+use Rattle.listing.specs.Laid.{LaidList}
+use Rattle.listing_sups.specs.Filling.{starts, ElementsLaid, Put}
 
 module _ (lists : ℕ → List ℕ) where
-  -- a list begins where the one before it ends
-  pub starts-next : (t : ℕ) → starts lists (t + 1) ≡ starts lists t + length (lists t)
-  unfolding sum
-  starts-next t =
-      let e : t + 1 ≡ suc t = omega arith in
-      rw e
-
-  pub starts-le : (t u : ℕ) → t ≤ u → starts lists t ≤ starts lists u
-  starts-le t u h = sum-le _ t u h
-
   starts-two : (e : ℕ)
       → starts lists (2 * (e + 1)) ≡ starts lists (2 * e) + length (lists (2 * e)) + length (lists (2 * e + 1))
   starts-two e =
       let t : 2 * (e + 1) ≡ 2 * e + 1 + 1 = omega arith in
-      rw t (omega (arith, starts-next (2 * e), starts-next (2 * e + 1)))
+      rw t (omega (arith, sum-next (lengths lists) (2 * e), sum-next (lengths lists) (2 * e + 1)))
 
   -- there is room for an element where there is for all n
   pub starts-room : (n e : ℕ) → e < n
       → starts lists (2 * e) + length (lists (2 * e)) + length (lists (2 * e + 1)) ≤ starts lists (2 * n)
-  starts-room n e h = omega (arith, starts-two e, starts-le (2 * (e + 1)) (2 * n) (omega arith))
+  starts-room n e h = omega (arith, starts-two e, sum-le (lengths lists) (2 * (e + 1)) (2 * n) (omega arith))
 
-  pub row-none : (ends inc : List ℕ) → Row lists 0 ends inc ends inc
-  row-none ends inc = record {
+  pub elements-none : (ends inc : List ℕ) → ElementsLaid lists 0 ends inc ends inc
+  elements-none ends inc = record {
     ends-length = refl;
     ends-done = λ t h. absurd (omega arith);
     ends-rest = λ t h. refl;
@@ -46,9 +36,9 @@ module _ (lists : ℕ → List ℕ) where
 
   -- ---- one element more
 
-  module _ (e c d : ℕ) (ends₀ inc₀ ends inc inc′ : List ℕ) (r : Row lists e ends₀ inc₀ ends inc)
+  module _ (e c d : ℕ) (ends₀ inc₀ ends inc inc′ : List ℕ) (r : ElementsLaid lists e ends₀ inc₀ ends inc)
       (room : 2 * e + 1 < length ends) (hc : c ≡ starts lists (2 * e + 1)) (hd : d ≡ starts lists (2 * (e + 1)))
-      (l : Holds (starts lists (2 * e)) (lists (2 * e)) inc inc′) where
+      (l : LaidList (starts lists (2 * e)) (lists (2 * e)) inc inc′) where
     abbrev ends′ : List ℕ
     ends′ = set (set ends (2 * e) c) (2 * e + 1) d
 
@@ -82,7 +72,7 @@ module _ (lists : ℕ → List ℕ) where
     next-subs k j h b = go (decLt k e)
       where
         go : Dec (k < e) → getD inc′ (starts lists (2 * k) + j) 0 ≡ getD (lists (2 * k)) j 0
-        go (yes a) = l .before _ (omega (arith, starts-room e k a)) ∙ r .subs-done k j a b
+        go (yes a) = l .earlier _ (omega (arith, starts-room e k a)) ∙ r .subs-done k j a b
         go (no a) =
             let s : e ≡ k = omega arith in
             subst (
@@ -90,14 +80,14 @@ module _ (lists : ℕ → List ℕ) where
             j < length (lists (2 * n)) → getD inc′ (starts lists (2 * n) + j) 0 ≡ getD (lists (2 * n)) j 0)
             s (λ q. l .inside j q) b
 
-    row-next : Row lists (e + 1) ends₀ inc₀ ends′ inc′
-    row-next = record {
+    elements-next : ElementsLaid lists (e + 1) ends₀ inc₀ ends′ inc′
+    elements-next = record {
       ends-length = length-set (set ends (2 * e) c) (2 * e + 1) d ∙ length-set ends (2 * e) c ∙ r .ends-length;
       ends-done = next-done;
       ends-rest = λ t h. next-other t (omega arith) (omega arith) ∙ r .ends-rest t (omega arith);
       inc-length = l .same-length ∙ r .inc-length;
       subs-done = next-subs;
-      inc-rest = λ p h. l .after p (omega (arith, starts-two e)) ∙ r .inc-rest p (omega (arith, starts-two e));
+      inc-rest = λ p h. l .later p (omega (arith, starts-two e)) ∙ r .inc-rest p (omega (arith, starts-two e));
     }
 
   -- ---- runs of elements
@@ -105,7 +95,7 @@ module _ (lists : ℕ → List ℕ) where
   pub put-none : (e e′ at : ℕ) (ends inc : List ℕ) → at ≡ starts lists (2 * e) → e ≡ e′
       → Put lists e e′ at ends inc ends inc
   put-none e e′ at ends inc h s =
-      rw (← s) (record { place = h; ends-length = refl; inc-length = refl; row = λ ends₀ inc₀ r. r })
+      rw (← s) (record { place = h; ends-length = refl; inc-length = refl; laid = λ ends₀ inc₀ r. r })
 
   pub put-then : (e e₁ e₂ at₁ at₂ : ℕ) (ends inc ends₁ inc₁ ends₂ inc₂ : List ℕ)
       → Put lists e e₁ at₁ ends inc ends₁ inc₁ → Put lists e₁ e₂ at₂ ends₁ inc₁ ends₂ inc₂
@@ -114,21 +104,21 @@ module _ (lists : ℕ → List ℕ) where
     place = q .place;
     ends-length = q .ends-length ∙ p .ends-length;
     inc-length = q .inc-length ∙ p .inc-length;
-    row = λ ends₀ inc₀ r. q .row ends₀ inc₀ (p .row ends₀ inc₀ r);
+    laid = λ ends₀ inc₀ r. q .laid ends₀ inc₀ (p .laid ends₀ inc₀ r);
   }
 
   -- an element whose subs s have been written, with room for its sups, and its two ends
   pub put-one : (e at sups r : ℕ) (s ends inc ends′ inc′ : List ℕ) → at ≡ starts lists (2 * e) → s ≡ lists (2 * e)
       → sups ≡ length (lists (2 * e + 1)) → r ≡ at + length s + sups → 2 * e + 1 < length ends
-      → Holds at s inc inc′ → ends′ ≡ set (set ends (2 * e) (at + length s)) (2 * e + 1) r
+      → LaidList at s inc inc′ → ends′ ≡ set (set ends (2 * e) (at + length s)) (2 * e + 1) r
       → Put lists e (e + 1) r ends inc ends′ inc′
   put-one e at sups r s ends inc ends′ inc′ pa ps pu pr room l pe =
-      let hc : at + length s ≡ starts lists (2 * e + 1) = omega (arith, starts-next (2 * e), ap length ps) in
+      let hc : at + length s ≡ starts lists (2 * e + 1) = omega (arith, sum-next (lengths lists) (2 * e), ap length ps) in
       let hd : r ≡ starts lists (2 * (e + 1)) = omega (arith, starts-two e, ap length ps) in
-      let l′ : Holds (starts lists (2 * e)) (lists (2 * e)) inc inc′ = rw (pa, ps) at l in
+      let l′ : LaidList (starts lists (2 * e)) (lists (2 * e)) inc inc′ = rw (pa, ps) at l in
       record {
         place = hd;
         ends-length = ap length pe ∙ simp length-set;
         inc-length = l .same-length;
-        row = λ ends₀ inc₀ k. rw pe (row-next e (at + length s) r ends₀ inc₀ ends inc inc′ k room hc hd l′);
+        laid = λ ends₀ inc₀ k. rw pe (elements-next e (at + length s) r ends₀ inc₀ ends inc inc′ k room hc hd l′);
       }

@@ -8,34 +8,34 @@ use native.Mathlib.Omega.{arith}
 use lib.ListN.{length}
 use Rattle.order.specs.Lists.{In}
 use Rattle.order.specs.Sums.{sum}
-use Rattle.listing.specs.Listing.{Listing, limits}
+use Rattle.listing.specs.Listing.{Listing, listing, limits}
 use Rattle.listing.specs.Shape.{elements}
 use Rattle.listing.specs.Layers.{Layers, derived}
 use Rattle.listing.specs.Written.{written}
 use Rattle.listing.proofs.ShapeExact.{shaped-ends}
 use Rattle.listing.proofs.Written.{joined-length, written-elements, written-ends-length}
 use Rattle.product_pairs.specs.Product.{productOf}
-use Rattle.product_places.specs.Factors.{Factor, part}
-use Rattle.product_writing.specs.Filling.{starts}
-use Rattle.product_writing.specs.Pairs.{target, listsOf, listed, sizeOf, Plan, Ready}
-use Rattle.listing_sups.specs.Sups.{UpCounts}
-use Rattle.product_building.specs.Built.{built, Derives}
-use Rattle.product_writing.proofs.Target.{target-size}
-use Rattle.product_sizes.specs.Sizing.{Usable, partOf}
+use Rattle.product_places.specs.declared.Kind.{Kind}
+use Rattle.listing_sups.specs.Filling.{starts}
+use Rattle.product_plan.proofs.Factors.{factorOf}
+use Rattle.product_writing.specs.Pairs.{target, listsOf, sizeOf, Plan}
+use Rattle.product_building.specs.Built.{productListing}
+use Rattle.product_writing.proofs.Target.{target-size, target-topped}
+use Rattle.product_sizes.specs.Sizing.{Usable, countsInUse}
 use Rattle.product_sizes.proofs.Parts.{usable-shaped, in-use-length}
 use Rattle.product_sizes.proofs.Tested.{Passed}
 use Rattle.product_sizes.proofs.Counted.{in-use-few}
-use Rattle.product_sizes.proofs.Targets.{target-written, target-topped, target-sound, part-sound}
-use Rattle.product_sizes.proofs.Lists.{pair-under, pair-over}
-use Rattle.product_sizes.proofs.Entries.{written-derives, all-few}
-use Rattle.product_sizes.proofs.Past.{highest-past}
+use Rattle.product_plan.proofs.Targets.{target-written, target-sound, factor-sound}
+use Rattle.product_plan.proofs.Lists.{pair-under, pair-over}
+use Rattle.product_plan.proofs.Entries.{all-few}
+use Rattle.product_plan.proofs.Past.{highest-past}
 
 module _ (min max : Bool) (A B : Listing) (uA : Usable min max A) (uB : Usable min max B) where
-  abbrev P : Factor
-  P = partOf min max A
+  abbrev P : Listing
+  P = factorOf min max A
 
-  abbrev Q : Factor
-  Q = partOf min max B
+  abbrev Q : Listing
+  Q = factorOf min max B
 
   abbrev T : Layers
   T = target min max P Q
@@ -60,7 +60,7 @@ module _ (min max : Bool) (A B : Listing) (uA : Usable min max A) (uB : Usable m
   size-R : elements R ≡ n
   size-R =
       ap elements′ (sym (target-written min max A B uA uB))
-      ∙ written-elements T (derived T) (target-topped min max A B uA uB) ∙ size-T
+      ∙ written-elements T (derived T) (target-topped min max P Q) ∙ size-T
     where
       elements′ : Listing → ℕ
       elements′ L = elements L
@@ -79,21 +79,17 @@ module _ (min max : Bool) (A B : Listing) (uA : Usable min max A) (uB : Usable m
 
   -- ---- the plan
 
-  planned-derives : Derives (written T (derived T) .counts) (listsOf min max P Q)
-  unfolding listsOf
-  planned-derives = written-derives T (target-topped min max A B uA uB)
-
   module _ (few : elements R ≤ limits .elements) where
     small : (t x : ℕ) → In x (listsOf min max P Q t) → x < limits .elements
     unfolding listsOf
     small =
-        let t = target-topped min max A B uA uB in
+        let t = target-topped min max P Q in
         let h : sum (T .size) (suc (T .top)) ≤ limits .elements = omega (arith, size-T, size-R) in
         all-few T t (target-sound min max A B uA uB) (limits .elements) h (highest-past min max A B uA uB t h)
 
     planned : length (R .inc) ≤ limits .incidences → (re ri : ℕ) → length (R .ends) ≤ re → length (R .inc) ≤ ri
-        → (upP upQ : List ℕ) → UpCounts P upP → UpCounts Q upQ → Plan min max P Q upP upQ re ri
-    planned few-inc re ri room-ends room-inc upP upQ cP cQ =
+        → Plan min max P Q re ri
+    planned few-inc re ri room-ends room-inc =
         let a = usable-shaped min max A uA in
         let b = usable-shaped min max B uB in
         let fA = in-use-few min max A uA in
@@ -109,7 +105,7 @@ module _ (min max : Bool) (A B : Listing) (uA : Usable min max A) (uB : Usable m
           few-Q = omega (arith, fB, b .few-elements);
           under = pair-under min max P Q;
           over = λ i a j b ha hb.
-              pair-over min max P Q i a j b ha hb (part-sound min max A uA) (part-sound min max B uB) upP upQ cP cQ;
+              pair-over min max P Q i a j b ha hb (factor-sound min max A uA) (factor-sound min max B uB);
           small = small;
           elements = omega (arith, size-R);
           room-for-ends = omega (arith, ends-R);
@@ -117,21 +113,24 @@ module _ (min max : Bool) (A B : Listing) (uA : Usable min max A) (uB : Usable m
           incidences = omega (arith, inc-R);
         }
 
-  -- ---- the same, of the counts x and y that the code has in hand
+-- ---- the same, of the counts x and y that the code has in hand
 
-  module _ (x y : List ℕ) (ex : x ≡ P .counts) (ey : y ≡ Q .counts) where
-    pub built-is : built min max x (A .ends) (A .inc) y (B .ends) (B .inc) ≡ R
-    built-is = rw (ex, ey) (target-written min max A B uA uB)
+module _ (kind : Kind) (A B : Listing) (uA : Usable (kind .min) (kind .max) A) (uB : Usable (kind .min) (kind .max) B)
+    (x y : List ℕ) (ex : x ≡ countsInUse (kind .min) (kind .max) (A .counts))
+    (ey : y ≡ countsInUse (kind .min) (kind .max) (B .counts)) where
+  pub built-is : productListing kind (listing x (A .ends) (A .inc)) (listing y (B .ends) (B .inc))
+      ≡ productOf (kind .min) (kind .max) A B
+  built-is = rw (ex, ey) (target-written (kind .min) (kind .max) A B uA uB)
 
-    pub build-asked : (counts ends inc : List ℕ) → Passed limits R (length counts) (length ends) (length inc)
-        → ((upP upQ : List ℕ) → UpCounts (part min x (A .ends) (A .inc)) upP
-        → UpCounts (part min y (B .ends) (B .inc)) upQ
-        → Ready min max x (A .ends) (A .inc) y (B .ends) (B .inc) upP upQ ends inc)
-        × (Derives (built min max x (A .ends) (A .inc) y (B .ends) (B .inc) .counts)
-        (listed min max x (A .ends) (A .inc) y (B .ends) (B .inc))
-        × (length (built min max x (A .ends) (A .inc) y (B .ends) (B .inc) .counts) ≤ length counts))
-    build-asked counts ends inc h = (
-      rw (ex, ey)
-          (planned (h .few-elements) (h .few-incidences) (length ends) (length inc) (h .room-ends) (h .room-inc)),
-      (rw (ex, ey) planned-derives, rw built-is (h .room-counts)),
-    )
+  pub build-asked : (counts ends inc : List ℕ)
+      → Passed limits (productOf (kind .min) (kind .max) A B) (length counts) (length ends) (length inc)
+      → Plan (kind .min) (kind .max) (listing x (A .ends) (A .inc)) (listing y (B .ends) (B .inc)) (length ends)
+      (length inc)
+      × (length (productListing kind (listing x (A .ends) (A .inc)) (listing y (B .ends) (B .inc)) .counts)
+      ≤ length counts)
+  build-asked counts ends inc h = (
+    rw (ex, ey)
+        (planned (kind .min) (kind .max) A B uA uB (h .few-elements) (h .few-incidences) (length ends) (length inc)
+        (h .room-ends) (h .room-inc)),
+    rw built-is (h .room-counts),
+  )
