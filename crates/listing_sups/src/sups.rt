@@ -59,12 +59,7 @@ fn tally_rank(
 {
     let mut a: usize = 0;
     while a < m {
-        tally_list(
-            &mut *up,
-            from,
-            n,
-            inner::list_of(ends, inc, 2 * (here + a)),
-        );
+        tally_list(&mut *up, from, n, inner::list_of(ends, inc, 2 * (here + a)));
         a += 1;
     }
 }

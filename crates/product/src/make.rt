@@ -6,7 +6,7 @@ use listing::Index;
 use listing::inner;
 use listing::refusal;
 use product_building::build;
-use product_places::Kind;
+use product_places::Poles;
 use product_sizes::sizes;
 use product_sizes::sizes::Room;
 use product_sizes::sizes::Totals;
@@ -141,10 +141,10 @@ fn product(
         (now (counts .entry)) (now (ends .entry)) (now (inc .entry)) (now (counts .exit)) (now (ends .exit))
         (now (inc .exit)) r ⌝ }
 {
-    let kind = Kind { min, max };
-    let u = sizes::count_used(kind, pcounts, pends, pinc);
-    let v = sizes::count_used(kind, qcounts, qends, qinc);
-    let s = sizes::product_sizes(kind, u, v);
+    let poles = Poles { min, max };
+    let u = sizes::extent_of(poles, pcounts, pends, pinc);
+    let v = sizes::extent_of(poles, qcounts, qends, qinc);
+    let s = sizes::product_sizes(poles, u, v);
     let room = Room {
         counts: counts.len(),
         ends: ends.len(),
@@ -154,10 +154,10 @@ fn product(
     if t.no != 0 {
         return refused(t);
     }
-    let p = sizes::range(kind, pcounts);
-    let q = sizes::range(kind, qcounts);
+    let p = sizes::range(poles, pcounts);
+    let q = sizes::range(poles, qcounts);
     build::build(
-        kind,
+        poles,
         p,
         pends,
         pinc,

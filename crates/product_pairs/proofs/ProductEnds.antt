@@ -92,15 +92,15 @@ high-end min true A B y e l =
 high-end min false A B y e l = absurd (omega (arith, in-range _ (product-topped min false A B) (y .0) (y .1) e))
 
 -- An element is a pair in use or an added end.
-abbrev pub Kind : Bool → Bool → Layers → El → Type 0
-Kind min max P y = Used min max P y ⊎ ((T min × (y ≡ (0, 0))) ⊎ (T max × (y ≡ (P .top, 0))))
+abbrev pub Poles : Bool → Bool → Layers → El → Type 0
+Poles min max P y = Used min max P y ⊎ ((T min × (y ≡ (0, 0))) ⊎ (T max × (y ≡ (P .top, 0))))
 
 pub product-kinds : (min max : Bool) (A B : Layers) (y : El) → y .1 < product min max A B .size (y .0)
-    → Kind min max (product min max A B) y
+    → Poles min max (product min max A B) y
 product-kinds min max A B y e = go (decLt (y .0) (bit min)) (decLt (product min max A B .top) (y .0 + bit max))
   where
     go : Dec (y .0 < bit min) → Dec (product min max A B .top < y .0 + bit max)
-        → Kind min max (product min max A B) y
+        → Poles min max (product min max A B) y
     go (yes l) d = inr (inl (low-end min max A B y e l))
     go (no l) (yes h) = inr (inr (high-end min max A B y e h))
     go (no l) (no h) = inl (e, omega arith, omega arith)

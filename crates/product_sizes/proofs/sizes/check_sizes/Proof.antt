@@ -39,19 +39,25 @@ plain-requires-5 : tie.Need-plain-requires-5
 plain-requires-5 c κs = search needs
 
 returns-5 : tie.Need-returns-5
-returns-5 c = c .plain5 .ensures ∙ sym (short-ends _ _ _ (omega arith) (omega arith) (omega arith) (omega arith) (omega arith))
+returns-5 c =
+    c .plain5 .ensures
+    ∙ sym (short-ends _ _ _ (omega arith) (omega arith) (omega arith) (omega arith) (omega arith))
 
 plain-requires-6 : tie.Need-plain-requires-6
 plain-requires-6 c κs = search needs
 
 returns-6 : tie.Need-returns-6
-returns-6 c = c .plain6 .ensures ∙ sym (short-inc _ _ _ (omega arith) (omega arith) (omega arith) (omega arith) (omega arith) (omega arith))
+returns-6 c =
+    c .plain6 .ensures
+    ∙ sym (short-inc _ _ _ (omega arith) (omega arith) (omega arith) (omega arith) (omega arith) (omega arith))
 
 plain-requires-7 : tie.Need-plain-requires-7
 plain-requires-7 c κs = search needs
 
 returns-7 : tie.Need-returns-7
-returns-7 c = c .plain7 .ensures ∙ sym (sizes-fine _ _ _ (omega arith) (omega arith) (omega arith) (omega arith) (omega arith) (omega arith))
+returns-7 c =
+    c .plain7 .ensures
+    ∙ sym (sizes-fine _ _ _ (omega arith) (omega arith) (omega arith) (omega arith) (omega arith) (omega arith))
 
 pub check-sizes-spec : {M : Type 1} → statement M
 check-sizes-spec =
