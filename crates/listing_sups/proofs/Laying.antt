@@ -113,7 +113,8 @@ module _ (lists : ℕ → List ℕ) where
       → LaidList at s inc inc′ → ends′ ≡ set (set ends (2 * e) (at + length s)) (2 * e + 1) r
       → Put lists e (e + 1) r ends inc ends′ inc′
   put-one e at sups r s ends inc ends′ inc′ pa ps pu pr room l pe =
-      let hc : at + length s ≡ starts lists (2 * e + 1) = omega (arith, sum-next (lengths lists) (2 * e), ap length ps) in
+      let n = sum-next (lengths lists) (2 * e) in
+      let hc : at + length s ≡ starts lists (2 * e + 1) = omega (arith, n, ap length ps) in
       let hd : r ≡ starts lists (2 * (e + 1)) = omega (arith, starts-two e, ap length ps) in
       let l′ : LaidList (starts lists (2 * e)) (lists (2 * e)) inc inc′ = rw (pa, ps) at l in
       record {

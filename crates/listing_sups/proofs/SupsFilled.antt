@@ -78,8 +78,12 @@ module _ {L : Listing} {r from n here m : ℕ} {next inc′ : List ℕ} (t : Tur
   abbrev c : List ℕ
   c = L .counts
 
-  -- what is gathered are the derived sups
-  sups-are : (x : ℕ) → gather (subsAt (L .ends) inc′ here) x m ≡ derived (layers L) r x
+  -- what is gathered
+  abbrev sups : ℕ → List ℕ
+  sups x = gather (subsAt (L .ends) inc′ here) x m
+
+  -- are the derived sups
+  sups-are : (x : ℕ) → sups x ≡ derived (layers L) r x
   unfolding derived
   sups-are x =
       rw (t .here-is, t .m-is, add-one r)
@@ -93,13 +97,12 @@ module _ {L : Listing} {r from n here m : ℕ} {next inc′ : List ℕ} (t : Tur
   cursor x h = rw (← t .from-is) (t .cursors (from + x) (omega (arith, t .from-is)) (there x h))
 
   -- there is room for the sups of an element
-  fits : (x : ℕ) → x < n
-      → getD next (from + x) 0 + length (gather (subsAt (L .ends) inc′ here) x m) ≤ getD (L .ends) (2 * (from + x) + 1) 0
+  fits : (x : ℕ) → x < n → getD next (from + x) 0 + length (sups x) ≤ getD (L .ends) (2 * (from + x) + 1) 0
   fits x h =
       let o = t .ready .room r x (omega (arith, t .n-is)) in
       rw (cursor x h, sups-are x, t .from-is) o
 
-  pub rank-ready : Apart from n (λ x. length (gather (subsAt (L .ends) inc′ here) x m)) (start (L .ends) (2 * here)) next
+  pub rank-ready : Apart from n (λ x. length (sups x)) (start (L .ends) (2 * here)) next
   rank-ready = record {
     order = λ x y h l.
         omega (

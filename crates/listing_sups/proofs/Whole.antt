@@ -187,7 +187,8 @@ module _ (M : Layers) (t : Topped M) (ends₀ inc₀ ends inc : List ℕ)
     sups-at e j h l =
         let o = part-ok (M .size) (suc (M .top)) e h in
         let r = partAt (M .size) (suc (M .top)) e .0 in
-        sup-of e j r _ (rw (← written-count M (derived M) t r) at (o .1)) (o .2 ∙ rw (written-before M (derived M) t r)) l
+        let k = rw (← written-count M (derived M) t r) at (o .1) in
+        sup-of e j r _ k (o .2 ∙ rw (written-before M (derived M) t r)) l
 
     subs-at : (e j : ℕ) → e < N → j < length (lists (2 * e))
         → getD inc′ (starts lists (2 * e) + j) 0 ≡ getD (lists (2 * e)) j 0

@@ -26,4 +26,5 @@ pub record Put (lists : ℕ → List ℕ) (e e′ at : ℕ) (ends inc ends′ in
   pub place : at ≡ starts lists (2 * e′)
   pub ends-length : length ends′ ≡ length ends
   pub inc-length : length inc′ ≡ length inc
-  pub laid : (ends₀ inc₀ : List ℕ) → ElementsLaid lists e ends₀ inc₀ ends inc → ElementsLaid lists e′ ends₀ inc₀ ends′ inc′
+  pub laid : (ends₀ inc₀ : List ℕ) → ElementsLaid lists e ends₀ inc₀ ends inc
+      → ElementsLaid lists e′ ends₀ inc₀ ends′ inc′

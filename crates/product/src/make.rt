@@ -8,7 +8,7 @@ use listing::outputs;
 use listing::outputs::Room;
 use listing::refusal;
 use product_building::build;
-use product_places::Kind;
+use product_places::Poles;
 use product_sizes::sizes;
 use product_sizes::sizes::Totals;
 ghost use mathlib.Core.Path.{_≡_};
@@ -129,10 +129,10 @@ fn product(
         (held (qcounts .entry) (qends .entry) (qinc .entry)))
         (held (counts .entry) (ends .entry) (inc .entry)) (held (counts .exit) (ends .exit) (inc .exit)) r ⌝ }
 {
-    let kind = Kind { min, max };
-    let u = sizes::count_used(kind, pcounts, pends, pinc);
-    let v = sizes::count_used(kind, qcounts, qends, qinc);
-    let s = sizes::product_sizes(kind, u, v);
+    let poles = Poles { min, max };
+    let u = sizes::extent_of(poles, pcounts, pends, pinc);
+    let v = sizes::extent_of(poles, qcounts, qends, qinc);
+    let s = sizes::product_sizes(poles, u, v);
     let room = Room {
         counts: counts.len(),
         ends: ends.len(),
@@ -142,10 +142,10 @@ fn product(
     if t.no != 0 {
         return outputs::refused(t);
     }
-    let p = sizes::range(kind, pcounts);
-    let q = sizes::range(kind, qcounts);
+    let p = sizes::range(poles, pcounts);
+    let q = sizes::range(poles, qcounts);
     build::build(
-        kind,
+        poles,
         p,
         pends,
         pinc,

@@ -15,7 +15,7 @@ use Rattle.order.specs.Lists.{over}
 use Rattle.listing_sups.specs.Filling.{starts, ElementsLaid}
 use Rattle.listing_sups.proofs.Over.{list-over, take-over}
 use Rattle.listing_sups.proofs.Whole.{whole-fillable, whole-ends, whole-inc}
-use Rattle.product_places.specs.declared.Kind.{Kind}
+use Rattle.product_places.specs.declared.Poles.{Poles}
 use Rattle.product_places.proofs.Numbers.{bit-le}
 use Rattle.product_writing.specs.Pairs.{target, listsOf, productLists, sizeOf, Plan}
 use Rattle.product_writing.proofs.Target.{target-size, target-topped}
@@ -32,30 +32,30 @@ pub counted-from : {b b′ : ℕ} (L : Listing) (up : List ℕ) → b ≡ b′ �
 counted-from L up e u = rw e at u
 
 -- the plan, and room for the counts
-pub record Buildable (kind : Kind) (P Q : Listing) (counts₀ ends₀ inc₀ : List ℕ) : Type 0 where
-  pub plan : Plan (kind .min) (kind .max) P Q (length ends₀) (length inc₀)
-  pub room : length (productListing kind P Q .counts) ≤ length counts₀
+pub record Buildable (poles : Poles) (P Q : Listing) (counts₀ ends₀ inc₀ : List ℕ) : Type 0 where
+  pub plan : Plan (poles .min) (poles .max) P Q (length ends₀) (length inc₀)
+  pub room : length (productListing poles P Q .counts) ≤ length counts₀
 
-module _ {kind : Kind} {P Q : Listing} {counts₀ ends₀ inc₀ : List ℕ} (r : Buildable kind P Q counts₀ ends₀ inc₀) where
+module _ {poles : Poles} {P Q : Listing} {counts₀ ends₀ inc₀ : List ℕ} (r : Buildable poles P Q counts₀ ends₀ inc₀) where
   abbrev W : Listing
-  W = productListing kind P Q
+  W = productListing poles P Q
 
   abbrev T : Layers
-  T = target (kind .min) (kind .max) P Q
+  T = target (poles .min) (poles .max) P Q
 
   abbrev N : ℕ
   N = sum (T .size) (suc (T .top))
 
   topped : Topped T
-  topped = target-topped (kind .min) (kind .max) P Q
+  topped = target-topped (poles .min) (poles .max) P Q
 
-  size : N ≡ sizeOf (kind .min) (kind .max) (P .counts) (Q .counts)
-  size = target-size P Q (r .plan .ranks-P .0) (r .plan .ranks-Q .0) (kind .min) (kind .max)
+  size : N ≡ sizeOf (poles .min) (poles .max) (P .counts) (Q .counts)
+  size = target-size P Q (r .plan .ranks-P .0) (r .plan .ranks-Q .0) (poles .min) (poles .max)
 
-  counts-are : W .counts ≡ countsOf (kind .min) (kind .max) (P .counts) (Q .counts)
-  counts-are = target-counts P Q (r .plan .ranks-P .0) (r .plan .ranks-Q .0) (kind .min) (kind .max)
+  counts-are : W .counts ≡ countsOf (poles .min) (poles .max) (P .counts) (Q .counts)
+  counts-are = target-counts P Q (r .plan .ranks-P .0) (r .plan .ranks-Q .0) (poles .min) (poles .max)
 
-  pub counts-room : length (countsOf (kind .min) (kind .max) (P .counts) (Q .counts)) ≤ length counts₀
+  pub counts-room : length (countsOf (poles .min) (poles .max) (P .counts) (Q .counts)) ≤ length counts₀
   counts-room = rw (← counts-are) (r .room)
 
   few-counts : length (W .counts) < width
@@ -63,9 +63,9 @@ module _ {kind : Kind} {P Q : Listing} {counts₀ ends₀ inc₀ : List ℕ} (r 
       let p = r .plan in
       rw counts-are (omega (
         arith,
-        counts-length (kind .min) (kind .max) (P .counts) (Q .counts),
-        bit-le (kind .min),
-        bit-le (kind .max),
+        counts-length (poles .min) (poles .max) (P .counts) (Q .counts),
+        bit-le (poles .min),
+        bit-le (poles .max),
         p .ranks-P .1,
         p .ranks-Q .1,
       ))
@@ -79,17 +79,18 @@ module _ {kind : Kind} {P Q : Listing} {counts₀ ends₀ inc₀ : List ℕ} (r 
   room-inc = rw size (r .plan .room-for-inc)
 
 -- what is written before the sups are filled in: k counts, and n elements
-pub record BeforeFill (kind : Kind) (P Q : Listing) (counts₀ ends₀ inc₀ counts₁ ends₁ inc₁ : List ℕ) (k n : ℕ) : Type 0 where
-  pub ready : Buildable kind P Q counts₀ ends₀ inc₀
-  pub k-is : k ≡ length (countsOf (kind .min) (kind .max) (P .counts) (Q .counts))
-  pub counts : LaidList 0 (countsOf (kind .min) (kind .max) (P .counts) (Q .counts)) counts₀ counts₁
-  pub n-is : n ≡ sizeOf (kind .min) (kind .max) (P .counts) (Q .counts)
-  pub elements : ElementsLaid (productLists kind P Q) (sizeOf (kind .min) (kind .max) (P .counts) (Q .counts)) ends₀ inc₀
-      ends₁ inc₁
+pub record BeforeFill (poles : Poles) (P Q : Listing) (counts₀ ends₀ inc₀ counts₁ ends₁ inc₁ : List ℕ) (k n : ℕ)
+    : Type 0 where
+  pub ready : Buildable poles P Q counts₀ ends₀ inc₀
+  pub k-is : k ≡ length (countsOf (poles .min) (poles .max) (P .counts) (Q .counts))
+  pub counts : LaidList 0 (countsOf (poles .min) (poles .max) (P .counts) (Q .counts)) counts₀ counts₁
+  pub n-is : n ≡ sizeOf (poles .min) (poles .max) (P .counts) (Q .counts)
+  pub elements : ElementsLaid (productLists poles P Q) (sizeOf (poles .min) (poles .max) (P .counts) (Q .counts))
+      ends₀ inc₀ ends₁ inc₁
 
-module _ {kind : Kind} {P Q : Listing} {counts₀ ends₀ inc₀ counts₁ ends₁ inc₁ : List ℕ} {k n : ℕ}
-    (l : BeforeFill kind P Q counts₀ ends₀ inc₀ counts₁ ends₁ inc₁ k n) where
-  abbrev r : Buildable kind P Q counts₀ ends₀ inc₀
+module _ {poles : Poles} {P Q : Listing} {counts₀ ends₀ inc₀ counts₁ ends₁ inc₁ : List ℕ} {k n : ℕ}
+    (l : BeforeFill poles P Q counts₀ ends₀ inc₀ counts₁ ends₁ inc₁ k n) where
+  abbrev r : Buildable poles P Q counts₀ ends₀ inc₀
   r = l .ready
 
   part-is : take k counts₁ ≡ W r .counts
@@ -116,7 +117,7 @@ module _ {kind : Kind} {P Q : Listing} {counts₀ ends₀ inc₀ counts₁ ends�
       → (counts₁ ≡ over (W r .counts) counts₀) × ((ends₁ ≡ over (W r .ends) ends₀) × (inc₂ ≡ over (W r .inc) inc₀))
   built-all inc₂ f = (
     rw (counts-are r)
-        (list-over (countsOf (kind .min) (kind .max) (P .counts) (Q .counts)) counts₀ counts₁ (counts-room r)
+        (list-over (countsOf (poles .min) (poles .max) (P .counts) (Q .counts)) counts₀ counts₁ (counts-room r)
         (l .counts)),
     (
       whole-ends (T r) (topped r) ends₀ inc₀ ends₁ inc₁ laid-T (room-ends r) (room-inc r),

@@ -9,7 +9,7 @@ use lib.ListN.{length}
 use Rattle.listing.specs.Listing.{Listing}
 use Rattle.listing.specs.Layers.{derived}
 use Rattle.listing.specs.Written.{tabulated, written}
-use Rattle.product_places.specs.declared.Kind.{Kind}
+use Rattle.product_places.specs.declared.Poles.{Poles}
 use Rattle.product_places.specs.Places.{pairsIn}
 use Rattle.product_writing.specs.Pairs.{target}
 
@@ -17,7 +17,7 @@ unfoldable pub countsOf : Bool → Bool → List ℕ → List ℕ → List ℕ
 countsOf min max p q =
     cond min (1 ∷ []) [] ++ (tabulated (λ r. pairsIn p q r (suc r)) (length p + length q - 1) ++ cond max (1 ∷ []) [])
 
-abbrev pub productListing : Kind → Listing → Listing → Listing
-productListing kind P Q =
-    let T = target (kind .min) (kind .max) P Q in
+abbrev pub productListing : Poles → Listing → Listing → Listing
+productListing poles P Q =
+    let T = target (poles .min) (poles .max) P Q in
     written T (derived T)

@@ -2,7 +2,7 @@
 use listing::Index;
 use listing::limit;
 use listing_sups::sups;
-use product_places::Kind;
+use product_places::Poles;
 use product_places::block;
 use product_places::put;
 use product_writing::pairs;
@@ -32,24 +32,24 @@ fn put_sizes(counts: &mut [Index], at: usize, p: &[Index], q: &[Index], n: usize
 }
 
 // Writes how many elements the product has of each rank. Returns the number of ranks.
-fn put_counts(kind: Kind, p: &[Index], q: &[Index], counts: &mut [Index]) -> usize
+fn put_counts(poles: Poles, p: &[Index], q: &[Index], counts: &mut [Index]) -> usize
     requires { ⌜ (0 < length (now p)) × (length (now p) ≤ limits .ranks) × (0 < length (now q))
         × (length (now q) ≤ limits .ranks) ⌝ }
-    requires { ⌜ sizeOf (kind .min) (kind .max) (now p) (now q) ≤ limits .elements ⌝ }
-    requires { ⌜ length (countsOf (kind .min) (kind .max) (now p) (now q)) ≤ length (now counts) ⌝ }
-    ensures { λ r. ⌜ r ≡ length (countsOf (kind .min) (kind .max) (now (p .entry)) (now (q .entry))) ⌝ }
-    ensures { λ r. ⌜ LaidList 0 (countsOf (kind .min) (kind .max) (now (p .entry)) (now (q .entry)))
+    requires { ⌜ sizeOf (poles .min) (poles .max) (now p) (now q) ≤ limits .elements ⌝ }
+    requires { ⌜ length (countsOf (poles .min) (poles .max) (now p) (now q)) ≤ length (now counts) ⌝ }
+    ensures { λ r. ⌜ r ≡ length (countsOf (poles .min) (poles .max) (now (p .entry)) (now (q .entry))) ⌝ }
+    ensures { λ r. ⌜ LaidList 0 (countsOf (poles .min) (poles .max) (now (p .entry)) (now (q .entry)))
         (now (counts .entry)) (now (counts .exit)) ⌝ }
 {
-    let a = put::put_if(&mut *counts, 0, kind.min, 1);
+    let a = put::put_if(&mut *counts, 0, poles.min, 1);
     let b = put_sizes(&mut *counts, a, p, q, p.len() + q.len() - 1);
-    put::put_if(&mut *counts, b, kind.max, 1)
+    put::put_if(&mut *counts, b, poles.max, 1)
 }
 
 // Writes the product of two factors: its counts, its ends and its incidences. Each factor is given by the counts of its
 // ranks in use, its ends and its incidences.
 pub fn build(
-    kind: Kind,
+    poles: Poles,
     p: &[Index],
     pends: &[Index],
     pinc: &[Index],
@@ -60,24 +60,24 @@ pub fn build(
     ends: &mut [Index],
     inc: &mut [Index],
 )
-    requires { ⌜ Plan (kind .min) (kind .max) (held p pends pinc) (held q qends qinc) (length (now ends))
+    requires { ⌜ Plan (poles .min) (poles .max) (held p pends pinc) (held q qends qinc) (length (now ends))
         (length (now inc)) ⌝ }
-    requires { ⌜ length (productListing kind (held p pends pinc) (held q qends qinc) .counts) ≤ length (now counts) ⌝ }
-    ensures { λ r. ⌜ now (counts .exit) ≡ over (productListing kind (held (p .entry) (pends .entry) (pinc .entry))
+    requires { ⌜ length (productListing poles (held p pends pinc) (held q qends qinc) .counts) ≤ length (now counts) ⌝ }
+    ensures { λ r. ⌜ now (counts .exit) ≡ over (productListing poles (held (p .entry) (pends .entry) (pinc .entry))
         (held (q .entry) (qends .entry) (qinc .entry)) .counts) (now (counts .entry)) ⌝ }
-    ensures { λ r. ⌜ now (ends .exit) ≡ over (productListing kind (held (p .entry) (pends .entry) (pinc .entry))
+    ensures { λ r. ⌜ now (ends .exit) ≡ over (productListing poles (held (p .entry) (pends .entry) (pinc .entry))
         (held (q .entry) (qends .entry) (qinc .entry)) .ends) (now (ends .entry)) ⌝ }
-    ensures { λ r. ⌜ now (inc .exit) ≡ over (productListing kind (held (p .entry) (pends .entry) (pinc .entry))
+    ensures { λ r. ⌜ now (inc .exit) ≡ over (productListing poles (held (p .entry) (pends .entry) (pinc .entry))
         (held (q .entry) (qends .entry) (qinc .entry)) .inc) (now (inc .entry)) ⌝ }
 {
-    let base = block::bit_of(kind.min);
+    let base = block::bit_of(poles.min);
     let mut psups: [Index; limit::ELEMENTS] = [0; limit::ELEMENTS];
     sups::tally(&mut psups, p, pends, pinc, base);
     let mut qsups: [Index; limit::ELEMENTS] = [0; limit::ELEMENTS];
     sups::tally(&mut qsups, q, qends, qinc, base);
-    let ranks = put_counts(kind, p, q, &mut *counts);
+    let ranks = put_counts(poles, p, q, &mut *counts);
     let n = pairs::put_elements(
-        kind,
+        poles,
         p,
         pends,
         pinc,

@@ -1,4 +1,5 @@
--- The numbers of pairs: how those of an element, a block and a rank follow one another, and that all are below the size.
+-- The numbers of pairs: how those of an element, a block and a rank follow one another, and that all are below the
+-- size.
 -- Assumes nothing.
 use mathlib.Core.Path.{_≡_, refl, ap}
 use mathlib.Core.Bool.{Bool, true, false}

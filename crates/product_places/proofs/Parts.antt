@@ -56,12 +56,14 @@ module _ (s : Shift) (left right : List ℕ) where
     pub left-small : (j : ℕ) → j < length left → s .left + getD left j 0 * s .scale < width
     unfolding subsOf
     left-small j h =
-        small _ (in-right _ (when (s .low) 0) _ (in-left _ (map F left) (map G right) (in-map F _ left (in-at left j h))))
+        let m = in-left _ (map F left) (map G right) (in-map F _ left (in-at left j h)) in
+        small _ (in-right _ (when (s .low) 0) _ m)
 
     pub right-small : (j : ℕ) → j < length right → s .right + getD right j 0 * 1 < width
     unfolding subsOf
     right-small j h =
-        small _ (in-right _ (when (s .low) 0) _ (in-right _ (map F left) (map G right) (in-map G _ right (in-at right j h))))
+        let m = in-right _ (map F left) (map G right) (in-map G _ right (in-at right j h)) in
+        small _ (in-right _ (when (s .low) 0) _ m)
 
   -- the three parts, one behind another
   pub subs-laid : (at a b : ℕ) (d d₁ d₂ d₃ : List ℕ) → a ≡ at + bit (s .low) → b ≡ a + length left

@@ -10,16 +10,16 @@ use lib.Dec.{eqb}
 use lib.ListN.{length, getD}
 use Rattle.listing.specs.Listing.{before}
 use Rattle.product_pairs.specs.Trimmed.{bit}
-use Rattle.product_places.specs.declared.Kind.{Kind}
+use Rattle.product_places.specs.declared.Poles.{Poles}
 use Rattle.product_places.specs.declared.block.Block.{Block}
 use Rattle.product_places.specs.Places.{offsetIn, firstAt, pairNumber}
 
-pub record BlockOf (kind : Kind) (p q : List ℕ) (i j : ℕ) (B : Block) : Type 0 where
+pub record BlockOf (poles : Poles) (p q : List ℕ) (i j : ℕ) (B : Block) : Type 0 where
   pub ranks : (B .i ≡ i) × (B .j ≡ j)
-  pub base : B .base ≡ bit (kind .min)
-  pub from : B .from ≡ firstAt (kind .min) p q (i + j) i
-  pub low : B .low ≡ (kind .min && eqb (i + j) 0)
-  pub cap : B .cap ≡ cond (kind .max && eqb (i + j + 2) (length p + length q)) 1 0
+  pub base : B .base ≡ bit (poles .min)
+  pub from : B .from ≡ firstAt (poles .min) p q (i + j) i
+  pub low : B .low ≡ (poles .min && eqb (i + j) 0)
+  pub cap : B .cap ≡ cond (poles .max && eqb (i + j + 2) (length p + length q)) 1 0
   pub p-before : B .pbefore ≡ before p i
   pub q-before : B .qbefore ≡ before q j
   pub left : B .left ≡ offsetIn p q (pred i) j
@@ -27,5 +27,5 @@ pub record BlockOf (kind : Kind) (p q : List ℕ) (i j : ℕ) (B : Block) : Type
   pub q-count : B .qcount ≡ getD q j 0
   pub q-below : B .qbelow ≡ getD q (pred j) 0
 
-abbrev pub inBlock : Kind → List ℕ → List ℕ → Block → ℕ → ℕ → ℕ
-inBlock kind p q B a b = pairNumber (kind .min) p q (B .i) a (B .j) b
+abbrev pub inBlock : Poles → List ℕ → List ℕ → Block → ℕ → ℕ → ℕ
+inBlock poles p q B a b = pairNumber (poles .min) p q (B .i) a (B .j) b

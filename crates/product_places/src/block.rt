@@ -1,5 +1,5 @@
 // Where pairs stand: how many come before them, and what all pairs of two ranks have in common.
-use crate::Kind;
+use crate::Poles;
 use listing::Index;
 use listing::inner;
 ghost use mathlib.Core.Path.{_≡_};
@@ -115,16 +115,16 @@ fn cap_of(max: bool, p: &[Index], q: &[Index], i: usize, j: usize) -> usize
 }
 
 // What the pairs of the ranks i and j have in common. Their rank begins at the element `start`.
-pub fn block_of(kind: Kind, p: &[Index], q: &[Index], start: usize, i: usize, j: usize) -> Block
+pub fn block_of(poles: Poles, p: &[Index], q: &[Index], start: usize, i: usize, j: usize) -> Block
     requires { ⌜ (i + j ≤ 2 * limits .ranks) × (length (now p) ≤ limits .ranks) × (length (now q) ≤ limits .ranks) ⌝ }
-    requires { ⌜ start ≡ bit (kind .min) + pairsTo (now p) (now q) (i + j) ⌝ }
+    requires { ⌜ start ≡ bit (poles .min) + pairsTo (now p) (now q) (i + j) ⌝ }
     requires { ⌜ start + pairsIn (now p) (now q) (i + j) i ≤ width ⌝ }
-    ensures { λ r. ⌜ BlockOf kind (now (p .entry)) (now (q .entry)) i j r ⌝ }
+    ensures { λ r. ⌜ BlockOf poles (now (p .entry)) (now (q .entry)) i j r ⌝ }
 {
-    let base = bit_of(kind.min);
+    let base = bit_of(poles.min);
     let from = start + offset(p, q, i, j);
-    let low = is_low(kind.min, i, j);
-    let cap = cap_of(kind.max, p, q, i, j);
+    let low = is_low(poles.min, i, j);
+    let cap = cap_of(poles.max, p, q, i, j);
     let pbefore = inner::elements_before(p, i);
     let qbefore = inner::elements_before(q, j);
     let h = less(i);

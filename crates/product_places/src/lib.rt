@@ -3,9 +3,9 @@
 pub mod block;
 pub mod put;
 
-// Which product it is: where min is set the minimal elements are left out of the pairs and one is added again, where
+// Which product it is: where min is set the minimal elements are left out of the pairs and one is added again, and where
 // max is set the maximal ones.
-pub struct Kind {
+pub struct Poles {
     pub min: bool,
     pub max: bool,
 }

@@ -19,22 +19,22 @@ abbrev pub factorOf : Bool → Bool → Listing → Listing
 factorOf min max L = listing (countsInUse min max (L .counts)) (L .ends) (L .inc)
 
 -- above the lowest rank in use an element's subs in use are its list
-pub used-above : (min : Bool) (P : Listing) (i a : ℕ) → subsInUse min P (suc i) a ≡ subsFrom (bit min) P (suc i) a
+pub subs-above : (min : Bool) (P : Listing) (i a : ℕ) → subsInUse min P (suc i) a ≡ subsFrom (bit min) P (suc i) a
 unfolding subsInUse
-used-above min P i a = rw (ne-eqb (suc i) 0 (λ z. omega arith))
+subs-above min P i a = rw (ne-eqb (suc i) 0 (λ z. omega arith))
 
 -- so the sups that are derived are those of all lists
 pub factor-derived : (min : Bool) (P : Listing) (i a : ℕ)
     → derived (factorLayers min P) i a ≡ derived (layersFrom (bit min) P) i a
 unfolding derived
-factor-derived min P i a = gather-same _ _ a (count P (suc i)) (λ k h. used-above min P i k)
+factor-derived min P i a = gather-same _ _ a (count P (suc i)) (λ k h. subs-above min P i k)
 
 module _ (min max : Bool) (L : Listing) (u : Usable min max L) where
   factor-under : (i a : ℕ) → a < trimSize min max (layers L) i
       → subsInUse min (factorOf min max L) i a ≡ trimUnder min (layers L) i a
   unfolding subsInUse trimUnder
   factor-under zero a h = refl
-  factor-under (suc i) a h = used-above min (factorOf min max L) i a ∙ in-use-subs min max L u i a h
+  factor-under (suc i) a h = subs-above min (factorOf min max L) i a ∙ in-use-subs min max L u i a h
 
   pub factor-alike : Alike (trimmed min max (layers L)) (factorLayers min (factorOf min max L))
   factor-alike = record {

@@ -35,7 +35,8 @@ use Rattle.product_writing.proofs.Target.{factor-topped}
 use Rattle.product_plan.proofs.Factors.{factor-derived}
 
 -- where no rank is higher there is nothing over an element
-none-over : (min : Bool) (P : Listing) (i a : ℕ) → factorLayers min P .top ≤ i → length (derived (factorLayers min P) i a) ≡ 0
+none-over : (min : Bool) (P : Listing) (i a : ℕ) → factorLayers min P .top ≤ i
+    → length (derived (factorLayers min P) i a) ≡ 0
 unfolding Topped sum
 none-over min P i a h = derived-length (factorLayers min P) i a ∙ rw (factor-topped min P (suc i) (omega arith))
 
@@ -132,21 +133,29 @@ module _ (min max : Bool) (P Q : Listing) where
         let q = in-range B (factor-topped min Q) j b hb in
         (none-over min P i a (omega arith), none-over min Q j b (omega arith))
 
+-- where a pair stands in its rank
+abbrev stand : Bool → Listing → Listing → ℕ → ℕ → ℕ → ℕ → ℕ
+stand min P Q i a j b = position (factorLayers min P) (factorLayers min Q) ((i, a), (j, b)) .1
+
+-- how many lie over it, and over its members
+abbrev overPlace : Bool → Bool → Listing → Listing → ℕ → ℕ → ℕ → ℕ → ℕ
+overPlace min max P Q i a j b = length (derived (target min max P Q) (i + j + bit min) (stand min P Q i a j b))
+
+abbrev overMembers : Bool → Listing → Listing → ℕ → ℕ → ℕ → ℕ → ℕ
+overMembers min P Q i a j b = length (derived (factorLayers min P) i a) + length (derived (factorLayers min Q) j b)
+
 -- a pair of the lowest ranks has the added minimal element under it
 low-under : (max : Bool) (P Q : Listing) (a b k : ℕ) → target true max P Q .under 1 k ≡ underPair true P Q 0 a 0 b
 unfolding target subsInUse underPair subsOf
 low-under max P Q a b k = grown-min-under max (paired (factorLayers true P) (factorLayers true Q)) k
 
 under-at : (min max : Bool) (P Q : Listing) (i a j b : ℕ) → a < count P i → b < count Q j
-    → target min max P Q .under (i + j + bit min) (position (factorLayers min P) (factorLayers min Q) ((i, a), (j, b)) .1)
-    ≡ underPair min P Q i a j b
+    → target min max P Q .under (i + j + bit min) (stand min P Q i a j b) ≡ underPair min P Q i a j b
 unfolding underPair
 under-at false max P Q i a j b ha hb = high-under false max P Q i a j b ha hb (omega arith)
 under-at true max P Q i a j b ha hb = go (decLt 0 (i + j))
   where
-    go : Dec (0 < i + j)
-        → target true max P Q .under (i + j + 1) (position (factorLayers true P) (factorLayers true Q) ((i, a), (j, b)) .1)
-        ≡ underPair true P Q i a j b
+    go : Dec (0 < i + j) → target true max P Q .under (i + j + 1) (stand true P Q i a j b) ≡ underPair true P Q i a j b
     go (yes l) = rw (ne-eqb (i + j) 0 (λ z. omega arith)) (high-under true max P Q i a j b ha hb (omega arith))
     go (no l) =
         let p : i ≡ 0 = omega arith in
@@ -155,23 +164,17 @@ under-at true max P Q i a j b ha hb = go (decLt 0 (i + j))
 
 -- a pair of the highest ranks has the added maximal element alone over it
 highest-over : (min : Bool) (P Q : Listing) (i a j b : ℕ) → a < count P i → b < count Q j
-    → i + j ≡ paired (factorLayers min P) (factorLayers min Q) .top
-    → length (derived (target min true P Q) (i + j + bit min)
-    (position (factorLayers min P) (factorLayers min Q) ((i, a), (j, b)) .1)) ≡ 1
+    → i + j ≡ paired (factorLayers min P) (factorLayers min Q) .top → overPlace min true P Q i a j b ≡ 1
 unfolding target
 highest-over min P Q i a j b ha hb e =
     rw e (ap length (grown-max-sups min _ _ (rw e at (there min true P Q i a j b ha hb))))
 
-over-at : (min max : Bool) (P Q : Listing) → Sound (factorLayers min P) → Sound (factorLayers min Q) → (i a j b : ℕ)
+-- with a maximal element added
+over-max : (min : Bool) (P Q : Listing) → Sound (factorLayers min P) → Sound (factorLayers min Q) → (i a j b : ℕ)
     → a < count P i → b < count Q j
-    → length (derived (target min max P Q) (i + j + bit min)
-    (position (factorLayers min P) (factorLayers min Q) ((i, a), (j, b)) .1))
-    ≡ length (derived (factorLayers min P) i a) + length (derived (factorLayers min Q) j b)
-    + cond (max && eqb (i + j + 2) (length (P .counts) + length (Q .counts))) 1 0
-over-at min false P Q sP sQ i a j b ha hb =
-    let l = low-enough min false P Q i a j b ha hb in
-    inner-over min false P Q i a j b ha hb sP sQ (omega arith) ∙ omega arith
-over-at min true P Q sP sQ i a j b ha hb = go (decLt (i + j) (length (P .counts) - 1 + (length (Q .counts) - 1)))
+    → overPlace min true P Q i a j b
+    ≡ overMembers min P Q i a j b + cond (eqb (i + j + 2) (length (P .counts) + length (Q .counts))) 1 0
+over-max min P Q sP sQ i a j b ha hb = go (decLt (i + j) (length (P .counts) - 1 + (length (Q .counts) - 1)))
   where
     p : i < length (P .counts)
     p = some-rank (P .counts) i a ha
@@ -179,11 +182,8 @@ over-at min true P Q sP sQ i a j b ha hb = go (decLt (i + j) (length (P .counts)
     q : j < length (Q .counts)
     q = some-rank (Q .counts) j b hb
 
-    go : Dec (i + j < length (P .counts) - 1 + (length (Q .counts) - 1))
-        → length (derived (target min true P Q) (i + j + bit min)
-        (position (factorLayers min P) (factorLayers min Q) ((i, a), (j, b)) .1))
-        ≡ length (derived (factorLayers min P) i a) + length (derived (factorLayers min Q) j b)
-        + cond (eqb (i + j + 2) (length (P .counts) + length (Q .counts))) 1 0
+    go : Dec (i + j < length (P .counts) - 1 + (length (Q .counts) - 1)) → overPlace min true P Q i a j b
+        ≡ overMembers min P Q i a j b + cond (eqb (i + j + 2) (length (P .counts) + length (Q .counts))) 1 0
     go (yes l) =
         rw (ne-eqb (i + j + 2) (length (P .counts) + length (Q .counts)) (λ z. omega (arith, p, q)))
         (inner-over min true P Q i a j b ha hb sP sQ (omega arith) ∙ omega arith)
@@ -193,6 +193,15 @@ over-at min true P Q sP sQ i a j b ha hb = go (decLt (i + j) (length (P .counts)
         let z = highest min true P Q i a j b ha hb t in
         rw (eq-eqb (i + j + 2) (length (P .counts) + length (Q .counts)) (omega (arith, p, q)))
         (highest-over min P Q i a j b ha hb t ∙ omega (arith, z))
+
+over-at : (min max : Bool) (P Q : Listing) → Sound (factorLayers min P) → Sound (factorLayers min Q) → (i a j b : ℕ)
+    → a < count P i → b < count Q j
+    → overPlace min max P Q i a j b
+    ≡ overMembers min P Q i a j b + cond (max && eqb (i + j + 2) (length (P .counts) + length (Q .counts))) 1 0
+over-at min false P Q sP sQ i a j b ha hb =
+    let l = low-enough min false P Q i a j b ha hb in
+    inner-over min false P Q i a j b ha hb sP sQ (omega arith) ∙ omega arith
+over-at min true P Q sP sQ i a j b ha hb = over-max min P Q sP sQ i a j b ha hb
 
 -- ---- the same, as a plan has it
 

@@ -27,7 +27,7 @@ use Rattle.product_writing.specs.Pairs.{subsInUse, factorLayers, target}
 use Rattle.product_sizes.specs.Sizing.{Usable, countsInUse}
 use Rattle.product_sizes.proofs.Parts.{usable-shaped, usable-bounded, usable-high}
 use Rattle.product_sizes.proofs.Parts.{in-use-length, in-use-at, in-use-before}
-use Rattle.product_plan.proofs.Factors.{factorOf, used-above}
+use Rattle.product_plan.proofs.Factors.{factorOf, subs-above}
 use Rattle.product_plan.proofs.Entries.{place-past, exists-few}
 
 entries-past : (ends inc : List ℕ) (k : ℕ) → length ends ≤ k → entries ends inc k ≡ []
@@ -67,11 +67,11 @@ module _ (min : Bool) (L : Listing) (u : Usable min false L) where
       let e : bit min + length p ≡ length (L .counts) = omega (arith, in-use-length min false L u) in
       in-use-before min false L u (length p) (omega arith) ∙ ap (before (L .counts)) e
 
-  used-past : (i a : ℕ) → length p ≤ suc i → getD p i 0 ≤ a → subsInUse min (factorOf min false L) i a ≡ []
+  subs-past : (i a : ℕ) → length p ≤ suc i → getD p i 0 ≤ a → subsInUse min (factorOf min false L) i a ≡ []
   unfolding subsInUse
-  used-past zero a h g = refl
-  used-past (suc i) a h g =
-      used-above min (factorOf min false L) i a
+  subs-past zero a h g = refl
+  subs-past (suc i) a h g =
+      subs-above min (factorOf min false L) i a
       ∙ entries-past (L .ends) (L .inc) (2 * (bit min + before p (suc i) + a) + 0)
       (omega (
         arith,
@@ -143,5 +143,5 @@ highest-past min true A B uA uB t few k x h n =
 highest-past min false A B uA uB t few k x h n =
     let m = M min false A B in
     let o = low-past min m k x (λ g. pairs-past _ _ (m .top) k g (lowest-some min false B uB)
-    (λ i l. used-past min A uA (m .top) i (omega arith) l) (λ j. refl)) h n in
+    (λ i l. subs-past min A uA (m .top) i (omega arith) l) (λ j. refl)) h n in
     omega arith

@@ -15,7 +15,7 @@ use Rattle.listing.specs.Written.{written}
 use Rattle.listing.proofs.ShapeExact.{shaped-ends}
 use Rattle.listing.proofs.Written.{joined-length, written-elements, written-ends-length}
 use Rattle.product_pairs.specs.Product.{productOf}
-use Rattle.product_places.specs.declared.Kind.{Kind}
+use Rattle.product_places.specs.declared.Poles.{Poles}
 use Rattle.listing_sups.specs.Filling.{starts}
 use Rattle.product_plan.proofs.Factors.{factorOf}
 use Rattle.product_writing.specs.Pairs.{target, listsOf, sizeOf, Plan}
@@ -24,7 +24,7 @@ use Rattle.product_writing.proofs.Target.{target-size, target-topped}
 use Rattle.product_sizes.specs.Sizing.{Usable, countsInUse}
 use Rattle.product_sizes.proofs.Parts.{usable-shaped, in-use-length}
 use Rattle.product_sizes.proofs.Tested.{Passed}
-use Rattle.product_sizes.proofs.Counted.{in-use-few}
+use Rattle.product_sizes.proofs.Extents.{in-use-few}
 use Rattle.product_plan.proofs.Targets.{target-written, target-sound, factor-sound}
 use Rattle.product_plan.proofs.Lists.{pair-under, pair-over}
 use Rattle.product_plan.proofs.Entries.{all-few}
@@ -115,22 +115,22 @@ module _ (min max : Bool) (A B : Listing) (uA : Usable min max A) (uB : Usable m
 
 -- ---- the same, of the counts x and y that the code has in hand
 
-module _ (kind : Kind) (A B : Listing) (uA : Usable (kind .min) (kind .max) A) (uB : Usable (kind .min) (kind .max) B)
-    (x y : List ℕ) (ex : x ≡ countsInUse (kind .min) (kind .max) (A .counts))
-    (ey : y ≡ countsInUse (kind .min) (kind .max) (B .counts)) where
-  pub built-is : productListing kind (listing x (A .ends) (A .inc)) (listing y (B .ends) (B .inc))
-      ≡ productOf (kind .min) (kind .max) A B
-  built-is = rw (ex, ey) (target-written (kind .min) (kind .max) A B uA uB)
+module _ (poles : Poles) (A B : Listing) (uA : Usable (poles .min) (poles .max) A) (uB : Usable (poles .min) (poles .max) B)
+    (x y : List ℕ) (ex : x ≡ countsInUse (poles .min) (poles .max) (A .counts))
+    (ey : y ≡ countsInUse (poles .min) (poles .max) (B .counts)) where
+  pub built-is : productListing poles (listing x (A .ends) (A .inc)) (listing y (B .ends) (B .inc))
+      ≡ productOf (poles .min) (poles .max) A B
+  built-is = rw (ex, ey) (target-written (poles .min) (poles .max) A B uA uB)
 
   pub build-asked : (counts ends inc : List ℕ)
-      → Passed limits (productOf (kind .min) (kind .max) A B) (length counts) (length ends) (length inc)
-      → Plan (kind .min) (kind .max) (listing x (A .ends) (A .inc)) (listing y (B .ends) (B .inc)) (length ends)
+      → Passed limits (productOf (poles .min) (poles .max) A B) (length counts) (length ends) (length inc)
+      → Plan (poles .min) (poles .max) (listing x (A .ends) (A .inc)) (listing y (B .ends) (B .inc)) (length ends)
       (length inc)
-      × (length (productListing kind (listing x (A .ends) (A .inc)) (listing y (B .ends) (B .inc)) .counts)
+      × (length (productListing poles (listing x (A .ends) (A .inc)) (listing y (B .ends) (B .inc)) .counts)
       ≤ length counts)
   build-asked counts ends inc h = (
     rw (ex, ey)
-        (planned (kind .min) (kind .max) A B uA uB (h .few-elements) (h .few-incidences) (length ends) (length inc)
+        (planned (poles .min) (poles .max) A B uA uB (h .few-elements) (h .few-incidences) (length ends) (length inc)
         (h .room-ends) (h .room-inc)),
     rw built-is (h .room-counts),
   )

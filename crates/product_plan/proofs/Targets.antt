@@ -12,7 +12,8 @@ use Rattle.listing.specs.Layers.{Layers, layers, order, derived}
 use Rattle.listing.specs.Written.{written}
 use Rattle.listing.proofs.Written.{written-same}
 use Rattle.product_pairs.specs.Sound.{Sound}
-use Rattle.product_pairs.specs.Paired.{El, block, offset, position, pairOf, pairAt, leftSubs, rightSubs, pairSubs, paired}
+use Rattle.product_pairs.specs.Paired.{El, block, offset, position, pairOf, pairAt}
+use Rattle.product_pairs.specs.Paired.{leftSubs, rightSubs, pairSubs, paired}
 use Rattle.product_pairs.specs.Grown.{upTo, minSize, minUnder, maxSize, maxUnder, addMin, addMax, grown}
 use Rattle.product_pairs.specs.Product.{layerProduct, productOf}
 use Rattle.product_pairs.proofs.Trimmed.{trimmed-sound}

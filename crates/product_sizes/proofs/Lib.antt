@@ -1,3 +1,3 @@
 pub mod Tested
 pub mod Parts
-pub mod Counted
+pub mod Extents

@@ -27,7 +27,7 @@ use Rattle.valid.specs.Tests.{isValid}
 use Rattle.product_pairs.specs.Trimmed.{bit}
 use Rattle.product_pairs.specs.Lengths.{allSubs}
 use Rattle.product_closure.specs.Sizes.{allElements}
-use Rattle.product_places.specs.declared.Kind.{Kind}
+use Rattle.product_places.specs.declared.Poles.{Poles}
 use Rattle.product_sizes.specs.declared.sizes.Extent.{Extent}
 use Rattle.product_sizes.specs.declared.sizes.Totals.{Totals}
 
@@ -55,13 +55,13 @@ pub record Little (x : Extent) : Type 0 where
   pub lowest : x .lowest ≤ limits .elements
   pub highest : x .highest ≤ limits .elements
 
-abbrev pub totalsOf : Kind → Extent → Extent → Totals
-totalsOf kind p q = record {
-  ranks = p .ranks + q .ranks - 1 + bit (kind .min) + bit (kind .max);
-  elements = p .elements * q .elements + bit (kind .min) + bit (kind .max);
+abbrev pub totalsOf : Poles → Extent → Extent → Totals
+totalsOf poles p q = record {
+  ranks = p .ranks + q .ranks - 1 + bit (poles .min) + bit (poles .max);
+  elements = p .elements * q .elements + bit (poles .min) + bit (poles .max);
   incidences =
-      2 * (p .subs * q .elements + q .subs * p .elements + bit (kind .min) * (p .lowest * q .lowest)
-      + bit (kind .max) * (p .highest * q .highest));
+      2 * (p .subs * q .elements + q .subs * p .elements + bit (poles .min) * (p .lowest * q .lowest)
+      + bit (poles .max) * (p .highest * q .highest));
 }
 
 pub record Measures (R : Listing) (t : Totals) : Type 0 where

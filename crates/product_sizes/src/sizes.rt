@@ -6,7 +6,7 @@ use listing::limit;
 use listing::outputs;
 use listing::outputs::Room;
 use listing::refusal;
-use product_places::Kind;
+use product_places::Poles;
 use product_places::block;
 ghost use mathlib.Core.Path.{_≡_};
 ghost use Prim.Native.Nat.{_+_, _-_, _*_, _≤_};
@@ -35,12 +35,12 @@ pub struct Totals {
 }
 
 // The counts of the ranks in use: without the lowest where min is set, without the highest where max is.
-pub fn range<'a>(kind: Kind, counts: &'a [Index]) -> &'a [Index]
-    requires { ⌜ bit (kind .min) + bit (kind .max) ≤ length (now counts) ⌝ }
-    ensures { λ r. ⌜ now r ≡ countsInUse (kind .min) (kind .max) (now (counts .entry)) ⌝ }
+pub fn range<'a>(poles: Poles, counts: &'a [Index]) -> &'a [Index]
+    requires { ⌜ bit (poles .min) + bit (poles .max) ≤ length (now counts) ⌝ }
+    ensures { λ r. ⌜ now r ≡ countsInUse (poles .min) (poles .max) (now (counts .entry)) ⌝ }
 {
-    let from = block::bit_of(kind.min);
-    let to = counts.len() - block::bit_of(kind.max);
+    let from = block::bit_of(poles.min);
+    let to = counts.len() - block::bit_of(poles.max);
     &counts[from..to]
 }
 
@@ -63,14 +63,14 @@ fn subs_listed(ends: &[Index], inc: &[Index], from: usize, to: usize) -> usize
 }
 
 // The extent of what a product uses of a factor.
-pub fn count_used(kind: Kind, counts: &[Index], ends: &[Index], inc: &[Index]) -> Extent
-    requires { ⌜ Usable (kind .min) (kind .max) (held counts ends inc) ⌝ }
+pub fn extent_of(poles: Poles, counts: &[Index], ends: &[Index], inc: &[Index]) -> Extent
+    requires { ⌜ Usable (poles .min) (poles .max) (held counts ends inc) ⌝ }
     ensures { λ r. ⌜ Little r ⌝ }
-    ensures { λ r. ⌜ r ≡ extentOf (trimmed (kind .min) (kind .max)
+    ensures { λ r. ⌜ r ≡ extentOf (trimmed (poles .min) (poles .max)
         (layers (held (counts .entry) (ends .entry) (inc .entry)))) ⌝ }
 {
-    let p = range(kind, counts);
-    let base = block::bit_of(kind.min);
+    let p = range(poles, counts);
+    let base = block::bit_of(poles.min);
     let elements = inner::elements_before(p, p.len());
     let lowest = inner::wide(p[0]);
     let highest = inner::wide(p[p.len() - 1]);
@@ -103,16 +103,16 @@ fn where_asked(asked: bool, n: usize) -> usize
 }
 
 // How large the product is of two factors that have these extents in use.
-pub fn product_sizes(kind: Kind, p: Extent, q: Extent) -> Totals
+pub fn product_sizes(poles: Poles, p: Extent, q: Extent) -> Totals
     requires { ⌜ Little p × Little q ⌝ }
-    ensures { λ r. ⌜ r ≡ totalsOf kind p q ⌝ }
+    ensures { λ r. ⌜ r ≡ totalsOf poles p q ⌝ }
 {
-    let low = block::bit_of(kind.min);
-    let high = block::bit_of(kind.max);
+    let low = block::bit_of(poles.min);
+    let high = block::bit_of(poles.max);
     let pairs = times(p.elements, q.elements);
     let subs = times(p.subs, q.elements) + times(q.subs, p.elements);
-    let lowest = where_asked(kind.min, times(p.lowest, q.lowest));
-    let highest = where_asked(kind.max, times(p.highest, q.highest));
+    let lowest = where_asked(poles.min, times(p.lowest, q.lowest));
+    let highest = where_asked(poles.max, times(p.highest, q.highest));
     Totals {
         ranks: p.ranks + q.ranks - 1 + low + high,
         elements: pairs + low + high,

@@ -14,7 +14,7 @@ use Rattle.listing.proofs.Listing.{some-rank, before-lt, count-le}
 use Rattle.listing_sups.specs.Sups.{UpCounts}
 use Rattle.listing_sups.specs.Filling.{starts, Put}
 use Rattle.listing_sups.proofs.Laying.{starts-room, put-one}
-use Rattle.product_places.specs.declared.Kind.{Kind}
+use Rattle.product_places.specs.declared.Poles.{Poles}
 use Rattle.product_places.specs.declared.block.Block.{Block}
 use Rattle.product_places.specs.declared.put.Shift.{Shift}
 use Rattle.product_places.specs.Places.{offsetIn, firstAt, subsOf}
@@ -26,23 +26,24 @@ cond-le : (b : Bool) → cond b 1 0 ≤ 1
 cond-le true = omega arith
 cond-le false = omega arith
 
-module _ {kind : Kind} {P Q : Listing} {psups qsups ends inc : List ℕ} (w : Writable kind P Q psups qsups ends inc) where
+module _ {poles : Poles} {P Q : Listing} {psups qsups ends inc : List ℕ}
+    (w : Writable poles P Q psups qsups ends inc) where
   -- the same, with slices of the same size
   pub writable-room : (ends′ inc′ : List ℕ) → length ends′ ≡ length ends → length inc′ ≡ length inc
-      → Writable kind P Q psups qsups ends′ inc′
+      → Writable poles P Q psups qsups ends′ inc′
   writable-room ends′ inc′ e f = record { plan = rw (e, f) (w .plan); sups-P = w .sups-P; sups-Q = w .sups-Q }
 
   -- the pairs are few
   pub first-few : (R i : ℕ) → i ≤ R + 1 → R + 2 ≤ length (P .counts) + length (Q .counts)
-      → firstAt (kind .min) (P .counts) (Q .counts) R i ≤ limits .elements
+      → firstAt (poles .min) (P .counts) (Q .counts) R i ≤ limits .elements
   unfolding sizeOf
   first-few R i h k =
       let n = length (P .counts) + length (Q .counts) in
-      omega (arith, first-le (kind .min) (P .counts) (Q .counts) R (n - 1) i h (omega arith), w .plan .elements)
+      omega (arith, first-le (poles .min) (P .counts) (Q .counts) R (n - 1) i h (omega arith), w .plan .elements)
 
   -- ---- the lists of the first member of a block's pairs
 
-  module _ {B : Block} (block : BlockOf kind (P .counts) (Q .counts) (B .i) (B .j) B) {a : ℕ} (ha : a < count P (B .i))
+  module _ {B : Block} (block : BlockOf poles (P .counts) (Q .counts) (B .i) (B .j) B) {a : ℕ} (ha : a < count P (B .i))
     where
       pub left-there : 2 * (B .base + B .pbefore + a) + 0 < length (P .ends)
       left-there =
@@ -56,44 +57,44 @@ module _ {kind : Kind} {P Q : Listing} {psups qsups ends inc : List ℕ} (w : Wr
             block .p-before,
             before-lt (P .counts) (B .i) a ha,
             w .plan .few-P,
-            bit-le (kind .min),
+            bit-le (poles .min),
           )
 
-      pub left-used : (left : List ℕ)
+      pub left-subs : (left : List ℕ)
           → left ≡ cond (eqb (B .i) 0) [] (entries (P .ends) (P .inc) (2 * (B .base + B .pbefore + a) + 0))
-          → left ≡ subsInUse (kind .min) P (B .i) a
+          → left ≡ subsInUse (poles .min) P (B .i) a
       unfolding subsInUse
-      left-used left e = e ∙ rw (block .base, block .p-before)
+      left-subs left e = e ∙ rw (block .base, block .p-before)
 
 -- ---- a block, by the ranks that it was made for
 
-module _ {kind : Kind} {p q : List ℕ} {i j : ℕ} {B : Block} (block : BlockOf kind p q i j B) where
-  pub block-own : BlockOf kind p q (B .i) (B .j) B
+module _ {poles : Poles} {p q : List ℕ} {i j : ℕ} {B : Block} (block : BlockOf poles p q i j B) where
+  pub block-own : BlockOf poles p q (B .i) (B .j) B
   block-own =
-      subst (λ (n : ℕ). BlockOf kind p q n (B .j) B) (sym (block .ranks .0))
-      (subst (λ (n : ℕ). BlockOf kind p q i n B) (sym (block .ranks .1)) block)
+      subst (λ (n : ℕ). BlockOf poles p q n (B .j) B) (sym (block .ranks .0))
+      (subst (λ (n : ℕ). BlockOf poles p q i n B) (sym (block .ranks .1)) block)
 
-  pub block-start : (lists : ℕ → List ℕ) {R at : ℕ} → i + j ≡ R → at ≡ starts lists (2 * firstAt (kind .min) p q R i)
-      → at ≡ starts lists (2 * firstAt (kind .min) p q (B .i + B .j) (B .i))
+  pub block-start : (lists : ℕ → List ℕ) {R at : ℕ} → i + j ≡ R → at ≡ starts lists (2 * firstAt (poles .min) p q R i)
+      → at ≡ starts lists (2 * firstAt (poles .min) p q (B .i + B .j) (B .i))
   block-start lists e h = rw (block .ranks .0, block .ranks .1, e) h
 
   pub block-put : {lists : ℕ → List ℕ} {R at : ℕ} {ends inc ends′ inc′ : List ℕ} → i + j ≡ R
-      → Put lists (firstAt (kind .min) p q (B .i + B .j) (B .i)) (firstAt (kind .min) p q (B .i + B .j) (B .i + 1)) at
+      → Put lists (firstAt (poles .min) p q (B .i + B .j) (B .i)) (firstAt (poles .min) p q (B .i + B .j) (B .i + 1)) at
       ends inc ends′ inc′
-      → Put lists (firstAt (kind .min) p q R i) (firstAt (kind .min) p q R (i + 1)) at ends inc ends′ inc′
+      → Put lists (firstAt (poles .min) p q R i) (firstAt (poles .min) p q R (i + 1)) at ends inc ends′ inc′
   block-put e h = rw (block .ranks .0, block .ranks .1, e) at h
 
 -- ---- one pair
 
 -- a pair of a block
-pub record PairIn (kind : Kind) (P Q : Listing) (psups qsups ends inc : List ℕ) (B : Block) (a b : ℕ) : Type 0 where
-  pub ready : Writable kind P Q psups qsups ends inc
-  pub block : BlockOf kind (P .counts) (Q .counts) (B .i) (B .j) B
+pub record PairIn (poles : Poles) (P Q : Listing) (psups qsups ends inc : List ℕ) (B : Block) (a b : ℕ) : Type 0 where
+  pub ready : Writable poles P Q psups qsups ends inc
+  pub block : BlockOf poles (P .counts) (Q .counts) (B .i) (B .j) B
   pub left : a < count P (B .i)
   pub right : b < count Q (B .j)
 
-module _ {kind : Kind} {P Q : Listing} {psups qsups ends inc : List ℕ} {B : Block} {a b : ℕ}
-    (x : PairIn kind P Q psups qsups ends inc B a b) where
+module _ {poles : Poles} {P Q : Listing} {psups qsups ends inc : List ℕ} {B : Block} {a b : ℕ}
+    (x : PairIn poles P Q psups qsups ends inc B a b) where
   abbrev p : List ℕ
   p = P .counts
 
@@ -101,12 +102,12 @@ module _ {kind : Kind} {P Q : Listing} {psups qsups ends inc : List ℕ} {B : Bl
   q = Q .counts
 
   abbrev e : ℕ
-  e = inBlock kind p q B a b
+  e = inBlock poles p q B a b
 
   abbrev lists : ℕ → List ℕ
-  lists = productLists kind P Q
+  lists = productLists poles P Q
 
-  abbrev plan : Plan (kind .min) (kind .max) P Q (length ends) (length inc)
+  abbrev plan : Plan (poles .min) (poles .max) P Q (length ends) (length inc)
   plan = x .ready .plan
 
   -- its members' places
@@ -121,17 +122,17 @@ module _ {kind : Kind} {P Q : Listing} {psups qsups ends inc : List ℕ} {B : Bl
   up-Q = omega (arith, x .block .q-before, before-lt q (B .j) b (x .right), plan .few-Q)
 
   pub cap-few : B .cap ≤ 1
-  cap-few = rw (x .block .cap) (cond-le (kind .max && eqb (B .i + B .j + 2) (length p + length q)))
+  cap-few = rw (x .block .cap) (cond-le (poles .max && eqb (B .i + B .j + 2) (length p + length q)))
 
   -- its number
   pub index : B .from + a * B .qcount + b ≡ e
   index =
       let w : a * B .qcount ≡ a * count Q (B .j) = ap (λ (n : ℕ). a * n) (x .block .q-count) in
-      omega (arith, x .block .from, number-at (kind .min) p q (B .i) a (B .j) b)
+      omega (arith, x .block .from, number-at (poles .min) p q (B .i) a (B .j) b)
 
-  pair-lt : e < sizeOf (kind .min) (kind .max) p q
+  pair-lt : e < sizeOf (poles .min) (poles .max) p q
   unfolding sizeOf
-  pair-lt = omega (arith, number-lt (kind .min) p q (B .i) a (B .j) b (x .left) (x .right))
+  pair-lt = omega (arith, number-lt (poles .min) p q (B .i) a (B .j) b (x .left) (x .right))
 
   pub index-few : e < limits .elements
   index-few = omega (arith, pair-lt, plan .elements)
@@ -193,17 +194,17 @@ shift B a b =
     record { low = B .low; left = B .left + b; scale = B .qcount; right = B .right + a * B .qbelow }
 
 -- what the code has in hand: the subs of its members, how many lie over it, its number and its place
-pub record InHand (kind : Kind) (P Q : Listing) (psups qsups ends inc : List ℕ) (B : Block) (a b : ℕ)
+pub record InHand (poles : Poles) (P Q : Listing) (psups qsups ends inc : List ℕ) (B : Block) (a b : ℕ)
     (left right : List ℕ) (sups k at : ℕ) : Type 0 where
-  pub pair : PairIn kind P Q psups qsups ends inc B a b
-  pub left-is : left ≡ subsInUse (kind .min) P (B .i) a
+  pub pair : PairIn poles P Q psups qsups ends inc B a b
+  pub left-is : left ≡ subsInUse (poles .min) P (B .i) a
   pub right-is : right ≡ cond (eqb (B .j) 0) [] (entries (Q .ends) (Q .inc) (2 * (B .base + B .qbefore + b) + 0))
   pub sups-is : sups ≡ getD psups (B .pbefore + a) 0 + getD qsups (B .qbefore + b) 0 + B .cap
   pub k-is : k ≡ B .from + a * B .qcount + b
-  pub at-is : at ≡ starts (productLists kind P Q) (2 * inBlock kind (P .counts) (Q .counts) B a b)
+  pub at-is : at ≡ starts (productLists poles P Q) (2 * inBlock poles (P .counts) (Q .counts) B a b)
 
-module _ {kind : Kind} {P Q : Listing} {psups qsups ends inc : List ℕ} {B : Block} {a b : ℕ} {left right : List ℕ}
-    {sups k at : ℕ} (h : InHand kind P Q psups qsups ends inc B a b left right sups k at) where
+module _ {poles : Poles} {P Q : Listing} {psups qsups ends inc : List ℕ} {B : Block} {a b : ℕ} {left right : List ℕ}
+    {sups k at : ℕ} (h : InHand poles P Q psups qsups ends inc B a b left right sups k at) where
   -- its subs are those of the plan
   pair-subs : subsOf (shift B a b) left right ≡ lists (h .pair) (2 * e (h .pair))
   unfolding underPair subsInUse
@@ -252,9 +253,9 @@ module _ {kind : Kind} {P Q : Listing} {psups qsups ends inc : List ℕ} {B : Bl
   pub pair-put : (n : ℕ) (ends′ inc′ : List ℕ) → n ≡ at + length (subsOf (shift B a b) left right) + sups
       → LaidList at (subsOf (shift B a b) left right) inc inc′
       → ends′ ≡ set (set ends (2 * k) (at + length (subsOf (shift B a b) left right))) (2 * k + 1) n
-      → Put (productLists kind P Q) (inBlock kind (P .counts) (Q .counts) B a b)
-      (inBlock kind (P .counts) (Q .counts) B a (b + 1)) n ends inc ends′ inc′
+      → Put (productLists poles P Q) (inBlock poles (P .counts) (Q .counts) B a b)
+      (inBlock poles (P .counts) (Q .counts) B a (b + 1)) n ends inc ends′ inc′
   pair-put n ends′ inc′ en l eq =
-      rw (number-more (kind .min) (P .counts) (Q .counts) (B .i) a (B .j) b)
-      (put-one (productLists kind P Q) _ at sups n _ ends inc ends′ inc′ (h .at-is) pair-subs pair-sups en
+      rw (number-more (poles .min) (P .counts) (Q .counts) (B .i) a (B .j) b)
+      (put-one (productLists poles P Q) _ at sups n _ ends inc ends′ inc′ (h .at-is) pair-subs pair-sups en
       (pair-ends (h .pair)) l (rw pair-number at eq))

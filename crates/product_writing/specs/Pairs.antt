@@ -1,12 +1,12 @@
--- The product of two factors, as it is written: its layers, its lists and what they ask for. A factor P or Q is given as
--- the builder has it: a listing with the counts of the ranks in use, in whose lists the first element in use has the
--- number 1 where the minimal one is left out.
+-- The product of two factors, as it is written: its layers, its lists and what they ask for. A factor, P or Q, is given
+-- as the builder has it: a listing with the counts of the ranks in use, in whose lists the first element in use has
+-- the number 1 where the minimal one is left out.
 --
 -- subsInUse      the subs in use of an element: none at the lowest rank in use
 -- factorLayers   what a factor says, as layers
 -- target         the layers of the product of two factors, with the ends added that min and max ask for
 -- listsOf        the lists of the product, by their numbers: the subs and the derived sups of each element in turn
--- productLists   the same, by the kind of the product
+-- productLists   the same, with the two flags in one
 -- pairShift      how the subs of a pair follow from those of its members
 -- underPair      what a pair has under it: the added minimal element alone where it is a lowest pair and that is added;
 --                else the pairs with a member replaced by one of its subs in use
@@ -32,7 +32,7 @@ use Rattle.listing_sups.specs.Filling.{starts}
 use Rattle.product_pairs.specs.Trimmed.{bit}
 use Rattle.product_pairs.specs.Paired.{paired}
 use Rattle.product_pairs.specs.Grown.{grown}
-use Rattle.product_places.specs.declared.Kind.{Kind}
+use Rattle.product_places.specs.declared.Poles.{Poles}
 use Rattle.product_places.specs.declared.put.Shift.{Shift}
 use Rattle.product_places.specs.Places.{offsetIn, pairsTo, pairNumber, subsOf}
 
@@ -48,8 +48,8 @@ target min max P Q = grown min max (paired (factorLayers min P) (factorLayers mi
 unfoldable pub listsOf : Bool → Bool → Listing → Listing → ℕ → List ℕ
 listsOf min max P Q = nth (target min max P Q) (derived (target min max P Q))
 
-abbrev pub productLists : Kind → Listing → Listing → ℕ → List ℕ
-productLists kind P Q = listsOf (kind .min) (kind .max) P Q
+abbrev pub productLists : Poles → Listing → Listing → ℕ → List ℕ
+productLists poles P Q = listsOf (poles .min) (poles .max) P Q
 
 abbrev pub pairShift : Bool → Listing → Listing → ℕ → ℕ → ℕ → ℕ → Shift
 pairShift low P Q i a j b = record {
@@ -92,7 +92,7 @@ pub record Plan (min max : Bool) (P Q : Listing) (room-ends room-inc : ℕ) : Ty
   pub room-for-inc : starts (listsOf min max P Q) (2 * sizeOf min max (P .counts) (Q .counts)) ≤ room-inc
   pub incidences : starts (listsOf min max P Q) (2 * sizeOf min max (P .counts) (Q .counts)) ≤ limits .incidences
 
-pub record Writable (kind : Kind) (P Q : Listing) (psups qsups ends inc : List ℕ) : Type 0 where
-  pub plan : Plan (kind .min) (kind .max) P Q (length ends) (length inc)
-  pub sups-P : UpCounts (bit (kind .min)) P psups
-  pub sups-Q : UpCounts (bit (kind .min)) Q qsups
+pub record Writable (poles : Poles) (P Q : Listing) (psups qsups ends inc : List ℕ) : Type 0 where
+  pub plan : Plan (poles .min) (poles .max) P Q (length ends) (length inc)
+  pub sups-P : UpCounts (bit (poles .min)) P psups
+  pub sups-Q : UpCounts (bit (poles .min)) Q qsups

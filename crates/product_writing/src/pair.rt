@@ -1,7 +1,7 @@
 // One pair, and the pairs of one element of the first factor with all of a rank of the second.
 use listing::Index;
 use listing::inner;
-use product_places::Kind;
+use product_places::Poles;
 use product_places::block::Block;
 use product_places::put;
 use product_places::put::Shift;
@@ -57,7 +57,7 @@ fn sups_over(psups: &[Index], qsups: &[Index], block: Block, pair: Pair) -> usiz
 // One pair of a block, from place `at` on, where `left` are the subs in use of its first member. Returns the place
 // after it.
 fn put_pair(
-    kind: Kind,
+    poles: Poles,
     p: &[Index],
     pends: &[Index],
     pinc: &[Index],
@@ -73,16 +73,16 @@ fn put_pair(
     pair: Pair,
     at: usize,
 ) -> usize
-    requires { ⌜ Writable kind (held p pends pinc) (held q qends qinc) (now psups) (now qsups) (now ends) (now inc) ⌝ }
-    requires { ⌜ BlockOf kind (now p) (now q) (block .i) (block .j) block ⌝ }
+    requires { ⌜ Writable poles (held p pends pinc) (held q qends qinc) (now psups) (now qsups) (now ends) (now inc) ⌝ }
+    requires { ⌜ BlockOf poles (now p) (now q) (block .i) (block .j) block ⌝ }
     requires { ⌜ (pair .a < getD (now p) (block .i) 0) × (pair .b < getD (now q) (block .j) 0) ⌝ }
-    requires { ⌜ now left ≡ subsInUse (kind .min) (held p pends pinc) (block .i) (pair .a) ⌝ }
-    requires { ⌜ at ≡ starts (productLists kind (held p pends pinc) (held q qends qinc))
-        (2 * inBlock kind (now p) (now q) block (pair .a) (pair .b)) ⌝ }
-    ensures { λ r. ⌜ Put (productLists kind (held (p .entry) (pends .entry) (pinc .entry))
+    requires { ⌜ now left ≡ subsInUse (poles .min) (held p pends pinc) (block .i) (pair .a) ⌝ }
+    requires { ⌜ at ≡ starts (productLists poles (held p pends pinc) (held q qends qinc))
+        (2 * inBlock poles (now p) (now q) block (pair .a) (pair .b)) ⌝ }
+    ensures { λ r. ⌜ Put (productLists poles (held (p .entry) (pends .entry) (pinc .entry))
         (held (q .entry) (qends .entry) (qinc .entry)))
-        (inBlock kind (now (p .entry)) (now (q .entry)) block (pair .a) (pair .b))
-        (inBlock kind (now (p .entry)) (now (q .entry)) block (pair .a) (pair .b + 1)) r
+        (inBlock poles (now (p .entry)) (now (q .entry)) block (pair .a) (pair .b))
+        (inBlock poles (now (p .entry)) (now (q .entry)) block (pair .a) (pair .b + 1)) r
         (now (ends .entry)) (now (inc .entry)) (now (ends .exit)) (now (inc .exit)) ⌝ }
 {
     let right = subs_in_use(qends, qinc, block.base + block.qbefore + pair.b, block.j);
@@ -101,7 +101,7 @@ fn put_pair(
 // The pairs of element a of a block's first rank with all elements of its second, from place `at` on. Returns the place
 // after them.
 pub fn put_pairs_of(
-    kind: Kind,
+    poles: Poles,
     p: &[Index],
     pends: &[Index],
     pinc: &[Index],
@@ -116,15 +116,15 @@ pub fn put_pairs_of(
     a: usize,
     at: usize,
 ) -> usize
-    requires { ⌜ Writable kind (held p pends pinc) (held q qends qinc) (now psups) (now qsups) (now ends) (now inc) ⌝ }
-    requires { ⌜ BlockOf kind (now p) (now q) (block .i) (block .j) block ⌝ }
+    requires { ⌜ Writable poles (held p pends pinc) (held q qends qinc) (now psups) (now qsups) (now ends) (now inc) ⌝ }
+    requires { ⌜ BlockOf poles (now p) (now q) (block .i) (block .j) block ⌝ }
     requires { ⌜ a < getD (now p) (block .i) 0 ⌝ }
-    requires { ⌜ at ≡ starts (productLists kind (held p pends pinc) (held q qends qinc))
-        (2 * inBlock kind (now p) (now q) block a 0) ⌝ }
-    ensures { λ r. ⌜ Put (productLists kind (held (p .entry) (pends .entry) (pinc .entry))
+    requires { ⌜ at ≡ starts (productLists poles (held p pends pinc) (held q qends qinc))
+        (2 * inBlock poles (now p) (now q) block a 0) ⌝ }
+    ensures { λ r. ⌜ Put (productLists poles (held (p .entry) (pends .entry) (pinc .entry))
         (held (q .entry) (qends .entry) (qinc .entry)))
-        (inBlock kind (now (p .entry)) (now (q .entry)) block a 0)
-        (inBlock kind (now (p .entry)) (now (q .entry)) block (a + 1) 0) r
+        (inBlock poles (now (p .entry)) (now (q .entry)) block a 0)
+        (inBlock poles (now (p .entry)) (now (q .entry)) block (a + 1) 0) r
         (now (ends .entry)) (now (inc .entry)) (now (ends .exit)) (now (inc .exit)) ⌝ }
 {
     let left = subs_in_use(pends, pinc, block.base + block.pbefore + a, block.i);
@@ -134,7 +134,7 @@ pub fn put_pairs_of(
     while b < n {
         let pair = Pair { a, b };
         to = put_pair(
-            kind,
+            poles,
             p,
             pends,
             pinc,

@@ -2,7 +2,7 @@
 use crate::pair;
 use listing::Index;
 use listing::inner;
-use product_places::Kind;
+use product_places::Poles;
 use product_places::block;
 use product_places::block::Block;
 use product_places::put;
@@ -19,7 +19,7 @@ ghost use Rattle.product_writing.specs.Pairs.{productLists, sizeOf, Writ
 
 // The pairs of a block, from place `at` on. Returns the place after them.
 fn put_block(
-    kind: Kind,
+    poles: Poles,
     p: &[Index],
     pends: &[Index],
     pinc: &[Index],
@@ -33,14 +33,14 @@ fn put_block(
     block: Block,
     at: usize,
 ) -> usize
-    requires { ⌜ Writable kind (held p pends pinc) (held q qends qinc) (now psups) (now qsups) (now ends) (now inc) ⌝ }
-    requires { ⌜ BlockOf kind (now p) (now q) (block .i) (block .j) block ⌝ }
-    requires { ⌜ at ≡ starts (productLists kind (held p pends pinc) (held q qends qinc))
-        (2 * firstAt (kind .min) (now p) (now q) (block .i + block .j) (block .i)) ⌝ }
-    ensures { λ r. ⌜ Put (productLists kind (held (p .entry) (pends .entry) (pinc .entry))
+    requires { ⌜ Writable poles (held p pends pinc) (held q qends qinc) (now psups) (now qsups) (now ends) (now inc) ⌝ }
+    requires { ⌜ BlockOf poles (now p) (now q) (block .i) (block .j) block ⌝ }
+    requires { ⌜ at ≡ starts (productLists poles (held p pends pinc) (held q qends qinc))
+        (2 * firstAt (poles .min) (now p) (now q) (block .i + block .j) (block .i)) ⌝ }
+    ensures { λ r. ⌜ Put (productLists poles (held (p .entry) (pends .entry) (pinc .entry))
         (held (q .entry) (qends .entry) (qinc .entry)))
-        (firstAt (kind .min) (now (p .entry)) (now (q .entry)) (block .i + block .j) (block .i))
-        (firstAt (kind .min) (now (p .entry)) (now (q .entry)) (block .i + block .j) (block .i + 1)) r
+        (firstAt (poles .min) (now (p .entry)) (now (q .entry)) (block .i + block .j) (block .i))
+        (firstAt (poles .min) (now (p .entry)) (now (q .entry)) (block .i + block .j) (block .i + 1)) r
         (now (ends .entry)) (now (inc .entry)) (now (ends .exit)) (now (inc .exit)) ⌝ }
 {
     if block.qcount == 0 {
@@ -51,7 +51,7 @@ fn put_block(
     let mut a: usize = 0;
     while a < n {
         to = pair::put_pairs_of(
-            kind,
+            poles,
             p,
             pends,
             pinc,
@@ -73,7 +73,7 @@ fn put_block(
 
 // The pairs of one rank, which begins at the element `start`, from place `at` on. Returns the place after them.
 fn put_rank(
-    kind: Kind,
+    poles: Poles,
     p: &[Index],
     pends: &[Index],
     pinc: &[Index],
@@ -88,23 +88,23 @@ fn put_rank(
     rank: usize,
     at: usize,
 ) -> usize
-    requires { ⌜ Writable kind (held p pends pinc) (held q qends qinc) (now psups) (now qsups) (now ends) (now inc) ⌝ }
+    requires { ⌜ Writable poles (held p pends pinc) (held q qends qinc) (now psups) (now qsups) (now ends) (now inc) ⌝ }
     requires { ⌜ rank + 2 ≤ length (now p) + length (now q) ⌝ }
-    requires { ⌜ start ≡ bit (kind .min) + pairsTo (now p) (now q) rank ⌝ }
-    requires { ⌜ at ≡ starts (productLists kind (held p pends pinc) (held q qends qinc))
-        (2 * firstAt (kind .min) (now p) (now q) rank 0) ⌝ }
-    ensures { λ r. ⌜ Put (productLists kind (held (p .entry) (pends .entry) (pinc .entry))
+    requires { ⌜ start ≡ bit (poles .min) + pairsTo (now p) (now q) rank ⌝ }
+    requires { ⌜ at ≡ starts (productLists poles (held p pends pinc) (held q qends qinc))
+        (2 * firstAt (poles .min) (now p) (now q) rank 0) ⌝ }
+    ensures { λ r. ⌜ Put (productLists poles (held (p .entry) (pends .entry) (pinc .entry))
         (held (q .entry) (qends .entry) (qinc .entry)))
-        (firstAt (kind .min) (now (p .entry)) (now (q .entry)) rank 0)
-        (firstAt (kind .min) (now (p .entry)) (now (q .entry)) (rank + 1) 0) r
+        (firstAt (poles .min) (now (p .entry)) (now (q .entry)) rank 0)
+        (firstAt (poles .min) (now (p .entry)) (now (q .entry)) (rank + 1) 0) r
         (now (ends .entry)) (now (inc .entry)) (now (ends .exit)) (now (inc .exit)) ⌝ }
 {
     let mut to = at;
     let mut i: usize = 0;
     while i <= rank {
-        let block = block::block_of(kind, p, q, start, i, rank - i);
+        let block = block::block_of(poles, p, q, start, i, rank - i);
         to = put_block(
-            kind,
+            poles,
             p,
             pends,
             pinc,
@@ -125,7 +125,7 @@ fn put_rank(
 
 // All pairs, from place `at` on. Returns the place after them.
 fn put_ranks(
-    kind: Kind,
+    poles: Poles,
     p: &[Index],
     pends: &[Index],
     pinc: &[Index],
@@ -138,23 +138,23 @@ fn put_ranks(
     inc: &mut [Index],
     at: usize,
 ) -> usize
-    requires { ⌜ Writable kind (held p pends pinc) (held q qends qinc) (now psups) (now qsups) (now ends) (now inc) ⌝ }
-    requires { ⌜ at ≡ starts (productLists kind (held p pends pinc) (held q qends qinc))
-        (2 * firstAt (kind .min) (now p) (now q) 0 0) ⌝ }
-    ensures { λ r. ⌜ Put (productLists kind (held (p .entry) (pends .entry) (pinc .entry))
+    requires { ⌜ Writable poles (held p pends pinc) (held q qends qinc) (now psups) (now qsups) (now ends) (now inc) ⌝ }
+    requires { ⌜ at ≡ starts (productLists poles (held p pends pinc) (held q qends qinc))
+        (2 * firstAt (poles .min) (now p) (now q) 0 0) ⌝ }
+    ensures { λ r. ⌜ Put (productLists poles (held (p .entry) (pends .entry) (pinc .entry))
         (held (q .entry) (qends .entry) (qinc .entry)))
-        (firstAt (kind .min) (now (p .entry)) (now (q .entry)) 0 0)
-        (firstAt (kind .min) (now (p .entry)) (now (q .entry))
+        (firstAt (poles .min) (now (p .entry)) (now (q .entry)) 0 0)
+        (firstAt (poles .min) (now (p .entry)) (now (q .entry))
         (length (now (p .entry)) + length (now (q .entry)) - 1) 0) r
         (now (ends .entry)) (now (inc .entry)) (now (ends .exit)) (now (inc .exit)) ⌝ }
 {
     let ranks = p.len() + q.len() - 1;
-    let mut start = block::bit_of(kind.min);
+    let mut start = block::bit_of(poles.min);
     let mut to = at;
     let mut rank: usize = 0;
     while rank < ranks {
         to = put_rank(
-            kind,
+            poles,
             p,
             pends,
             pinc,
@@ -178,7 +178,7 @@ fn put_ranks(
 // All elements: the added minimal one, the pairs, the added maximal one, as they are asked for. Returns how many they
 // are.
 pub fn put_elements(
-    kind: Kind,
+    poles: Poles,
     p: &[Index],
     pends: &[Index],
     pinc: &[Index],
@@ -190,17 +190,17 @@ pub fn put_elements(
     ends: &mut [Index],
     inc: &mut [Index],
 ) -> usize
-    requires { ⌜ Writable kind (held p pends pinc) (held q qends qinc) (now psups) (now qsups) (now ends) (now inc) ⌝ }
-    ensures { λ r. ⌜ r ≡ sizeOf (kind .min) (kind .max) (now (p .entry)) (now (q .entry)) ⌝ }
-    ensures { λ r. ⌜ ElementsLaid (productLists kind (held (p .entry) (pends .entry) (pinc .entry))
+    requires { ⌜ Writable poles (held p pends pinc) (held q qends qinc) (now psups) (now qsups) (now ends) (now inc) ⌝ }
+    ensures { λ r. ⌜ r ≡ sizeOf (poles .min) (poles .max) (now (p .entry)) (now (q .entry)) ⌝ }
+    ensures { λ r. ⌜ ElementsLaid (productLists poles (held (p .entry) (pends .entry) (pinc .entry))
         (held (q .entry) (qends .entry) (qinc .entry)))
-        (sizeOf (kind .min) (kind .max) (now (p .entry)) (now (q .entry)))
+        (sizeOf (poles .min) (poles .max) (now (p .entry)) (now (q .entry)))
         (now (ends .entry)) (now (inc .entry)) (now (ends .exit)) (now (inc .exit)) ⌝ }
 {
     let lowest = block::pairs_in(p, q, 0, 1);
-    let at = put::put_min(&mut *ends, kind.min, lowest);
+    let at = put::put_min(&mut *ends, poles.min, lowest);
     let to = put_ranks(
-        kind,
+        poles,
         p,
         pends,
         pinc,
@@ -214,9 +214,9 @@ pub fn put_elements(
         at,
     );
     let ranks = p.len() + q.len() - 1;
-    let e = block::bit_of(kind.min) + block::pairs_to(p, q, ranks);
+    let e = block::bit_of(poles.min) + block::pairs_to(p, q, ranks);
     let highest = block::pairs_in(p, q, ranks - 1, ranks);
     let spot = Spot { e, at: to };
-    put::put_max(&mut *ends, &mut *inc, kind.max, spot, highest);
-    e + block::bit_of(kind.max)
+    put::put_max(&mut *ends, &mut *inc, poles.max, spot, highest);
+    e + block::bit_of(poles.max)
 }

@@ -61,15 +61,15 @@ module _ {A : Type 0} (same : A → A → Bool) (room : ℕ) where
     -- what holds in each case holds of the state after
     pub meet-cases : (P : State A → Type 0) → (s .overflow ≡ true → P s)
         → (s .overflow ≡ false → indexIn same (s .found) y < length (s .found)
-            → P (again b s (indexIn same (s .found) y)))
+        → P (again b s (indexIn same (s .found) y)))
         → (s .overflow ≡ false → length (s .found) ≤ indexIn same (s .found) y → length (s .found) < room
-            → P (add b s y))
+        → P (add b s y))
         → (s .overflow ≡ false → length (s .found) ≤ indexIn same (s .found) y → room ≤ length (s .found)
-            → P (overfull s))
+        → P (overfull s))
         → P (meet same room b s y)
     meet-cases P stop known new none =
         go (s .overflow) refl (ltb (indexIn same (s .found) y) (length (s .found))) refl (ltb (length (s .found)) room)
-            refl
+        refl
       where
         go : (t : Bool) → s .overflow ≡ t → (u : Bool) → ltb (indexIn same (s .found) y) (length (s .found)) ≡ u
             → (v : Bool) → ltb (length (s .found)) room ≡ v → P (meet same room b s y)

@@ -40,7 +40,8 @@ L s = listing (s .args .counts .now) (s .args .ends .now) (s .args .inc .now)
 sizes : (c : tie.After-fill-rank-arg2 Inv-loop μ-loop)
     → let k = begun (turn c) .args .counts .now in
     let r = turn c .loop .rank in
-    (c .before .before .before .before .wide .result ≡ getD k r 0) × (c .before .before .wide2 .result ≡ getD k (r + 1) 0)
+    (c .before .before .before .before .wide .result ≡ getD k r 0)
+    × (c .before .before .wide2 .result ≡ getD k (r + 1) 0)
 sizes c = (c .before .before .before .before .wide .ensures .0, c .before .before .wide2 .ensures .0)
 
 -- where the rank above begins, where it ends, and that both are within the lists

@@ -58,10 +58,11 @@ loop-less c = search needs
 loop-again : tie.Need-loop-again Inv-loop μ-loop
 loop-again c =
     let v = turn (entered c) .loop .inv in
-    let l = begun (turn (entered c)) .args .list .now in (
+    let l = begun (turn (entered c)) .args .list .now in
+    let h = entered c .before .before .before .loop-test .taken in (
       omega arith,
       raised-then _ _ _ _ _ _ _ _ (v .1) (c .before .before .tally-entry .ensures)
-          (λ y. occurs-take y l _ _ (entered c .before .before .before .loop-test .taken) (entered c .wide .ensures .0)),
+          (λ y. occurs-take y l _ _ h (entered c .wide .ensures .0)),
     )
 
 same-length : tie.Need-same-length Inv-loop μ-loop

@@ -7,10 +7,10 @@ use lib.ListN.{length}
 use Rattle.listing.specs.Listing.{Listing, listing, limits}
 use Rattle.listing.proofs.Answers.{no-of}
 use Rattle.product_pairs.specs.Product.{productOf}
-use Rattle.product_places.specs.declared.Kind.{Kind}
+use Rattle.product_places.specs.declared.Poles.{Poles}
 use Rattle.product_sizes.specs.Sizing.{sizeTest}
 use Rattle.product_sizes.specs.Sizing.{Measures}
-use Rattle.product_sizes.proofs.Counted.{measured-by}
+use Rattle.product_sizes.proofs.Extents.{measured-by}
 use Rattle.product_plan.proofs.Planned.{built-is, build-asked}
 use Rattle.product_sizes.proofs.Parts.{usable-shaped, usable-high}
 use Rattle.product_sizes.proofs.Tested.{listing-tested, Passed, sizes-passed}
@@ -34,8 +34,8 @@ abbrev done : tie.After-slice-known6 → tie.After-build
 done c = c .before .before .before .before .before .before
 
 -- which product it is
-abbrev kind : tie.Start → Kind
-kind s = record { min = s .args .min; max = s .args .max }
+abbrev poles : tie.Start → Poles
+poles s = record { min = s .args .min; max = s .args .max }
 
 -- the factors, and their product
 abbrev left : tie.Start → Listing
@@ -52,9 +52,9 @@ measures : (c : tie.After-check-sizes) → Measures (result (start c)) (c .befor
 measures c =
     let s = start c in
     let d = c .before in
-    let a = d .before .before .count-used .ensures .1 in
-    let b = d .before .count-used2 .ensures .1 in
-    measured-by (kind s) (s .pre .0) (s .pre .1) a b (d .product-sizes .ensures)
+    let a = d .before .before .extent-of .ensures .1 in
+    let b = d .before .extent-of2 .ensures .1 in
+    measured-by (poles s) (s .pre .0) (s .pre .1) a b (d .product-sizes .ensures)
 
 -- the test's answer is that of the product's sizes
 tested : (c : tie.After-check-sizes) → let a = start c .args in
@@ -67,11 +67,11 @@ passed : (c : tie.Else1) → let s = start (c .before .before) in
     Passed limits (result s) (length (s .args .counts .now)) (length (s .args .ends .now)) (length (s .args .inc .now))
 passed c = sizes-passed _ _ _ _ _ (no-of (tested (c .before .before)) (c .if1 .left))
 
-count-used-requires : tie.Need-count-used-requires
-count-used-requires c κs = search needs
+extent-of-requires : tie.Need-extent-of-requires
+extent-of-requires c κs = search needs
 
-count-used-requires-2 : tie.Need-count-used-requires-2
-count-used-requires-2 c κs = search needs
+extent-of-requires-2 : tie.Need-extent-of-requires-2
+extent-of-requires-2 c κs = search needs
 
 product-sizes-requires : tie.Need-product-sizes-requires
 product-sizes-requires c κs = search needs
@@ -106,7 +106,7 @@ build-requires c κs =
     let h = passed d in
     let p = r .before .range .ensures in
     let q = r .range2 .ensures in
-    build-asked (kind s) _ _ (s .pre .0) (s .pre .1) _ _ p q (a .counts .now) (a .ends .now) (a .inc .now) h
+    build-asked (poles s) _ _ (s .pre .0) (s .pre .1) _ _ p q (a .counts .now) (a .ends .now) (a .inc .now) h
 
 written-requires : tie.Need-written-requires
 written-requires c κs =
@@ -132,7 +132,7 @@ returns-2 c =
     let s = start t in
     let z = d .if1 .left in
     let w = c .written .ensures _ (measures t) z in
-    let e = built-is (kind s) _ _ (s .pre .0) (s .pre .1) _ _ (r .before .range .ensures) (r .range2 .ensures) in
+    let e = built-is (poles s) _ _ (s .pre .0) (s .pre .1) _ _ (r .before .range .ensures) (r .range2 .ensures) in
     made-written _ _ z _ (tested t) _ _ _ w
     (rw e at (b .build .ensures .0)) (rw e at (b .build .ensures .1 .0)) (rw e at (b .build .ensures .1 .1))
 
@@ -140,8 +140,8 @@ pub product-spec : {M : Type 1} → statement M
 product-spec =
     tie.close
     (tie.spec
-    count-used-requires
-    count-used-requires-2
+    extent-of-requires
+    extent-of-requires-2
     product-sizes-requires
     check-sizes-requires
     refused-requires

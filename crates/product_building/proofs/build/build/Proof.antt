@@ -42,7 +42,7 @@ Q s = listing (s .args .q .now) (s .args .qends .now) (s .args .qinc .now)
 
 ready : (s : tie.Start)
     → let a = s .args in
-    Buildable (a .kind) (P s) (Q s) (a .counts .now) (a .ends .now) (a .inc .now)
+    Buildable (a .poles) (P s) (Q s) (a .counts .now) (a .ends .now) (a .inc .now)
 ready s = record { plan = s .pre .0; room = s .pre .1 }
 
 -- what is written before the sups are filled in
@@ -52,7 +52,7 @@ written : (c : tie.After-slice-known6)
     let a = s .args in
     let w = laid c .before .before .before .before .before .before in
     let v = c .before .before .before .before in
-    BeforeFill (a .kind) (P s) (Q s) (a .counts .now) (a .ends .now) (a .inc .now) (w .put-counts .last .1 .1 .1 .0)
+    BeforeFill (a .poles) (P s) (Q s) (a .counts .now) (a .ends .now) (a .inc .now) (w .put-counts .last .1 .1 .1 .0)
     (v .put-elements .last .1 .1 .1 .1 .1 .1 .1 .1 .1 .0) (v .put-elements .last .1 .1 .1 .1 .1 .1 .1 .1 .1 .1 .0)
     (w .put-counts .result) (v .put-elements .result)
 written c =

@@ -24,13 +24,13 @@ middle c = c .before .before .before
 
 size : (s : tie.Start)
     → let a = s .args in
-    length (countsOf (a .kind .min) (a .kind .max) (a .p .now) (a .q .now))
-    ≡ bit (a .kind .min) + (length (a .p .now) + length (a .q .now) - 1) + bit (a .kind .max)
+    length (countsOf (a .poles .min) (a .poles .max) (a .p .now) (a .q .now))
+    ≡ bit (a .poles .min) + (length (a .p .now) + length (a .q .now) - 1) + bit (a .poles .max)
 size s = counts-length _ _ _ _
 
 all : (c : tie.After-slice-known4)
     → let a = begun (low (middle c)) .args in
-    LaidList 0 (countsOf (a .kind .min) (a .kind .max) (a .p .now) (a .q .now)) (a .counts .now)
+    LaidList 0 (countsOf (a .poles .min) (a .poles .max) (a .p .now) (a .q .now)) (a .counts .now)
     (c .before .before .put-if2 .last .0)
 all c =
     let x = low (middle c) .before .before .before .put-if .ensures in

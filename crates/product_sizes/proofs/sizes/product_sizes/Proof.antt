@@ -6,12 +6,12 @@ use native.Mathlib.Omega.{arith}
 use borrow.Author.Needs.{needs}
 use Rattle.product_pairs.specs.Trimmed.{bit}
 use Rattle.product_places.proofs.Numbers.{bit-le}
-use Rattle.product_sizes.proofs.Counted.{totals-are}
+use Rattle.product_sizes.proofs.Extents.{totals-are}
 use Rattle.product_sizes.proofs.sizes.product_sizes.Statement.{statement}
 use Rattle.product_sizes.proofs.sizes.product_sizes.Tie as tie
 
--- where the elements of the lowest pairs are known, seen from the end; where the flags are numbers, seen from there; and
--- where the function began
+-- where the lowest pairs are counted, seen from the end; where the flags are numbers, seen from there; and where the
+-- function began
 abbrev low : tie.After-struct-known2 → tie.After-where-asked
 low c = c .before .before .before .before
 
@@ -24,21 +24,21 @@ begun c = c .before .before
 -- the added ends are at most one each
 few : (c : tie.After-bit-of2) → (c .before .bit-of .result ≤ 1) × (c .bit-of2 .result ≤ 1)
 few c =
-    let k = begun c .args .kind in
+    let k = begun c .args .poles in
     omega (arith, c .before .bit-of .ensures, bit-le (k .min), c .bit-of2 .ensures, bit-le (k .max))
 
 -- what they bring: one incidence for each lowest, and for each highest pair
 lowest : (c : tie.After-where-asked) → let a = begun (flags c) .args in
-    c .where-asked .result ≡ bit (a .kind .min) * (a .p .lowest * a .q .lowest)
+    c .where-asked .result ≡ bit (a .poles .min) * (a .p .lowest * a .q .lowest)
 lowest c =
     c .where-asked .ensures .0
-    ∙ ap (λ (n : ℕ). bit (begun (flags c) .args .kind .min) * n) (c .before .times4 .ensures .0)
+    ∙ ap (λ (n : ℕ). bit (begun (flags c) .args .poles .min) * n) (c .before .times4 .ensures .0)
 
 highest : (c : tie.After-struct-known2) → let a = begun (flags (low c)) .args in
-    c .before .before .where-asked2 .result ≡ bit (a .kind .max) * (a .p .highest * a .q .highest)
+    c .before .before .where-asked2 .result ≡ bit (a .poles .max) * (a .p .highest * a .q .highest)
 highest c =
     c .before .before .where-asked2 .ensures .0
-    ∙ ap (λ (n : ℕ). bit (begun (flags (low c)) .args .kind .max) * n) (c .before .before .before .times5 .ensures .0)
+    ∙ ap (λ (n : ℕ). bit (begun (flags (low c)) .args .poles .max) * n) (c .before .before .before .times5 .ensures .0)
 
 bit-of-requires : tie.Need-bit-of-requires
 bit-of-requires c κs = search needs
@@ -102,7 +102,7 @@ returns c =
     let d = low c .before .before in
     let f = flags (low c) in
     let a = begun f .args in
-    totals-are (a .kind) (a .p) (a .q) (f .before .bit-of .ensures) (f .bit-of2 .ensures)
+    totals-are (a .poles) (a .p) (a .q) (f .before .bit-of .ensures) (f .bit-of2 .ensures)
     (d .before .before .times .ensures .0) (d .before .times2 .ensures .0) (d .times3 .ensures .0) (lowest (low c))
     (highest c)
 

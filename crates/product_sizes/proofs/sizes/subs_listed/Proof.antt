@@ -1,5 +1,5 @@
--- `subs_listed`. Invariant: n is how many subs the elements from `from` up to e list, and at most as many for each as there may be incidences.
--- Measure: the elements left.
+-- `subs_listed`. Invariant: n is how many subs the elements from `from` up to e list, and at most as many for each as
+-- there may be incidences. Measure: the elements left.
 -- Assumes nothing.
 use mathlib.Core.Path.{_≡_, ap, _∙_}
 use Prim.Native.Nat.{ℕ, _+_, _-_, _*_, _≤_}
@@ -8,7 +8,7 @@ use borrow.Author.Needs.{needs}
 use lib.ListN.{length}
 use Rattle.order.specs.Sums.{sum}
 use Rattle.listing.specs.Listing.{limits, entries}
-use Rattle.product_sizes.proofs.Counted.{entries-few, listed-none, listed-next}
+use Rattle.product_sizes.proofs.Extents.{entries-few, listed-none, listed-next}
 use Rattle.product_sizes.proofs.sizes.subs_listed.Statement.{statement}
 use Rattle.product_sizes.proofs.sizes.subs_listed.Tie as tie
 

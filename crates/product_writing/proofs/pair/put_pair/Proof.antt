@@ -12,8 +12,8 @@ use Rattle.product_writing.proofs.Fits.{left-shift-few, right-shift-few
 use Rattle.product_writing.proofs.pair.put_pair.Statement.{statement}
 use Rattle.product_writing.proofs.pair.put_pair.Tie as tie
 
--- where the function began, seen from where the block is read; where the pair's number is known, seen from the call; and
--- the call, seen from the end
+-- where the function began, seen from where the block is read; where the pair's number is known, seen from the call;
+-- and the call, seen from the end
 abbrev lent : tie.After-shared-slice-known8 → tie.Start
 lent c = c .before .before .before .before .before .before .before .before
 
@@ -35,7 +35,7 @@ Q s = listing (s .args .q .now) (s .args .qends .now) (s .args .qinc .now)
 
 pair : (s : tie.Start)
     → let a = s .args in
-    PairIn (a .kind) (P s) (Q s) (a .psups .now) (a .qsups .now) (a .ends .now) (a .inc .now) (a .block) (a .pair .a)
+    PairIn (a .poles) (P s) (Q s) (a .psups .now) (a .qsups .now) (a .ends .now) (a .inc .now) (a .block) (a .pair .a)
     (a .pair .b)
 pair s = record {
   ready = s .pre .0;
@@ -49,7 +49,7 @@ hand : (c : tie.After-put-element-arg2)
     → let d = indexed c in
     let s = begun (d .before .before .before .before) in
     let a = s .args in
-    InHand (a .kind) (P s) (Q s) (a .psups .now) (a .qsups .now) (a .ends .now) (a .inc .now) (a .block) (a .pair .a)
+    InHand (a .poles) (P s) (Q s) (a .psups .now) (a .qsups .now) (a .ends .now) (a .inc .now) (a .block) (a .pair .a)
     (a .pair .b) (a .left .now) (d .before .before .subs-in-use .result .now) (d .before .sups-over .result)
     (d .get-element-index .result) (a .at)
 hand c =
@@ -68,9 +68,9 @@ put : (c : tie.After-slice-known4)
     → let s = begun (indexed (called c) .before .before .before .before) in
     let a = s .args in
     let d = c .before .before .before .before in
-    Put (productLists (a .kind) (P s) (Q s))
-    (inBlock (a .kind) (a .p .now) (a .q .now) (a .block) (a .pair .a) (a .pair .b))
-    (inBlock (a .kind) (a .p .now) (a .q .now) (a .block) (a .pair .a) (a .pair .b + 1)) (d .put-element .result)
+    Put (productLists (a .poles) (P s) (Q s))
+    (inBlock (a .poles) (a .p .now) (a .q .now) (a .block) (a .pair .a) (a .pair .b))
+    (inBlock (a .poles) (a .p .now) (a .q .now) (a .block) (a .pair .a) (a .pair .b + 1)) (d .put-element .result)
     (a .ends .now) (a .inc .now) (d .put-element .last .0) (d .put-element .last .1 .0)
 put c =
     let w = c .before .before .before .before .put-element .ensures in
@@ -79,12 +79,12 @@ put c =
 add-subs-in-use : tie.Need-add-subs-in-use
 add-subs-in-use c =
     let s = begun c in
-    omega (arith, up-Q (pair s), s .pre .1 .0 .base, bit-le (s .args .kind .min))
+    omega (arith, up-Q (pair s), s .pre .1 .0 .base, bit-le (s .args .poles .min))
 
 add-subs-in-use-2 : tie.Need-add-subs-in-use-2
 add-subs-in-use-2 c =
     let s = begun (c .before) in
-    omega (arith, up-Q (pair s), s .pre .1 .0 .base, bit-le (s .args .kind .min))
+    omega (arith, up-Q (pair s), s .pre .1 .0 .base, bit-le (s .args .poles .min))
 
 subs-in-use-requires : tie.Need-subs-in-use-requires
 subs-in-use-requires c κs =

@@ -13,18 +13,18 @@ use Rattle.listing_sups.proofs.Laying.{put-none, put-then}
 use Rattle.product_places.specs.Blocks.{inBlock}
 use Rattle.product_places.proofs.Numbers.{number-next}
 use Rattle.product_writing.specs.Pairs.{productLists}
-use Rattle.product_writing.proofs.Fits.{writable-room, left-there, left-few, left-used}
+use Rattle.product_writing.proofs.Fits.{writable-room, left-there, left-few, left-subs}
 use Rattle.product_writing.proofs.pair.put_pairs_of.Statement.{statement}
 use Rattle.product_writing.proofs.pair.put_pairs_of.Tie as tie
 
 abbrev Inv-loop : tie.InvT-loop
-Inv-loop kind p pends pinc q qends qinc psups qsups ends₀ inc₀ block a at left n to₀ b₀ ends inc to b = (b ≤ n)
+Inv-loop poles p pends pinc q qends qinc psups qsups ends₀ inc₀ block a at left n to₀ b₀ ends inc to b = (b ≤ n)
     × (n ≡ getD q (block .j) 0)
-    × Put (productLists kind (listing p pends pinc) (listing q qends qinc)) (inBlock kind p q block a 0)
-    (inBlock kind p q block a b) to ends₀ inc₀ ends inc
+    × Put (productLists poles (listing p pends pinc) (listing q qends qinc)) (inBlock poles p q block a 0)
+    (inBlock poles p q block a b) to ends₀ inc₀ ends inc
 
 abbrev μ-loop : tie.MeasureT-loop
-μ-loop kind p pends pinc q qends qinc psups qsups ends₀ inc₀ block a at left n to₀ b₀ ends inc to b = n - b
+μ-loop poles p pends pinc q qends qinc psups qsups ends₀ inc₀ block a at left n to₀ b₀ ends inc to b = n - b
 
 -- where the function began, seen from where the block is read; the loop, seen from the call; the call, seen from behind
 abbrev lent : tie.After-shared-slice-known8 Inv-loop μ-loop → tie.Start Inv-loop μ-loop
@@ -69,7 +69,7 @@ put-pair-requires c κs =
         s .1 .0,
         (
           (s .1 .1 .0, omega (arith, v .1)),
-          (left-used (s .0) (s .1 .0) (s .1 .1 .0) _ (d .subs-in-use .ensures), v .2 .place),
+          (left-subs (s .0) (s .1 .0) (s .1 .1 .0) _ (d .subs-in-use .ensures), v .2 .place),
         ),
       ),
     )
@@ -99,7 +99,7 @@ returns c =
     let s = begun (c .before .before .before) .args in
     let v = c .before .loop .inv in
     let e : c .before .loop .b ≡ getD (s .q .now) (s .block .j) 0 = omega (arith, v .1) in
-    rw (← number-next (s .kind .min) (s .p .now) (s .q .now) (s .block .i) (s .a) (s .block .j), ← e) (v .2)
+    rw (← number-next (s .poles .min) (s .p .now) (s .q .now) (s .block .i) (s .a) (s .block .j), ← e) (v .2)
 
 pub put-pairs-of-spec : {M : Type 1} → statement M
 put-pairs-of-spec =

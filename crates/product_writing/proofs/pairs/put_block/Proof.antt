@@ -1,5 +1,5 @@
--- `put_block`. Invariant: the pairs of the first a elements of the block's first rank are written. Measure: the elements
--- left.
+-- `put_block`. Invariant: the pairs of the first a elements of the block's first rank are written. Measure: the
+-- elements left.
 -- Assumes nothing.
 use mathlib.Core.Path.{_≡_, refl, sym, _∙_}
 use Prim.Native.Nat.{_-_, _≤_}
@@ -17,13 +17,13 @@ use Rattle.product_writing.proofs.pairs.put_block.Statement.{statement}
 use Rattle.product_writing.proofs.pairs.put_block.Tie as tie
 
 abbrev Inv-loop : tie.InvT-loop
-Inv-loop kind p pends pinc q qends qinc psups qsups ends₀ inc₀ block at n to₀ a₀ ends inc to a = (a ≤ n)
+Inv-loop poles p pends pinc q qends qinc psups qsups ends₀ inc₀ block at n to₀ a₀ ends inc to a = (a ≤ n)
     × (n ≡ getD p (block .i) 0)
-    × Put (productLists kind (listing p pends pinc) (listing q qends qinc)) (inBlock kind p q block 0 0)
-    (inBlock kind p q block a 0) to ends₀ inc₀ ends inc
+    × Put (productLists poles (listing p pends pinc) (listing q qends qinc)) (inBlock poles p q block 0 0)
+    (inBlock poles p q block a 0) to ends₀ inc₀ ends inc
 
 abbrev μ-loop : tie.MeasureT-loop
-μ-loop kind p pends pinc q qends qinc psups qsups ends₀ inc₀ block at n to₀ a₀ ends inc to a = n - a
+μ-loop poles p pends pinc q qends qinc psups qsups ends₀ inc₀ block at n to₀ a₀ ends inc to a = n - a
 
 -- where the function began, seen from where the block is read; that, seen from the loop; the loop, seen from the call;
 -- the call, seen from behind it
@@ -47,7 +47,7 @@ returns c =
     let s = begun (c .before) in
     let a = s .args in
     put-none _ _ _ _ _ _ (s .pre .1 .1)
-    (first-same (a .kind .min) (a .p .now) (a .q .now) (a .block .i) (a .block .j)
+    (first-same (a .poles .min) (a .p .now) (a .q .now) (a .block .i) (a .block .j)
     (sym (s .pre .1 .0 .q-count) ∙ c .if1 .taken))
 
 count-at-requires : tie.Need-count-at-requires Inv-loop μ-loop
@@ -60,7 +60,7 @@ loop-holds : tie.Need-loop-holds Inv-loop μ-loop
 loop-holds c =
     let s = begun (c .before .before .before) in
     let a = s .args in
-    let m = number-first (a .kind .min) (a .p .now) (a .q .now) (a .block .i) (a .block .j) in (
+    let m = number-first (a .poles .min) (a .p .now) (a .q .now) (a .block .i) (a .block .j) in (
       omega arith,
       c .wide .ensures .0 ∙ c .before .count-at .ensures,
       put-none _ _ _ _ _ _ (rw m (s .pre .1 .1)) refl,
@@ -98,8 +98,8 @@ returns-2 c =
     let v = c .before .loop .inv in
     let e : c .before .loop .a ≡ getD (s .p .now) (s .block .i) 0 = omega (arith, v .1) in
     rw (
-      ← number-last (s .kind .min) (s .p .now) (s .q .now) (s .block .i) (s .block .j),
-      ← number-first (s .kind .min) (s .p .now) (s .q .now) (s .block .i) (s .block .j),
+      ← number-last (s .poles .min) (s .p .now) (s .q .now) (s .block .i) (s .block .j),
+      ← number-first (s .poles .min) (s .p .now) (s .q .now) (s .block .i) (s .block .j),
       ← e,
     )
     (v .2)

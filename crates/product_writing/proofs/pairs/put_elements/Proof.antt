@@ -44,14 +44,14 @@ abbrev Q : tie.Start → Listing
 Q s = listing (s .args .q .now) (s .args .qends .now) (s .args .qinc .now)
 
 abbrev lists : tie.Start → ℕ → List ℕ
-lists s = productLists (s .args .kind) (P s) (Q s)
+lists s = productLists (s .args .poles) (P s) (Q s)
 
 -- where the pairs begin, by rank; how many elements there are
 abbrev at : tie.Start → ℕ → ℕ
-at s r = firstAt (s .args .kind .min) (s .args .p .now) (s .args .q .now) r 0
+at s r = firstAt (s .args .poles .min) (s .args .p .now) (s .args .q .now) r 0
 
 abbrev size : tie.Start → ℕ
-size s = sizeOf (s .args .kind .min) (s .args .kind .max) (s .args .p .now) (s .args .q .now)
+size s = sizeOf (s .args .poles .min) (s .args .poles .max) (s .args .p .now) (s .args .q .now)
 
 -- each factor has a rank, and few
 ranks : (s : tie.Start)
@@ -88,7 +88,7 @@ pairs-put c =
 planned : (c : tie.After-slice-known5)
     → let s = begun (low (middle c)) in
     let d = c .before .before .before .before in
-    Plan (s .args .kind .min) (s .args .kind .max) (P s) (Q s)
+    Plan (s .args .poles .min) (s .args .poles .max) (P s) (Q s)
     (length (d .put-ranks .last .1 .1 .1 .1 .1 .1 .1 .1 .1 .0))
     (length (d .put-ranks .last .1 .1 .1 .1 .1 .1 .1 .1 .1 .1 .0))
 planned c =

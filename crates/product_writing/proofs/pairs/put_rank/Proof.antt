@@ -16,12 +16,12 @@ use Rattle.product_writing.proofs.pairs.put_rank.Statement.{statement}
 use Rattle.product_writing.proofs.pairs.put_rank.Tie as tie
 
 abbrev Inv-loop : tie.InvT-loop
-Inv-loop kind p pends pinc q qends qinc psups qsups ends₀ inc₀ start rank at to₀ i₀ ends inc to i = (i ≤ rank + 1)
-    × Put (productLists kind (listing p pends pinc) (listing q qends qinc)) (firstAt (kind .min) p q rank 0)
-    (firstAt (kind .min) p q rank i) to ends₀ inc₀ ends inc
+Inv-loop poles p pends pinc q qends qinc psups qsups ends₀ inc₀ start rank at to₀ i₀ ends inc to i = (i ≤ rank + 1)
+    × Put (productLists poles (listing p pends pinc) (listing q qends qinc)) (firstAt (poles .min) p q rank 0)
+    (firstAt (poles .min) p q rank i) to ends₀ inc₀ ends inc
 
 abbrev μ-loop : tie.MeasureT-loop
-μ-loop kind p pends pinc q qends qinc psups qsups ends₀ inc₀ start rank at to₀ i₀ ends inc to i = rank + 1 - i
+μ-loop poles p pends pinc q qends qinc psups qsups ends₀ inc₀ start rank at to₀ i₀ ends inc to i = rank + 1 - i
 
 -- where the function began, seen from the loop; the loop's turn, seen from the call; the call, seen from behind it
 abbrev lent : tie.After-shared-slice-known8 Inv-loop μ-loop → tie.Start Inv-loop μ-loop
@@ -39,7 +39,7 @@ called c = c .before .before .before .before .before
 abbrev lists : tie.Start Inv-loop μ-loop → ℕ → List ℕ
 lists s =
     let a = s .args in
-    productLists (a .kind) (listing (a .p .now) (a .pends .now) (a .pinc .now))
+    productLists (a .poles) (listing (a .p .now) (a .pends .now) (a .pinc .now))
     (listing (a .q .now) (a .qends .now) (a .qinc .now))
 
 -- the ranks of a block make the rank
@@ -95,7 +95,7 @@ returns c =
     let s = begun (c .before) .args in
     let v = c .before .loop .inv in
     let e : c .before .loop .i ≡ s .rank + 1 = omega arith in
-    rw (← first-next (s .kind .min) (s .p .now) (s .q .now) (s .rank), ← e) (v .1)
+    rw (← first-next (s .poles .min) (s .p .now) (s .q .now) (s .rank), ← e) (v .1)
 
 pub put-rank-spec : {M : Type 1} → statement M
 put-rank-spec =

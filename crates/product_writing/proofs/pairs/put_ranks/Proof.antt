@@ -18,13 +18,13 @@ use Rattle.product_writing.proofs.pairs.put_ranks.Statement.{statement}
 use Rattle.product_writing.proofs.pairs.put_ranks.Tie as tie
 
 abbrev Inv-loop : tie.InvT-loop
-Inv-loop kind p pends pinc q qends qinc psups qsups ends₀ inc₀ at ranks start₀ to₀ rank₀ ends inc start to rank =
-    (rank ≤ ranks) × (start ≡ bit (kind .min) + pairsTo p q rank)
-    × Put (productLists kind (listing p pends pinc) (listing q qends qinc)) (firstAt (kind .min) p q 0 0)
-    (firstAt (kind .min) p q rank 0) to ends₀ inc₀ ends inc
+Inv-loop poles p pends pinc q qends qinc psups qsups ends₀ inc₀ at ranks start₀ to₀ rank₀ ends inc start to rank =
+    (rank ≤ ranks) × (start ≡ bit (poles .min) + pairsTo p q rank)
+    × Put (productLists poles (listing p pends pinc) (listing q qends qinc)) (firstAt (poles .min) p q 0 0)
+    (firstAt (poles .min) p q rank 0) to ends₀ inc₀ ends inc
 
 abbrev μ-loop : tie.MeasureT-loop
-μ-loop kind p pends pinc q qends qinc psups qsups ends₀ inc₀ at ranks start₀ to₀ rank₀ ends inc start to rank =
+μ-loop poles p pends pinc q qends qinc psups qsups ends₀ inc₀ at ranks start₀ to₀ rank₀ ends inc start to rank =
     ranks - rank
 
 -- where the function began, seen from where the slices are known; that, seen from the loop; the loop, seen from the

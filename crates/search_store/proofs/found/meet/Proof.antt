@@ -61,7 +61,7 @@ returns-2 c =
     let s = begun (f .before) in
     none s (s .args .s) refl
     (known-same _ _ _ _ _ (s .pre .1 .1) _ _ _ (f .find .ensures)
-        (c .before .before .before .before .before .if1 .taken)
+    (c .before .before .before .before .before .if1 .taken)
     (rw (c .before .before .wide .ensures .0) at (c .if3 .taken)))
 
 same-length-3 : tie.Need-same-length-3
@@ -74,7 +74,7 @@ returns-3 c =
     let a = s .args .s in
     none s (record { count = a .count; place = a .count; overflow = false }) refl
     (known-first _ _ _ _ _ (s .pre .1 .1) _ _ _ (f .find .ensures)
-        (c .before .before .before .before .before .if1 .taken) (c .before .before .before .if2 .left)
+    (c .before .before .before .before .before .if1 .taken) (c .before .before .before .if2 .left)
     (λ q. c .if3 .left (rw (c .before .before .wide .ensures .0) q)))
 
 wide-requires-2 : tie.Need-wide-requires-2
@@ -114,7 +114,7 @@ returns-4 c =
     rw (e .0, e .1, e .2, e .3)
     (moved-added _ _ _ _ _ _ (s .args .s) (s .pre .1 .0) (s .args .flag .now) (s .args .h) (s .args .byte)
     (s .pre .0 .2) (omega (arith, s .pre .0)) (s .pre .1 .1)
-        (omega (arith, t .before .before .if1 .left, f .find .ensures))
+    (omega (arith, t .before .before .if1 .left, f .find .ensures))
     (room-left t))
 
 same-length-6 : tie.Need-same-length-6

@@ -92,7 +92,7 @@ loop-again c =
     rw (c .before .wide2 .ensures .0)
     (down-next (s .args .w) (s .args .n) _ _ _ (s .pre .1) (sought s) (l .loop .p) (l .loop .inv) (omega arith)
     (rw (c .before .before .before .before .wide .ensures .0)
-        at (sym (c .before .before .before .same-row .ensures) ∙ c .before .before .if1 .left)))
+    at (sym (c .before .before .before .same-row .ensures) ∙ c .before .before .if1 .left)))
 
 returns-2 : tie.Need-returns-2 Inv-loop μ-loop
 returns-2 c =

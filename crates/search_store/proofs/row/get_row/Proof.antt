@@ -61,7 +61,7 @@ returns c =
     let a = c .before .before .args in
     let l = c .before .loop in
     copy-end (a .w) (a .table .now) (a .k) (omega arith) (a .flag .now) (l .flag) (l .j) (l .inv .2)
-        (c .loop-test .left)
+    (c .loop-test .left)
 
 pub get-row-spec : {M : Type 1} → statement M
 get-row-spec =

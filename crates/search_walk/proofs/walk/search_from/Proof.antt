@@ -77,8 +77,12 @@ unfolding hashOf
 meet-requires c κs =
     let s = began (padded c) in
     let room = s .pre .1 .1 .1 in (
-      (s .pre .0 .shaped .few-ranks, sixteen (padded c), ap (λ n. n % hashes)
-          (c .before .before .before .before .before .sum-of .ensures .0)),
+      (
+        s .pre .0 .shaped .few-ranks,
+        sixteen (padded c),
+        ap (λ n. n % hashes)
+            (c .before .before .before .before .before .sum-of .ensures .0),
+      ),
       (held-none _ _ _ _ (room .0) (room .1) (room .2), refl),
     )
 
@@ -110,7 +114,7 @@ returns c =
     let m = met (c .before .before .before .before .before .before .before) in
     let s = began (padded (m .before)) in
     all-found (L s) (s .args .room) (s .args .mask) _ _ _ (first-met m)
-        (c .before .before .before .before .run .ensures)
+    (c .before .before .before .before .run .ensures)
 
 pub search-from-spec : {M : Type 1} → statement M
 search-from-spec =

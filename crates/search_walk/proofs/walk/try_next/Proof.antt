@@ -38,7 +38,7 @@ weighs s = s .pre .0 .weighs .each (s .args .r) (omega (arith, few s, s .pre .1 
 put-in : (c : tie.After-change-index) → let s = begun (c .before .before .before .before .before .before .before) in
     let L = listing (s .args .counts .now) (s .args .ends .now) (s .args .inc .now) in
     c .change-index .result
-        ≡ other (getD (s .args .flag .now) (s .args .r) 0) (between L (s .args .r) (s .args .flag .now))
+    ≡ other (getD (s .args .flag .now) (s .args .r) 0) (between L (s .args .r) (s .args .flag .now))
 put-in c = rw (c .before .before .before .before .before .before .wide .ensures .0) at (c .change-index .ensures)
 
 -- ---- the needs

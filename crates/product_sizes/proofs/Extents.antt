@@ -22,7 +22,7 @@ use Rattle.product_pairs.proofs.Lengths.{rankSubs-lowest}
 use Rattle.product_closure.specs.Sizes.{allElements, sizesOf}
 use Rattle.product_closure.proofs.Sizes.{productOf-ranks, productOf-elements, productOf-ends, productOf-incidences}
 use Rattle.product_closure.proofs.Valid.{valid-sound}
-use Rattle.product_places.specs.declared.Kind.{Kind}
+use Rattle.product_places.specs.declared.Poles.{Poles}
 use Rattle.product_sizes.specs.declared.sizes.Extent.{Extent}
 use Rattle.product_sizes.specs.declared.sizes.Totals.{Totals}
 use Rattle.product_sizes.specs.Sizing.{Usable, countsInUse, extentOf, Little, totalsOf, Measures}
@@ -143,10 +143,10 @@ module _ (min max : Bool) (L : Listing) (u : Usable min max L) where
     top : length p - 1 ≡ M .top
     top = omega (arith, in-use-length min max L u)
 
-    pub counted : U .subs ≡ sum (λ k. length (entries (L .ends) (L .inc) (2 * (b + U .lowest + k))))
+    pub extent-is : U .subs ≡ sum (λ k. length (entries (L .ends) (L .inc) (2 * (b + U .lowest + k))))
         (b + U .elements - (b + U .lowest))
         → U ≡ extentOf M
-    counted es =
+    extent-is es =
         let ranks = er ∙ ap length e ∙ in-use-length min max L u in
         let elements = all ∙ elements-in-use in
         let subs = rw (eb, el, all, e) at es ∙ subs-in-use in
@@ -179,26 +179,26 @@ ranks-add : (a b m n : ℕ) → suc (a + b + m + n) ≡ suc a + suc b - 1 + m + 
 ranks-add a b m n = omega arith
 
 -- the three numbers by their parts, as the code has them in hand
-pub totals-are : (kind : Kind) (p q : Extent) {low high pairs left right lowest highest : ℕ} → low ≡ bit (kind .min)
-    → high ≡ bit (kind .max) → pairs ≡ p .elements * q .elements → left ≡ p .subs * q .elements
-    → right ≡ q .subs * p .elements → lowest ≡ bit (kind .min) * (p .lowest * q .lowest)
-    → highest ≡ bit (kind .max) * (p .highest * q .highest)
+pub totals-are : (poles : Poles) (p q : Extent) {low high pairs left right lowest highest : ℕ} → low ≡ bit (poles .min)
+    → high ≡ bit (poles .max) → pairs ≡ p .elements * q .elements → left ≡ p .subs * q .elements
+    → right ≡ q .subs * p .elements → lowest ≡ bit (poles .min) * (p .lowest * q .lowest)
+    → highest ≡ bit (poles .max) * (p .highest * q .highest)
     → _≡_ {A = Totals} (record {
       ranks = p .ranks + q .ranks - 1 + low + high;
       elements = pairs + low + high;
       incidences = 2 * (left + right + lowest + highest);
-    }) (totalsOf kind p q)
-totals-are kind p q a b e l r f g = rw (a, b, e, l, r, f, g)
+    }) (totalsOf poles p q)
+totals-are poles p q a b e l r f g = rw (a, b, e, l, r, f, g)
 
 -- Its three numbers are what the sizes are computed to.
-pub measured : (kind : Kind) (A B : Listing) → Usable (kind .min) (kind .max) A → Usable (kind .min) (kind .max) B
-    → Measures (productOf (kind .min) (kind .max) A B)
-    (totalsOf kind (extentOf (trimmed (kind .min) (kind .max) (layers A)))
-    (extentOf (trimmed (kind .min) (kind .max) (layers B))))
+pub measured : (poles : Poles) (A B : Listing) → Usable (poles .min) (poles .max) A → Usable (poles .min) (poles .max) B
+    → Measures (productOf (poles .min) (poles .max) A B)
+    (totalsOf poles (extentOf (trimmed (poles .min) (poles .max) (layers A)))
+    (extentOf (trimmed (poles .min) (poles .max) (layers B))))
 unfolding sizesOf
-measured kind A B uA uB =
-    let min = kind .min in
-    let max = kind .max in
+measured poles A B uA uB =
+    let min = poles .min in
+    let max = poles .max in
     let sA = valid-sound limits A (uA .valid) in
     let sB = valid-sound limits B (uB .valid) in
     record {
@@ -209,8 +209,8 @@ measured kind A B uA uB =
     }
 
 -- the same, of the numbers that the code has in hand
-pub measured-by : (kind : Kind) {A B : Listing} {p q : Extent} {t : Totals} → Usable (kind .min) (kind .max) A
-    → Usable (kind .min) (kind .max) B → p ≡ extentOf (trimmed (kind .min) (kind .max) (layers A))
-    → q ≡ extentOf (trimmed (kind .min) (kind .max) (layers B)) → t ≡ totalsOf kind p q
-    → Measures (productOf (kind .min) (kind .max) A B) t
-measured-by kind {A} {B} uA uB ep eq et = rw (et, ep, eq) (measured kind A B uA uB)
+pub measured-by : (poles : Poles) {A B : Listing} {p q : Extent} {t : Totals} → Usable (poles .min) (poles .max) A
+    → Usable (poles .min) (poles .max) B → p ≡ extentOf (trimmed (poles .min) (poles .max) (layers A))
+    → q ≡ extentOf (trimmed (poles .min) (poles .max) (layers B)) → t ≡ totalsOf poles p q
+    → Measures (productOf (poles .min) (poles .max) A B) t
+measured-by poles {A} {B} uA uB ep eq et = rw (et, ep, eq) (measured poles A B uA uB)

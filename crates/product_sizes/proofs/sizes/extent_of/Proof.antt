@@ -1,4 +1,4 @@
--- `count_used`: there is a rank in use, its counts are small, and what is counted is what the layers in use have.
+-- `extent_of`: there is a rank in use, its counts are small, and what is counted is what the layers in use have.
 -- Assumes nothing.
 use mathlib.Core.Path.{refl}
 use Prim.Native.Nat.{_+_, _*_, _≤_, _<_}
@@ -9,14 +9,14 @@ use Rattle.listing.specs.Listing.{limits, before}
 use Rattle.listing.proofs.ShapeExact.{shaped-ends}
 use Rattle.product_pairs.specs.Trimmed.{bit}
 use Rattle.product_places.proofs.Numbers.{bit-le}
-use Rattle.product_sizes.proofs.Counted.{room, counted, little}
+use Rattle.product_sizes.proofs.Extents.{room, extent-is, little}
 use Rattle.product_sizes.proofs.Parts.{usable-shaped, usable-high}
-use Rattle.product_sizes.proofs.sizes.count_used.Statement.{statement}
-use Rattle.product_sizes.proofs.sizes.count_used.Tie as tie
+use Rattle.product_sizes.proofs.sizes.extent_of.Statement.{statement}
+use Rattle.product_sizes.proofs.sizes.extent_of.Tie as tie
 
 -- where the elements are counted, seen from where the ends are known; and where the function began, seen from there
-abbrev counted-at : tie.After-wide2 → tie.After-elements-before
-counted-at c = c .before .before .before .before
+abbrev counted : tie.After-wide2 → tie.After-elements-before
+counted c = c .before .before .before .before
 
 abbrev begun : tie.After-elements-before → tie.Start
 begun c = c .before .before .before .before .before .before
@@ -26,8 +26,8 @@ asked : (c : tie.After-elements-before)
     → let a = begun c .args in
     let x = c .before .before .range .result .now in
     let n = before x (length x) in
-    (0 < length x) × (length x ≤ limits .ranks) × (getD x 0 0 ≤ n) × (bit (a .kind .min) + n ≤ limits .elements)
-    × (2 * (bit (a .kind .min) + n) ≤ length (a .ends .now))
+    (0 < length x) × (length x ≤ limits .ranks) × (getD x 0 0 ≤ n) × (bit (a .poles .min) + n ≤ limits .elements)
+    × (2 * (bit (a .poles .min) + n) ≤ length (a .ends .now))
 asked c = room _ _ _ (begun c .pre) _ (c .before .before .range .ensures)
 
 range-requires : tie.Need-range-requires
@@ -63,17 +63,17 @@ wide-requires-2 c κs = search needs
 
 add-subs-listed : tie.Need-add-subs-listed
 add-subs-listed c =
-    let d = counted-at c in
-    omega (arith, d .before .bit-of .ensures, bit-le (begun d .args .kind .min), c .before .before .wide .ensures .1)
+    let d = counted c in
+    omega (arith, d .before .bit-of .ensures, bit-le (begun d .args .poles .min), c .before .before .wide .ensures .1)
 
 add-subs-listed-2 : tie.Need-add-subs-listed-2
 add-subs-listed-2 c =
-    let d = counted-at c in
+    let d = counted c in
     omega (arith, d .before .bit-of .ensures, d .elements-before .ensures, asked d)
 
 subs-listed-requires : tie.Need-subs-listed-requires
 subs-listed-requires c κs =
-    let d = counted-at c in
+    let d = counted c in
     let S = usable-shaped _ _ _ (begun d .pre) in
     let r = asked d in
     let n = d .elements-before .ensures in
@@ -89,7 +89,7 @@ subs-listed-requires c κs =
 
 returns : tie.Need-returns
 returns c =
-    let d = counted-at (c .before) in
+    let d = counted (c .before) in
     let u = begun d .pre in
     let n = d .elements-before .ensures in
     let l = c .before .before .before .wide .ensures .0 in
@@ -97,11 +97,11 @@ returns c =
     let k = d .before .before .range .ensures in
     let b = d .before .bit-of .ensures in (
       little _ _ _ u _ k _ refl n l h _ b (c .subs-listed .ensures .1),
-      counted _ _ _ u _ k _ refl n l h _ b (c .subs-listed .ensures .0),
+      extent-is _ _ _ u _ k _ refl n l h _ b (c .subs-listed .ensures .0),
     )
 
-pub count-used-spec : {M : Type 1} → statement M
-count-used-spec =
+pub extent-of-spec : {M : Type 1} → statement M
+extent-of-spec =
     tie.close
     (tie.spec
     range-requires
