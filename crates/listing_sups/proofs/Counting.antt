@@ -12,9 +12,21 @@ use Rattle.order.specs.Sums.{sum}
 use Rattle.order.proofs.Sums.{sum-none}
 use Rattle.listing.specs.Listing.{Listing, count, before, start}
 use Rattle.listing.specs.Layers.{derived}
-use Rattle.listing.proofs.Listing.{before-next, before-le, some-rank}
+use Rattle.listing.proofs.Listing.{before-next, before-all, before-le, some-rank}
 use Rattle.listing.proofs.Layers.{derived-length}
 use Rattle.listing_sups.specs.Sups.{subsAt, layersFrom, UpCounts, Raised}
+
+-- where the elements of the next rank begin, and of the one after it, by the numbers of elements n and m
+pub next-ranks : (counts : List ℕ) (r from n m : ℕ) → from ≡ before counts r → n ≡ getD counts r 0
+    → m ≡ getD counts (r + 1) 0
+    → (from + n ≡ before counts (r + 1)) × (from + n + m ≡ before counts (r + 1 + 1))
+    × (before counts (r + 1 + 1) ≤ before counts (length counts))
+next-ranks counts r from n m ef en em =
+    omega (arith, before-next counts r, before-next counts (r + 1), before-all counts (r + 1 + 1))
+
+-- the same with b elements before them all
+pub here-is : (b from n k : ℕ) → from + n ≡ k → b + from + n ≡ b + k
+here-is b from n k e = omega arith
 
 -- how many sups are derived for an element
 abbrev upCount : ℕ → Listing → ℕ → ℕ → ℕ
@@ -25,6 +37,10 @@ pub record CountedTo (b : ℕ) (L : Listing) (r : ℕ) (up : List ℕ) : Type 0 
   pub done : (i x : ℕ) → i < r → x < count L i → getD up (before (L .counts) i + x) 0 ≡ upCount b L i x
   pub rest : (k : ℕ) → before (L .counts) r ≤ k → getD up k 0 ≡ 0
   pub few : (k : ℕ) → getD up k 0 ≤ start (L .ends) (2 * (b + before (L .counts) (r + 1)))
+
+pub few-at : {b : ℕ} {L : Listing} {r here : ℕ} {up : List ℕ} → CountedTo b L r up
+    → here ≡ b + before (L .counts) (r + 1) → (k : ℕ) → getD up k 0 ≤ start (L .ends) (2 * here)
+few-at v e = rw e (v .few)
 
 pub counted-none : (b : ℕ) (L : Listing) (up : List ℕ) → ((k : ℕ) → getD up k 0 ≡ 0) → CountedTo b L 0 up
 counted-none b L up z = record {

@@ -14,6 +14,22 @@ ghost use Rattle.listing.specs.Laid.{Laid};
 ghost use Rattle.listing_sups.specs.Sups.{subsAt, UpCounts, Raised, Strewn, Apart, span};
 ghost use Rattle.listing_sups.specs.Sups.{Fillable, SupsFilled};
 
+// How many elements a rank has, and how many the rank above it.
+struct Two {
+    n: usize,
+    m: usize,
+}
+
+fn two_of(counts: &[Index], rank: usize) -> Two
+    requires { ⌜ rank + 1 < length (now counts) ⌝ }
+    ensures { λ r. ⌜ (r .n ≡ getD (now (counts .entry)) rank 0) × (r .m ≡ getD (now (counts .entry)) (rank + 1) 0)
+        × (r .m < width) ⌝ }
+{
+    let n = inner::wide(counts[rank]);
+    let m = inner::wide(counts[rank + 1]);
+    Two { n, m }
+}
+
 // Counts one entry x for the element that it names, of n elements that are counted from place `from` on. An entry that
 // names none is passed over.
 fn tally_entry(up: &mut [Index], from: usize, n: usize, x: usize)
@@ -76,10 +92,9 @@ pub fn tally(up: &mut [Index], counts: &[Index], ends: &[Index], inc: &[Index], 
     let mut from: usize = 0;
     let mut rank: usize = 0;
     while rank + 1 < counts.len() {
-        let n = inner::wide(counts[rank]);
-        let m = inner::wide(counts[rank + 1]);
-        tally_rank(&mut *up, from, n, ends, inc, base + from + n, m);
-        from += n;
+        let s = two_of(counts, rank);
+        tally_rank(&mut *up, from, s.n, ends, inc, base + from + s.n, s.m);
+        from += s.n;
         rank += 1;
     }
 }
@@ -182,10 +197,9 @@ fn fill_ranks(counts: &[Index], ends: &[Index], inc: &mut [Index], next: &mut [I
     let mut from: usize = 0;
     let mut rank: usize = 0;
     while rank + 1 < counts.len() {
-        let n = inner::wide(counts[rank]);
-        let m = inner::wide(counts[rank + 1]);
-        fill_rank(ends, &mut *inc, &mut *next, from, n, from + n, m);
-        from += n;
+        let s = two_of(counts, rank);
+        fill_rank(ends, &mut *inc, &mut *next, from, s.n, from + s.n, s.m);
+        from += s.n;
         rank += 1;
     }
 }

@@ -7,7 +7,8 @@ use native.Mathlib.Omega.{arith}
 use lib.ListN.{length, getD}
 use borrow.Author.Needs.{needs}
 use Rattle.listing.specs.Listing.{Listing, listing, before}
-use Rattle.listing.proofs.Listing.{before-zero, before-next, before-all}
+use Rattle.listing.proofs.Listing.{before-zero}
+use Rattle.listing_sups.proofs.Counting.{next-ranks}
 use Rattle.listing_sups.specs.Sups.{SupsFilled}
 use Rattle.listing_sups.proofs.SupsFilled.{Turn, lists-stay, rank-ready, filled-next, filled-none}
 use Rattle.listing_sups.proofs.SupsFilled.{filled-all}
@@ -27,51 +28,41 @@ abbrev μ-loop : tie.MeasureT-loop
 abbrev begun : tie.At-loop Inv-loop μ-loop → tie.Start Inv-loop μ-loop
 begun c = c .before .before .before .before .before
 
-abbrev turn : tie.After-fill-rank-arg2 Inv-loop μ-loop → tie.At-loop Inv-loop μ-loop
-turn c = c .before .before .before .before .before .before .before
+abbrev turn : tie.After-two-of Inv-loop μ-loop → tie.At-loop Inv-loop μ-loop
+turn c = c .before .before
 
-abbrev called : tie.After-slice-known4 Inv-loop μ-loop → tie.After-fill-rank-arg2 Inv-loop μ-loop
-called c = c .before .before .before .before .before
+abbrev called : tie.After-struct-known Inv-loop μ-loop → tie.After-two-of Inv-loop μ-loop
+called c = c .before .before .before
+
+abbrev passed : tie.After-struct-known2 Inv-loop μ-loop → tie.After-two-of Inv-loop μ-loop
+passed c = called (c .before .before .before .before .before .before)
 
 abbrev L : tie.Start Inv-loop μ-loop → Listing
 L s = listing (s .args .counts .now) (s .args .ends .now) (s .args .inc .now)
 
--- how many elements the rank has, and the rank above
-sizes : (c : tie.After-fill-rank-arg2 Inv-loop μ-loop)
-    → let k = begun (turn c) .args .counts .now in
-    let r = turn c .loop .rank in
-    (c .before .before .before .before .wide .result ≡ getD k r 0)
-    × (c .before .before .wide2 .result ≡ getD k (r + 1) 0)
-sizes c = (c .before .before .before .before .wide .ensures .0, c .before .before .wide2 .ensures .0)
-
 -- where the rank above begins, where it ends, and that both are within the lists
-places : (c : tie.After-fill-rank-arg2 Inv-loop μ-loop)
+places : (c : tie.After-two-of Inv-loop μ-loop)
     → let k = begun (turn c) .args .counts .now in
     let r = turn c .loop .rank in
-    let here = turn c .loop .from + c .before .before .before .before .wide .result in
-    (here ≡ before k (r + 1)) × (here + c .before .before .wide2 .result ≡ before k (r + 1 + 1))
+    let here = turn c .loop .from + c .two-of .result .n in
+    (here ≡ before k (r + 1)) × (here + c .two-of .result .m ≡ before k (r + 1 + 1))
     × (before k (r + 1 + 1) ≤ before k (length k))
-places c =
-    let k = begun (turn c) .args .counts .now in
-    let r = turn c .loop .rank in
-    let v = turn c .loop .inv .1 in
-    let n = sizes c in
-    omega (arith, before-next k r, before-next k (r + 1), before-all k (r + 1 + 1))
+places c = next-ranks _ _ _ _ _ (turn c .loop .inv .1) (c .two-of .ensures .0) (c .two-of .ensures .1)
 
 -- what is known at the call
-here : (c : tie.After-fill-rank-arg2 Inv-loop μ-loop)
+known : (c : tie.After-two-of Inv-loop μ-loop)
     → let l = turn c .loop in
-    Turn (L (begun (turn c))) (l .rank) (l .from) (c .before .before .before .before .wide .result)
-    (l .from + c .before .before .before .before .wide .result) (c .before .before .wide2 .result) (l .next) (l .inc)
-here c =
+    let s = c .two-of .result in
+    Turn (L (begun (turn c))) (l .rank) (l .from) (s .n) (l .from + s .n) (s .m) (l .next) (l .inc)
+known c =
     let v = turn c .loop .inv in
     record {
       ready = begun (turn c) .pre .0;
       filled = v .4;
       from-is = v .1;
-      n-is = sizes c .0;
+      n-is = c .two-of .ensures .0;
       here-is = places c .0;
-      m-is = sizes c .1;
+      m-is = c .two-of .ensures .1;
       cursors = v .3;
     }
 
@@ -83,45 +74,30 @@ loop-holds c =
 add-loop : tie.Need-add-loop Inv-loop μ-loop
 add-loop c = search needs
 
-mul-wide : tie.Need-mul-wide Inv-loop μ-loop
-mul-wide c = search needs
-
-shared-slice-read-wide : tie.Need-shared-slice-read-wide Inv-loop μ-loop
-shared-slice-read-wide c = search needs
-
-wide-requires : tie.Need-wide-requires Inv-loop μ-loop
-wide-requires c κs = search needs
-
-add-wide : tie.Need-add-wide Inv-loop μ-loop
-add-wide c = search needs
-
-mul-wide-2 : tie.Need-mul-wide-2 Inv-loop μ-loop
-mul-wide-2 c = search needs
-
-shared-slice-read-wide-2 : tie.Need-shared-slice-read-wide-2 Inv-loop μ-loop
-shared-slice-read-wide-2 c = search needs
-
-wide-requires-2 : tie.Need-wide-requires-2 Inv-loop μ-loop
-wide-requires-2 c κs = search needs
+two-of-requires : tie.Need-two-of-requires Inv-loop μ-loop
+two-of-requires c κs = search needs
 
 add-fill-rank : tie.Need-add-fill-rank Inv-loop μ-loop
 add-fill-rank c =
-    let p = places c in
-    omega (arith, begun (turn c) .pre .0 .few)
+    let p = places (called c) in
+    omega (arith, begun (turn (called c)) .pre .0 .few)
 
 fill-rank-requires : tie.Need-fill-rank-requires Inv-loop μ-loop
 fill-rank-requires c κs =
-    let s = begun (turn c) in
-    let p = places c in
-    let v = turn c .loop .inv in (
-      omega (arith, v .2, s .pre .1 .0, c .before .before .wide2 .ensures .1),
-      (lists-stay (L s) (s .pre .0) _ _ (v .4), (omega (arith, s .pre .0 .two-each), rank-ready (here c))),
+    let s = begun (turn (called c)) in
+    let p = places (called c) in
+    let v = turn (called c) .loop .inv in (
+      omega (arith, v .2, s .pre .1 .0, called c .two-of .ensures .2),
+      (
+        lists-stay (L s) (s .pre .0) _ _ (v .4),
+        (omega (arith, s .pre .0 .two-each), rank-ready (known (called c))),
+      ),
     )
 
 add-from : tie.Need-add-from Inv-loop μ-loop
 add-from c =
-    let p = places (called c) in
-    omega (arith, begun (turn (called c)) .pre .0 .few)
+    let p = places (passed c) in
+    omega (arith, begun (turn (passed c)) .pre .0 .few)
 
 add-rank : tie.Need-add-rank Inv-loop μ-loop
 add-rank c = search needs
@@ -131,14 +107,14 @@ loop-less c = search needs
 
 loop-again : tie.Need-loop-again Inv-loop μ-loop
 loop-again c =
-    let p = places (called c) in
-    let v = turn (called c) .loop .inv in
-    let w = c .before .before .before .before .fill-rank .ensures in (
+    let p = places (passed c) in
+    let v = turn (passed c) .loop .inv in
+    let w = c .before .before .before .before .before .fill-rank .ensures in (
       omega arith,
       p .0,
       w .0 .same-length ∙ v .2,
       λ e h l. w .0 .later e (omega (arith, p .0)) ∙ v .3 e (omega (arith, p .0, v .1)) l,
-      filled-next (here (called c)) _ (w .1),
+      filled-next (known (passed c)) _ (w .1),
     )
 
 same-length : tie.Need-same-length Inv-loop μ-loop
@@ -160,13 +136,7 @@ fill-ranks-spec =
     μ-loop
     loop-holds
     add-loop
-    mul-wide
-    shared-slice-read-wide
-    wide-requires
-    add-wide
-    mul-wide-2
-    shared-slice-read-wide-2
-    wide-requires-2
+    two-of-requires
     add-fill-rank
     fill-rank-requires
     add-from
