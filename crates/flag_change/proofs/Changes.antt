@@ -81,7 +81,8 @@ module _ {m : Limits} (L : Listing) (C : Closed m L) (r : ℕ) (p : 0 < r) (q : 
     unfolding DiamondUpTo DiamondAt
     the-other =
         let here = between-is (getD f r 0) .0 stands in
-        OneOther·same (LiesBetween L (r + 1) (getD f (r + 1) 0) (getD f (r - 1) 0)) (λ x. In x (between L r f)) (getD f r 0)
+        OneOther·same (LiesBetween L (r + 1) (getD f (r + 1) 0) (getD f (r - 1) 0)) (λ x. In x (between L r f))
+        (getD f r 0)
         (λ w. between-is w .1) (λ w. between-is w .0)
         (C .diamond (r + 1) (omega arith) (omega arith) (getD f (r + 1) 0) (getD f (r - 1) 0) (getD f r 0)
         high-exists here)

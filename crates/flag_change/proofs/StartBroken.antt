@@ -1,4 +1,5 @@
--- What a change and a search ask first answers the number of the first rule that is broken; and so does what comes after.
+-- What a change and a search ask first answers the number of the first rule that is broken, and so does what comes
+-- after it.
 -- Assumes nothing.
 use mathlib.Core.List.{List, _∷_, _++_}
 use Prim.Native.Nat.{ℕ}

@@ -1,5 +1,5 @@
--- Numbers written over the beginning of others: how long they are then, their beginning and their rest, one number more,
--- and how to tell such a list by its numbers.
+-- Numbers written over the beginning of others: how long they are then, their beginning and their rest, one number
+-- more, and how to tell such a list by its numbers.
 -- Assumes nothing.
 use mathlib.Core.Path.{_≡_, sym, ap, _∙_}
 use mathlib.Core.List.{List}

@@ -36,7 +36,8 @@ pub record Buildable (poles : Poles) (P Q : Listing) (counts₀ ends₀ inc₀ :
   pub plan : Plan (poles .min) (poles .max) P Q (length ends₀) (length inc₀)
   pub room : length (productListing poles P Q .counts) ≤ length counts₀
 
-module _ {poles : Poles} {P Q : Listing} {counts₀ ends₀ inc₀ : List ℕ} (r : Buildable poles P Q counts₀ ends₀ inc₀) where
+module _ {poles : Poles} {P Q : Listing} {counts₀ ends₀ inc₀ : List ℕ}
+    (r : Buildable poles P Q counts₀ ends₀ inc₀) where
   abbrev W : Listing
   W = productListing poles P Q
 

@@ -115,7 +115,8 @@ module _ (min max : Bool) (A B : Listing) (uA : Usable min max A) (uB : Usable m
 
 -- ---- the same, of the counts x and y that the code has in hand
 
-module _ (poles : Poles) (A B : Listing) (uA : Usable (poles .min) (poles .max) A) (uB : Usable (poles .min) (poles .max) B)
+module _ (poles : Poles) (A B : Listing) (uA : Usable (poles .min) (poles .max) A)
+    (uB : Usable (poles .min) (poles .max) B)
     (x y : List ℕ) (ex : x ≡ countsInUse (poles .min) (poles .max) (A .counts))
     (ey : y ≡ countsInUse (poles .min) (poles .max) (B .counts)) where
   pub built-is : productListing poles (listing x (A .ends) (A .inc)) (listing y (B .ends) (B .inc))

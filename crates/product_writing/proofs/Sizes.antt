@@ -74,7 +74,8 @@ module _ (min max : Bool) (M : Layers) where
   pub grown-sum : sum (T .size) (suc (T .top)) ≡ bit min + sum (M .size) (suc (M .top)) + bit max
   grown-sum = omega (arith, grow-min-sum (addMaxIf max M) min, grow-max-sum M max)
 
-  pub grown-table : tabulated (T .size) (suc (T .top)) ≡ when min 1 ++ (tabulated (M .size) (suc (M .top)) ++ when max 1)
+  pub grown-table : tabulated (T .size) (suc (T .top))
+      ≡ when min 1 ++ (tabulated (M .size) (suc (M .top)) ++ when max 1)
   grown-table = grow-min-table (addMaxIf max M) min ∙ ap (λ (l : List ℕ). when min 1 ++ l) (grow-max-table M max)
 
 -- ---- the element added below

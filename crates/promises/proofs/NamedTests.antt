@@ -35,51 +35,20 @@ use Rattle.promises.proofs.NamedIncidences.{incidences-tells}
 -- ---- shape
 
 module _ (Q : Answer → Type 0) (g : (n : ℕ) → 1 ≤ n → n ≤ 6 → Q (plain n)) where
-  shape-one : (t : Bool) (n : ℕ) → 1 ≤ n → n ≤ 6 → Tells Q (on t (plain n))
-  shape-one t n p q = tells-on Q t (plain n) (λ e. g n p q)
+  -- a test of the row, and what comes after it
+  shape-or : (t : Bool) (n : ℕ) (y : Answer) → 1 ≤ n → n ≤ 6 → Tells Q y → Tells Q (on t (plain n) orElse y)
+  shape-or t n y p q r = tells-or Q (on t (plain n)) y (tells-on Q t (plain n) (λ e. g n p q)) (λ _. r)
 
   -- what holds of each plain refusal holds of the shape test's
   pub shape-tells : (m : Limits) (L : Listing) → Tells Q (shapeTest m L)
   unfolding shapeTest
   shape-tells m L =
-      tells-or Q (on (eqb n 0) (plain 1)) after1 (shape-one (eqb n 0) 1 (omega arith) (omega arith)) (λ _.
-      tells-or Q (on (ltb (m .ranks) n) (plain 2)) after2
-      (shape-one (ltb (m .ranks) n) 2 (omega arith) (omega arith)) (λ _.
-      tells-or Q (on (ltb (m .elements) e) (plain 3)) after3
-      (shape-one (ltb (m .elements) e) 3 (omega arith) (omega arith)) (λ _.
-      tells-or Q (on (not two) (plain 4)) after4 (shape-one (not two) 4 (omega arith) (omega arith)) (λ _.
-      tells-or Q (on over (plain 5)) after5 (shape-one over 5 (omega arith) (omega arith)) (λ _.
-      shape-one (not full) 6 (omega arith) (omega arith))))))
-    where
-      n : ℕ
-      n = length (L .counts)
-
-      e : ℕ
-      e = elements L
-
-      two : Bool
-      two = eqb (length (L .ends)) (2 * e)
-
-      over : Bool
-      over = ltb (m .incidences) (length (L .inc))
-
-      full : Bool
-      full = fills 0 (L .ends) (length (L .inc))
-
-      after5 : Answer
-      after5 = on (not full) (plain 6)
-
-      after4 : Answer
-      after4 = on over (plain 5) orElse after5
-
-      after3 : Answer
-      after3 = on (not two) (plain 4) orElse after4
-
-      after2 : Answer
-      after2 = on (ltb (m .elements) e) (plain 3) orElse after3
-
-      after1 : Answer
-      after1 = on (ltb (m .ranks) n) (plain 2) orElse after2
+      shape-or (eqb (length (L .counts)) 0) 1 _ (omega arith) (omega arith)
+      (shape-or (ltb (m .ranks) (length (L .counts))) 2 _ (omega arith) (omega arith)
+      (shape-or (ltb (m .elements) (elements L)) 3 _ (omega arith) (omega arith)
+      (shape-or (not (eqb (length (L .ends)) (2 * elements L))) 4 _ (omega arith) (omega arith)
+      (shape-or (ltb (m .incidences) (length (L .inc))) 5 _ (omega arith) (omega arith)
+      (tells-on Q (not (fills 0 (L .ends) (length (L .inc)))) (plain 6) (λ e. g 6 (omega arith) (omega arith)))))))
 
 third-in : {x : ℕ} {l : List ℕ} → FirstThird x l → In x l
 unfolding In

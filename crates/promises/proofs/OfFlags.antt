@@ -45,7 +45,8 @@ refused-flag : (m : Limits) (L : Listing) (f : List ℕ) (r : ℕ) → changedOf
 unfolding changedOf
 refused-flag m L f r = none (changeTest m L f r .no)
   where
-    none : (n : ℕ) → n ≢ 0 → ifZero n (padded (changeAt L r f)) (replicate (limits .ranks) 0) ≡ replicate (limits .ranks) 0
+    none : (n : ℕ) → n ≢ 0 → ifZero n (padded (changeAt L r f)) (replicate (limits .ranks) 0)
+        ≡ replicate (limits .ranks) 0
     none zero h = absurd (h refl)
     none (suc n) h = refl
 

@@ -33,7 +33,8 @@ use Rattle.promises.specs.Starred.{answered, tried}
 -- Computing each row of the table gives the answers that stand in it.
 pub starred : map answered tried ≡ tried
 unfolding decLt has occurs choose sum partAt _orElse_ firstIn firstFor firstOf before entries fills shapeTest gather
-    derived joined tabulated listAt nth written boundedTest entryTest alongTest listTest elementTest incidencesTest climbs
+    derived joined tabulated listAt nth written boundedTest entryTest alongTest listTest elementTest incidencesTest
+    climbs
     elementAscent ascentTest subsOfAll thirdTest seenAfter loneTest sectionsTest dyadicTest isValid closed trimSize
     trimUnder block offset position pairOf pairAt leftSubs rightSubs upTo minSize minUnder maxSize maxUnder
     layerProduct productOf nullCase combCase resultOf shortTest sizeTest factorsTest restTest productTest every flagAt

@@ -9,16 +9,12 @@
 -- ThreeOf        three different numbers have a property
 -- OneOf          exactly one number has a property
 -- BetweenNamed   17 and 18 said of elements: three different ones lie between, or exactly one does
--- Names          a test whose refusals are Named
--- CarryNothing   a product, whose refusals carry nothing
--- RefusalsNamed  all of it, for the five tests, and for the changes, searches and products
 use mathlib.Core.Path.{_≡_}
 use mathlib.Core.Logic.{_≢_}
 use mathlib.Core.List.{List, [], _∷_, _++_}
 use Prim.Native.Nat.{ℕ, _+_, _-_, _≤_, _<_}
 use Rattle.order.specs.Lists.{Earlier, In, Ascending, occurs}
 use Rattle.listing.specs.declared.Answer.{Answer}
-use Rattle.listing.specs.declared.Built.{Built}
 use Rattle.listing.specs.Refusals.{noRanks, fallingEnds, notBounded, noSubs, noSups, subNotBack, supNotBack}
 use Rattle.listing.specs.Refusals.{subMissing, supMissing, thirdBetween, loneBetween, notAscending, notAFlag, moreFlags}
 use Rattle.listing.specs.Answers.{plain, refusal}
@@ -27,19 +23,6 @@ use Rattle.valid_incidence.specs.Incidence.{SubBack, SupBack, LowerAt, Incident
 use Rattle.valid_diamond.specs.Dyadic.{walk, LiesBetween, Distinct, MetTwiceAt}
 use Rattle.valid.specs.Bounds.{Bounded}
 use Rattle.valid.specs.Ascent.{AscendsAt}
-use Rattle.listing.proofs.shape.Reads as shape
-use Rattle.valid.proofs.bounded.Reads as bounded
-use Rattle.valid.proofs.check_incidences.Reads as check-incidences
-use Rattle.valid.proofs.is_dyadic.Reads as is-dyadic
-use Rattle.valid.proofs.is_valid.Reads as is-valid
-use Rattle.valid.proofs.closed.Reads as closed
-use Rattle.flag.proofs.change.Reads as change
-use Rattle.search.proofs.search.Reads as search
-use Rattle.product.proofs.duopyramid.Reads as duopyramid
-use Rattle.product.proofs.duoprism.Reads as duoprism
-use Rattle.product.proofs.duotegum.Reads as duotegum
-use Rattle.product.proofs.duocomb.Reads as duocomb
-use Rattle.promises.specs.Entries.{Says, SaysOfTwo, Three, lent}
 
 pub record FirstAt (L : Listing) (low : ℕ) (Good : ℕ → ℕ → Type 0) (r i : ℕ) : Type 0 where
   pub exists : i < count L r
@@ -111,46 +94,3 @@ pub record OneOf (P : ℕ → Type 0) : Type 0 where
 pub record BetweenNamed (L : Listing) (a : Answer) : Type 0 where
   pub three : a .no ≡ thirdBetween → ThreeOf (LiesBetween L (a .c) (a .d) (a .b))
   pub single : a .no ≡ loneBetween → OneOf (LiesBetween L (a .c) (a .d) (a .b))
-
-module _ {K A X : Type 0} where
-  abbrev pub Names : (K → Three A → Answer → X → Type 0) → (Listing → ℕ) → Type 0
-  Names P h = Says P (λ a r x. r .no ≢ 0 → Named (h (lent a)) (lent a) r)
-
-  abbrev pub CarryNothing : (K → A → Built → X → Type 0) → Type 0
-  CarryNothing P = Says P (λ a r x. r .answer ≡ plain (r .answer .no))
-
-pub record RefusalsNamed : Type 0 where
-  -- the shape test: what it refuses with carries nothing
-  pub shape-names : Names shape.Post (λ L. 0)
-  -- bounded: what it refuses with is true of the listing
-  pub bounded-names : Names bounded.Post (λ L. 0)
-  -- so with check_incidences
-  pub incidences-name : Names check-incidences.Post (λ L. 0)
-  -- so with is_dyadic, which asks for the diamond below the top
-  pub dyadic-names : Names is-dyadic.Post (λ L. rank L - 1)
-  -- so with is_valid, which does too
-  pub valid-names : Names is-valid.Post (λ L. rank L - 1)
-  -- so with closed, which asks for it up to the top
-  pub closed-names : Names closed.Post (λ L. rank L)
-  -- where no list holds an index twice, occurrences are elements: 17 and 18 of is_dyadic
-  pub dyadic-between : Says is-dyadic.Post (λ a r x. Distinct (lent a) → BetweenNamed (lent a) r)
-  -- and of is_valid
-  pub valid-between : Says is-valid.Post (λ a r x. Distinct (lent a) → BetweenNamed (lent a) r)
-  -- and of closed, which has then seen to that
-  pub closed-between : Says closed.Post (λ a r x. BetweenNamed (lent a) r)
-  -- a change answers the refusal of closed, with its fields
-  pub change-as-closed : SaysOfTwo closed.Post change.Post
-      (λ a r x c s y. lent c ≡ lent a → r .no ≢ 0 → s .answer ≡ r)
-  -- so does a search
-  pub search-as-closed : SaysOfTwo closed.Post search.Post
-      (λ a r x c s y. lent c ≡ lent a → r .no ≢ 0 → s .answer ≡ r)
-  -- whatever a change refuses with is true of the listing; the numbers of its own carry nothing
-  pub change-names : Says change.Post (λ a r x. r .answer .no ≢ 0 → Named (rank (lent a)) (lent a) (r .answer))
-  -- so with a search
-  pub search-names : Says search.Post (λ a r x. r .answer .no ≢ 0 → Named (rank (lent a)) (lent a) (r .answer))
-  -- the refusals of the duopyramid carry nothing
-  pub duopyramid-plain : CarryNothing duopyramid.Post
-  -- nor do those of the duoprism, the duotegum and the duocomb
-  pub duoprism-plain : CarryNothing duoprism.Post
-  pub duotegum-plain : CarryNothing duotegum.Post
-  pub duocomb-plain : CarryNothing duocomb.Post

@@ -1,6 +1,6 @@
--- What is promised of flags: their changes, orientations, the search and the events of a finished search. The events are
--- said of `Stepped` and `SaidStep`, of which the contracts of next_event and fd_next_event consist: these two are lent a
--- record, a form of which the prover makes no reading (proofs/Cursor.antt ties them to the contracts).
+-- What is promised of flags: their changes, orientations, the search and the events of a finished search. The events
+-- are said of `Stepped` and `SaidStep`, of which the contracts of next_event and fd_next_event consist: these two are
+-- lent a record, a form of which the prover makes no reading (proofs/Cursor.antt ties them to the contracts).
 --
 -- SignAt        x is the sign that goes with the byte b: 1.0 with 0, -1.0 with 1
 -- ByteFor       c is the byte of the orientation that a byte b stands for: 0 for 0, 1 for any other

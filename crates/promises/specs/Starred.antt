@@ -142,7 +142,8 @@ tried =
     -- 17 again: four vertices under the top
     combined true true dyad dyad fine fourOnTop fine (refusal thirdBetween 0 0 2 0) ∷
     -- 17, below the top too
-    combined false false threeOnTop point fine threePyramid (refusal thirdBetween 0 0 2 0) (refusal thirdBetween 0 0 2 0) ∷
+    combined false false threeOnTop point fine threePyramid (refusal thirdBetween 0 0 2 0)
+    (refusal thirdBetween 0 0 2 0) ∷
     -- 17 by occurrences, and 19
     combined false false twiceListed point fine twicePyramid (refusal thirdBetween 1 0 3 1)
     (refusal notAscending 1 0 1 0) ∷

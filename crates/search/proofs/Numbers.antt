@@ -17,7 +17,7 @@ use Rattle.flag_change.proofs.StartBroken.{start-then}
 
 -- the numbers of a row of rules are at most n
 unfoldable Most : ℕ → List Rule → Type 0
-Most n [] = Unit {0}
+Most n [] = 0 ≤ n
 Most n (w ∷ l) = (w .high ≤ n) × Most n l
 
 broken-most : (n k : ℕ) (l : List Rule) → Most n l → FirstBroken l k → k ≤ n
@@ -28,37 +28,7 @@ broken-most n k (w ∷ l) h (inr b) = broken-most n k l (h .1) (b .1)
 
 rules-most : (m : Limits) (L : Listing) (f : List ℕ) → Most notAFlag (closedRules m L ++ flagRule L f ∷ [])
 unfolding Most
-rules-most m L f = (
-  omega arith,
-  (
-    omega arith,
-    (
-      omega arith,
-      (
-        omega arith,
-        (
-          omega arith,
-          (
-            omega arith,
-            (
-              omega arith,
-              (
-                omega arith,
-                (
-                  omega arith,
-                  (
-                    omega arith,
-                    (omega arith, tt),
-                  ),
-                ),
-              ),
-            ),
-          ),
-        ),
-      ),
-    ),
-  ),
-)
+rules-most m L f = omega arith
 
 -- The number of a refusal before a search is at most 20.
 pub start-most : (m : Limits) (L : Listing) (f : List ℕ) → startTest m L f .no ≤ notAFlag

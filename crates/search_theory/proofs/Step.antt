@@ -74,17 +74,11 @@ module _ {A : Type 0} (same : A → A → Bool) (room : ℕ) where
         go : (t : Bool) → s .overflow ≡ t → (u : Bool) → ltb (indexIn same (s .found) y) (length (s .found)) ≡ u
             → (v : Bool) → ltb (length (s .found)) room ≡ v → P (meet same room b s y)
         go true o u i v r = rw (meet-stop o) (stop o)
-        go false o true i v r =
-            let l = ltb-true _ _ i in
-            rw (meet-again o l) (known o l)
+        go false o true i v r = let l = ltb-true _ _ i in rw (meet-again o l) (known o l)
         go false o false i true r =
-            let l = ltb-false _ _ i in
-            let m = ltb-true _ _ r in
-            rw (meet-new o l m) (new o l m)
+            let l = ltb-false _ _ i in let m = ltb-true _ _ r in rw (meet-new o l m) (new o l m)
         go false o false i false r =
-            let l = ltb-false _ _ i in
-            let m = ltb-false _ _ r in
-            rw (meet-full o l m) (none o l m)
+            let l = ltb-false _ _ i in let m = ltb-false _ _ r in rw (meet-full o l m) (none o l m)
 
   -- ---- things are met, in order
 

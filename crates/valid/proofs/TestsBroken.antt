@@ -72,7 +72,8 @@ module _ (m : Limits) (L : Listing) where
   unfolding closed
   closed-then l y r =
       rw (← or-assoc (shapeTest m L) _ y)
-      (shape-broken m L _ _ (λ S. broken-inner _ (bounded-tested L) _ y (λ B. broken-inner _ (incident-tested L) _ y (λ I.
+      (shape-broken m L _ _ (λ S. broken-inner _ (bounded-tested L) _ y (λ B.
+      broken-inner _ (incident-tested L) _ y (λ I.
       broken-inner _ (ascent-tested L) _ y (λ A. broken-step l (diamond-tested L I A) y (λ D. r (record {
         shaped = S;
         bounded = B;

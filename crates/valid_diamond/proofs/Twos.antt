@@ -70,6 +70,7 @@ of-two (a ∷ b ∷ c ∷ l) h y m o =
     go (inr (inl e)) = once-head a (b ∷ c ∷ l) h (inr (inl e))
     go (inr (inr e)) = once-head b (c ∷ l) (once-tail a (b ∷ c ∷ l) h) (inl e)
 
--- A list that holds each number once has length two exactly if beside one of its numbers exactly one other stands in it.
+-- A list that holds each number once has length two exactly if beside one of its numbers exactly one other stands
+-- in it.
 pub two-exact : (l : List ℕ) → Once l → (y : ℕ) → In y l → length l ≡ 2 ↔ OneOther (λ x. In x l) y
 two-exact l h y m = (λ e. two-of l h e y m, of-two l h y m)
