@@ -1,7 +1,7 @@
 -- What is promised of the functions for C: what the contract of an fd_ function admits, that of its entry admits too,
--- for the same arguments, so that all that is promised of the entry holds of it. Three of them cross as numbers: the class,
--- the sign, the next event. The last is said of `SaidStep` and `Stepped`, of which the two contracts consist: they are
--- lent a record, a form of which the prover makes no reading (proofs/Cursor.antt).
+-- for the same arguments, so that all that is promised of the entry holds of it. Three of them cross as numbers: the
+-- class, the sign, the next event. The last is said of `SaidStep` and `Stepped`, of which the two contracts consist:
+-- they are lent a record, a form of which the prover makes no reading (proofs/Cursor.antt).
 --
 -- BoundaryTaken   any slices and numbers are taken
 -- Boundary        each fd_ function answers and writes as its entry does
