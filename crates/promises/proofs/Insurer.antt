@@ -17,21 +17,21 @@ use Rattle.valid.specs.Tests.{isValid, closed}
 use Rattle.valid.proofs.ClosedExact.{closed-exact, closed-is-valid-and}
 use Rattle.product_closure.specs.Result.{HighEnough}
 use Rattle.product.specs.Outcome.{Outcome}
-use Rattle.promises.specs.Starred.{leakingBox, Row, answered, tried}
-use Rattle.promises.specs.Starred.Row.{tested, combined, refused, changed}
+use Rattle.promises.specs.Starred.{leakingBox, Trial, answered, tried}
+use Rattle.promises.specs.Starred.Trial.{tested, combined, refused, changed}
 use Rattle.promises.proofs.Produced.{outcome-kept}
 use Rattle.promises.proofs.Starred.{starred}
 
 -- ---- (a) What rule let the cell through?
 
 -- what stands in a row of the table for is_valid and for closed
-abbrev validIn : Row → Answer
+abbrev validIn : Trial → Answer
 validIn (tested L v c) = v
 validIn (combined min max A B a R v c) = v
 validIn (refused min max A B a) = a
 validIn (changed L f r c) = c .answer
 
-abbrev closedIn : Row → Answer
+abbrev closedIn : Trial → Answer
 closedIn (tested L v c) = c
 closedIn (combined min max A B a R v c) = c
 closedIn (refused min max A B a) = a

@@ -8,7 +8,7 @@
 -- twiceListed   an edge whose only vertex stands twice among its subs
 -- twicePyramid  the duopyramid of that with a point
 -- leakingBox    the insurer's cell: a box whose edge 0 is doubled as edge 12, each of the two in one face
--- Row           a row of the table: what is tried, and what is answered
+-- Trial         a row of the table: what is tried, and what is answered
 -- tested        a listing; what is_valid answers, what closed answers
 -- combined      a product of two listings, with just the room that it takes; what it answers, the listing that it is,
 --               and what the two tests answer of that
@@ -98,13 +98,13 @@ leakingBox =
     4 ∷ 6 ∷ 1 ∷ 4 ∷ 5 ∷ 7 ∷ 1 ∷ 5 ∷ 6 ∷ 7 ∷ 1 ∷ 3 ∷ 0 ∷ 1 ∷ 2 ∷ 0 ∷ 1 ∷ 3 ∷ 5 ∷ 0 ∷ 8 ∷ 9 ∷ 10 ∷ 11 ∷ 0 ∷ 2 ∷
     4 ∷ 8 ∷ 12 ∷ 0 ∷ 5 ∷ 6 ∷ 7 ∷ 11 ∷ 0 ∷ 1 ∷ 2 ∷ 6 ∷ 9 ∷ 0 ∷ 3 ∷ 4 ∷ 7 ∷ 10 ∷ 0 ∷ 0 ∷ 1 ∷ 2 ∷ 3 ∷ 4 ∷ 5 ∷ [])
 
-pub data Row : Type 0 where
-  tested : Listing → Answer → Answer → Row
-  combined : Bool → Bool → Listing → Listing → Answer → Listing → Answer → Answer → Row
-  refused : Bool → Bool → Listing → Listing → Answer → Row
-  changed : Listing → List ℕ → ℕ → Changed → Row
+pub data Trial : Type 0 where
+  tested : Listing → Answer → Answer → Trial
+  combined : Bool → Bool → Listing → Listing → Answer → Listing → Answer → Answer → Trial
+  refused : Bool → Bool → Listing → Listing → Answer → Trial
+  changed : Listing → List ℕ → ℕ → Changed → Trial
 
-unfoldable pub answered : Row → Row
+unfoldable pub answered : Trial → Trial
 answered (tested L v c) = tested L (isValid limits L) (closed limits L)
 answered (combined min max A B a R v c) =
     let P = resultOf min max A B in
@@ -116,7 +116,7 @@ answered (changed L f r c) = changed L f r (changedOf limits L f r)
 abbrev pub to : List ℕ → Changed
 to f = record { answer = fine; flag = padded f }
 
-abbrev pub tried : List Row
+abbrev pub tried : List Trial
 tried =
     tested nullitope fine fine ∷
     tested point fine fine ∷

@@ -27,7 +27,7 @@ use Rattle.search_masks.specs.Masks.{maskFits}
 use Rattle.search_masks.proofs.Ranks.{fits-exact}
 use Rattle.search.specs.declared.Searched.{Searched}
 use Rattle.search_walk.specs.Searched.{foundBy}
-use Rattle.search.specs.SearchedBy.{refusedAs, foundAs, roomOf, searchTest, searchedOf, after, searchedBy}
+use Rattle.search.specs.SearchedBy.{refusedAs, foundAs, roomOf, searchTest, searchedOf, leftAfter, searchedBy}
 use Rattle.search.specs.SearchedBy.{tableAfter, bytesAfter}
 use Rattle.search.specs.Exact.{Searchable}
 use Rattle.search.specs.Promised.{roomIn}
@@ -63,16 +63,16 @@ module _ (a : Answer) (S : State (List ℕ)) where
   answer-some e = rw e
 
 module _ (a : Answer) (new old : List ℕ) where
-  after-none : a .no ≢ 0 → a .no ≢ moreFlags → old ≡ after a new old
-  unfolding after
+  after-none : a .no ≢ 0 → a .no ≢ moreFlags → old ≡ leftAfter a new old
+  unfolding leftAfter
   after-none h k = rw (ne-eqb (a .no) 0 h, ne-eqb (a .no) moreFlags k)
 
-  after-fine : a .no ≡ 0 → over new old ≡ after a new old
-  unfolding after
+  after-fine : a .no ≡ 0 → over new old ≡ leftAfter a new old
+  unfolding leftAfter
   after-fine e = rw (eq-eqb (a .no) 0 e)
 
-  after-full : a .no ≡ moreFlags → over new old ≡ after a new old
-  unfolding after
+  after-full : a .no ≡ moreFlags → over new old ≡ leftAfter a new old
+  unfolding leftAfter
   after-full e = rw (ne-eqb (a .no) 0 (λ z. omega arith), eq-eqb (a .no) moreFlags e)
 
 -- ---- nothing is written

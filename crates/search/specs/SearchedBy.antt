@@ -6,7 +6,7 @@
 -- searchTest    the refusals in their order: those of the closed test, 20, 21, and 22 exactly if there are more than
 --               room
 -- searchedOf    the answer: how many flags, how many came before the cell showed itself not orientable, whether it is
--- after         what a lent slice holds afterwards: on success and at 22 what was found, written over its beginning
+-- leftAfter     what a lent slice holds afterwards: on success and at 22 what was found, written over its beginning
 -- searchedBy    what a search answers, with a table and bytes lent to it
 -- tableAfter    what the table holds afterwards
 -- bytesAfter    what the bytes are afterwards
@@ -45,8 +45,8 @@ searchTest m L first mask room =
 unfoldable pub searchedOf : Answer → State (List ℕ) → Searched
 searchedOf a s = ifZero (a .no) (foundAs a (length (s .found)) (s .place)) (refusedAs a)
 
-unfoldable pub after : Answer → List ℕ → List ℕ → List ℕ
-after a new old = cond (eqb (a .no) 0 || eqb (a .no) moreFlags) (over new old) old
+unfoldable pub leftAfter : Answer → List ℕ → List ℕ → List ℕ
+leftAfter a new old = cond (eqb (a .no) 0 || eqb (a .no) moreFlags) (over new old) old
 
 unfoldable pub searchedBy : Limits → Listing → List ℕ → ℕ → List ℕ → List ℕ → Searched
 unfolding roomOf searchTest searchedOf
@@ -55,13 +55,13 @@ searchedBy m L first mask table bytes =
     searchedOf (searchTest m L first mask room) (foundBy L first mask room)
 
 unfoldable pub tableAfter : Limits → Listing → List ℕ → ℕ → List ℕ → List ℕ → List ℕ
-unfolding roomOf searchTest after
+unfolding roomOf searchTest leftAfter
 tableAfter m L first mask table bytes =
     let room = roomOf m L (length table) (length bytes) in
-    after (searchTest m L first mask room) (flatten (foundBy L first mask room .found)) table
+    leftAfter (searchTest m L first mask room) (flatten (foundBy L first mask room .found)) table
 
 unfoldable pub bytesAfter : Limits → Listing → List ℕ → ℕ → List ℕ → List ℕ → List ℕ
-unfolding roomOf searchTest after
+unfolding roomOf searchTest leftAfter
 bytesAfter m L first mask table bytes =
     let room = roomOf m L (length table) (length bytes) in
-    after (searchTest m L first mask room) (foundBy L first mask room .bytes) bytes
+    leftAfter (searchTest m L first mask room) (foundBy L first mask room .bytes) bytes

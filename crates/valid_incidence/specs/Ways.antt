@@ -3,7 +3,7 @@
 --
 -- down        the way from rank r to the rank below
 -- up          the way from rank r to the rank above
--- Fits        the elements of a way are there
+-- WayFits     the elements of a way are there
 -- back        the list of element x of a way that leads back
 -- entryTest   one entry x of a list of element i of rank r: x is an element of the way, and its list back holds i
 -- alongTest   the first refusal along a list, its entries in order
@@ -42,7 +42,7 @@ up L r = record {
   oneway = supNotBack;
 }
 
-pub record Fits (ends : List ℕ) (w : Way) : Type 0 where
+pub record WayFits (ends : List ℕ) (w : Way) : Type 0 where
   pub places : 2 * (w .place + w .size) ≤ length ends
   pub sides : w .side < 2
 

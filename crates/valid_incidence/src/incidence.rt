@@ -13,7 +13,7 @@ ghost use Rattle.listing.specs.Answers.{firstOf};
 ghost use Rattle.listing.specs.Listing.{width, listing, held, limits, before, Ends};
 ghost use Rattle.listing.specs.Shape.{Shaped};
 ghost use Rattle.valid_incidence.specs.Incidence.{elementTest, incidencesTest};
-ghost use Rattle.valid_incidence.specs.Ways.{down, up, Fits, entryTest, alongTest, listTest};
+ghost use Rattle.valid_incidence.specs.Ways.{down, up, WayFits, entryTest, alongTest, listTest};
 
 // Where the entries of a list lead.
 pub struct Way {
@@ -35,7 +35,7 @@ pub struct Way {
 // One entry x of a list of an element.
 fn check_entry(ends: &[Index], inc: &[Index], way: Way, of: Element, x: Index) -> Answer
     requires { ⌜ Ends (now ends) (now inc) ⌝ }
-    requires { ⌜ Fits (now ends) way ⌝ }
+    requires { ⌜ WayFits (now ends) way ⌝ }
     ensures { λ a. ⌜ a ≡ entryTest (now (ends .entry)) (now (inc .entry)) way (of .rank) (of .index) x ⌝ }
 {
     if x < way.size {
@@ -64,7 +64,7 @@ fn check_entry(ends: &[Index], inc: &[Index], way: Way, of: Element, x: Index) -
 // The entries of a list in their order.
 fn check_along(ends: &[Index], inc: &[Index], way: Way, of: Element, list: &[Index]) -> Answer
     requires { ⌜ Ends (now ends) (now inc) ⌝ }
-    requires { ⌜ Fits (now ends) way ⌝ }
+    requires { ⌜ WayFits (now ends) way ⌝ }
     ensures { λ a. ⌜ a ≡ alongTest (now (ends .entry)) (now (inc .entry)) way (of .rank) (of .index)
         (now (list .entry)) ⌝ }
 {
@@ -82,7 +82,7 @@ fn check_along(ends: &[Index], inc: &[Index], way: Way, of: Element, list: &[Ind
 // A list: whether it may hold nothing, and then its entries.
 fn check_list(ends: &[Index], inc: &[Index], way: Way, of: Element, list: &[Index]) -> Answer
     requires { ⌜ Ends (now ends) (now inc) ⌝ }
-    requires { ⌜ Fits (now ends) way ⌝ }
+    requires { ⌜ WayFits (now ends) way ⌝ }
     requires { ⌜ 0 < way .none ⌝ }
     ensures { λ a. ⌜ a ≡ listTest (now (ends .entry)) (now (inc .entry)) way (of .rank) (of .index)
         (now (list .entry)) ⌝ }
