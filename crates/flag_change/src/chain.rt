@@ -4,7 +4,6 @@ use listing::Answer;
 use listing::Index;
 use listing::inner;
 use listing::limit;
-use listing::membership;
 use listing::refusal;
 ghost use mathlib.Core.Path.{_≡_};
 ghost use Prim.Native.Nat.{_+_, _-_, _≤_, _<_};
@@ -39,7 +38,7 @@ fn stands_at(
     if r == 0 {
         return true;
     }
-    membership::contains(inner::side_of(ends, inc, here, x, 0), flag[r - 1])
+    listing_membership::contains(inner::side_of(ends, inc, here, x, 0), flag[r - 1])
 }
 
 // Whether the numbers are a flag: one existing index per rank, each a sub of the next.
@@ -88,7 +87,7 @@ fn other_among(short: &[Index], long: &[Index], e: u16) -> u16
         let x = short[i];
         if x == e {
             i += 1;
-        } else if membership::ascending_contains(long, x) {
+        } else if listing_membership::ascending_contains(long, x) {
             return x;
         } else {
             i += 1;

@@ -11,7 +11,7 @@ use search_events::Said;
 ghost use mathlib.Core.Path.{_≡_};
 ghost use mathlib.Core.Bool.{true, false};
 ghost use Rattle.listing.specs.Refusals.{band, bandNo};
-ghost use Rattle.listing.specs.Counts.{rankOf, elCountOf, vertexCountOf, facetCountOf};
+ghost use Rattle.listing_shape.specs.Counts.{rankOf, elCountOf, vertexCountOf, facetCountOf};
 ghost use Rattle.listing.specs.Listing.{held, limits};
 ghost use Rattle.valid.specs.Tests as tests;
 ghost use Rattle.product.specs.Outcome.{Outcome};
@@ -24,28 +24,28 @@ ghost use Rattle.search.specs.SearchedBy.{searchedBy, tableAfter, bytesAfter};
 pub extern "C" fn fd_rank(counts: &[Index]) -> Number
     ensures { λ r. ⌜ r ≡ rankOf (now (counts .entry)) ⌝ }
 {
-    listing::rank(counts)
+    listing_shape::rank(counts)
 }
 
 #[no_mangle]
 pub extern "C" fn fd_el_count(counts: &[Index], rank: usize) -> Number
     ensures { λ r. ⌜ r ≡ elCountOf (now (counts .entry)) rank ⌝ }
 {
-    listing::el_count(counts, rank)
+    listing_shape::el_count(counts, rank)
 }
 
 #[no_mangle]
 pub extern "C" fn fd_vertex_count(counts: &[Index]) -> Number
     ensures { λ r. ⌜ r ≡ vertexCountOf (now (counts .entry)) ⌝ }
 {
-    listing::vertex_count(counts)
+    listing_shape::vertex_count(counts)
 }
 
 #[no_mangle]
 pub extern "C" fn fd_facet_count(counts: &[Index]) -> Number
     ensures { λ r. ⌜ r ≡ facetCountOf (now (counts .entry)) ⌝ }
 {
-    listing::facet_count(counts)
+    listing_shape::facet_count(counts)
 }
 
 // The class of a refusal's number: 0 nothing, 1 shape, 2 structure, 3 flags, 4 products.
@@ -53,7 +53,7 @@ pub extern "C" fn fd_facet_count(counts: &[Index]) -> Number
 pub extern "C" fn fd_class(no: u16) -> u16
     ensures { λ r. ⌜ r ≡ bandNo (band no) ⌝ }
 {
-    listing::band_number(listing::class(no))
+    listing_shape::band_number(listing_shape::class(no))
 }
 
 #[no_mangle]

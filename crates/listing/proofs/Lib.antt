@@ -1,6 +1,4 @@
 pub mod Answers
-pub mod Bands
-pub mod Counts
 pub mod Listing
 pub mod Elements
 pub mod Places
@@ -12,5 +10,4 @@ pub mod Broken
 pub mod Among
 pub mod ShapeBroken
 pub mod Clear
-pub mod Output
 pub mod Laying

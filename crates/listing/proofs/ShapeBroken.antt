@@ -1,10 +1,8 @@
--- The counts and the shape test answer the number of the first rule that is broken; and so does what comes after the
--- shape test.
+-- The shape test answers the number of the first rule that is broken; and so does what comes after it.
 -- Assumes nothing.
 use mathlib.Core.Path.{_≡_, refl, sym}
-use mathlib.Core.Logic.{inl, inr}
 use mathlib.Core.Bool.{not}
-use mathlib.Core.List.{List, [], _∷_, _++_}
+use mathlib.Core.List.{List, [], _++_}
 use Prim.Native.Nat.{ℕ, zero, suc, _*_, _<_}
 use native.Mathlib.Omega.{arith}
 use borrow.Author.Tests.{eq-eqb, ne-eqb, eqb-true, eqb-false}
@@ -13,20 +11,10 @@ use lib.ListN.{length}
 use Rattle.listing.specs.declared.Answer.{Answer}
 use Rattle.listing.specs.Answers.{plain, fine, on, ifZero, _orElse_}
 use Rattle.listing.specs.Listing.{Listing, Limits}
-use Rattle.listing.specs.Counts.{counted}
 use Rattle.listing.specs.Shape.{fills, elements, shapeTest, Shaped}
-use Rattle.listing.specs.Rules.{Rule, FirstBroken, Filled, countRules, shapeRules}
+use Rattle.listing.specs.Rules.{Rule, FirstBroken, Filled, shapeRules}
 use Rattle.listing.proofs.ShapeExact.{fills-exact}
 use Rattle.listing.proofs.Broken.{Tests, broken-step, broken-inner, tests-on, tests-not, tests-over}
-
--- ---- the counts
-
-pub counted-broken : (counts : List ℕ) (n : ℕ) → FirstBroken (countRules counts) (counted counts n .no)
-unfolding counted FirstBroken
-counted-broken [] n = inl (λ h. omega arith, omega arith, omega arith)
-counted-broken (c ∷ counts) n = inr (omega arith, rw (ne-eqb (length (c ∷ counts)) 0 (λ e. omega arith)))
-
--- ---- the shape
 
 -- nothing after a test
 pub or-nothing : (x : Answer) → (x orElse fine) .no ≡ x .no

@@ -2,10 +2,8 @@ pub mod Refusals
 pub mod Answers
 pub mod Listing
 pub mod Shape
-pub mod Counts
 pub mod Layers
 pub mod Written
 pub mod Laid
 pub mod Cells
-pub mod Output
 pub mod Rules

@@ -5,7 +5,6 @@
 -- FirstBroken    n says which rule of a row is the first that is broken: it is one of that rule's numbers, and 0 if
 --                none is
 -- Filled         the ends do not fall and come to inc's length
--- countRules     1, of a count
 -- shapeRules     1 to 6, of the shape test
 use mathlib.Core.Path.{_≡_}
 use mathlib.Core.Logic.{_⊎_}
@@ -34,9 +33,6 @@ FirstBroken (w ∷ l) n = ((¬ w .holds) × (w .low ≤ n) × (n ≤ w .high)) �
 pub record Filled (L : Listing) : Type 0 where
   pub rising : (k : ℕ) → k < length (L .ends) → start (L .ends) k ≤ getD (L .ends) k 0
   pub full : start (L .ends) (length (L .ends)) ≡ length (L .inc)
-
-abbrev pub countRules : List ℕ → List Rule
-countRules counts = rule noRanks (0 < length counts) ∷ []
 
 module _ (m : Limits) (L : Listing) where
   abbrev pub shapeRules : List Rule

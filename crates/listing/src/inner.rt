@@ -1,5 +1,5 @@
-// What the shape test is made of, and what the crates above call once a listing is known to be shaped. Some of these
-// functions ask something of their caller; the entries, in lib.rt, ask nothing.
+// How the crates above read a listing. Some of these functions ask something of their caller, as that the listing is
+// shaped; the entries ask nothing.
 use crate::Answer;
 use crate::Index;
 ghost use mathlib.Core.Path.{_≡_};
@@ -7,7 +7,6 @@ ghost use Prim.Native.Nat.{_+_, _*_, _≤_, _<_};
 ghost use lib.ListN.{length, getD};
 ghost use Rattle.listing.specs.Answers.{refusal};
 ghost use Rattle.listing.specs.Listing.{width, before, start, entries, Ends};
-ghost use Rattle.listing.specs.Shape.{fills as fillsTo};
 
 // An index as a place in a slice.
 pub fn wide(x: Index) -> usize
@@ -48,23 +47,6 @@ pub fn elements_before(counts: &[Index], r: usize) -> usize
         q += 1;
     }
     n
-}
-
-// Whether the ends do not fall, and come to n.
-pub fn fills(ends: &[Index], n: usize) -> bool
-    ensures { λ r. ⌜ r ≡ fillsTo 0 (now (ends .entry)) n ⌝ }
-{
-    let mut from: Index = 0;
-    let mut k: usize = 0;
-    while k < ends.len() {
-        let x = ends[k];
-        if x < from {
-            return false;
-        }
-        from = x;
-        k += 1;
-    }
-    wide(from) == n
 }
 
 // Where the kth list begins.

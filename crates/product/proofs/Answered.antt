@@ -8,9 +8,9 @@ use Rattle.listing.specs.declared.Built.{Built}
 use Rattle.listing.specs.Listing.{Listing, limits, rank}
 use Rattle.listing.specs.Shape.{Shaped}
 use Rattle.listing.specs.Layers.{layers}
-use Rattle.listing.specs.Output.{prefix}
+use Rattle.listing_outputs.specs.Output.{prefix}
 use Rattle.listing.proofs.Answers.{no-of}
-use Rattle.listing.proofs.Output.{made-answer, made-prefix}
+use Rattle.listing_outputs.proofs.Output.{made-answer, made-prefix}
 use Rattle.valid.specs.Tests.{isValid}
 use Rattle.valid.specs.Closed.{Closed}
 use Rattle.product_pairs.specs.Sound.{Sound}

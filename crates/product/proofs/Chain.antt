@@ -11,16 +11,17 @@ use Rattle.listing.specs.Refusals.{combOfPoint}
 use Rattle.listing.specs.Answers.{plain, _orElse_}
 use Rattle.listing.specs.Listing.{Listing, Limits, limits}
 use Rattle.listing.specs.Cells.{nullitope}
-use Rattle.listing.specs.Output.{Made}
+use Rattle.listing_outputs.specs.Output.{Made}
 use Rattle.listing.proofs.Answers.{or-fine, or-stop, or-no, on-or-no}
 use Rattle.valid.specs.Tests.{isValid}
 use Rattle.product_pairs.specs.Product.{productOf}
 use Rattle.product_closure.specs.Result.{nullCase, combCase, resultOf}
 use Rattle.product_closure.proofs.Results.{result-product, result-null}
 use Rattle.product_sizes.specs.Sizing.{sizeTest}
-use Rattle.product.specs.Outcome.{factorsTest, restTest, productTest, Outcome}
+use Rattle.product_factors.specs.Factors.{factorsTest}
+use Rattle.product.specs.Outcome.{restTest, productTest, Outcome}
 use Rattle.product_sizes.proofs.Tested.{Passed, sizes-passed}
-use Rattle.product.proofs.Tests.{factors-valid}
+use Rattle.product_factors.proofs.Factors.{factors-valid}
 
 -- ---- which test decides
 

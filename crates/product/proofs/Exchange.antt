@@ -10,14 +10,14 @@ use Rattle.listing.specs.declared.Built.{Built}
 use Rattle.listing.specs.Answers.{plain, on, _orElse_}
 use Rattle.listing.specs.Refusals.{combOfPoint}
 use Rattle.listing.specs.Listing.{Listing, Limits, limits}
-use Rattle.listing.specs.Output.{shortTest, builtOf}
+use Rattle.listing_outputs.specs.Output.{shortTest, builtOf}
 use Rattle.valid.specs.Tests.{isValid}
 use Rattle.product_closure.specs.Result.{combCase, resultOf}
 use Rattle.product_closure.proofs.Valid.{valid-sound}
 use Rattle.product_closure.proofs.Exchanged.{SameSizes, comb-exchanged, result-exchanged}
 use Rattle.product_sizes.specs.Sizing.{sizeTest}
 use Rattle.product.specs.Outcome.{restTest, productTest, Outcome}
-use Rattle.product.proofs.Tests.{factors-fine}
+use Rattle.product_factors.proofs.Factors.{factors-fine}
 use Rattle.product.proofs.Chain.{rest-decides}
 
 -- ---- listings of the same sizes

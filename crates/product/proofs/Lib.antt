@@ -1,4 +1,3 @@
-pub mod Tests
 pub mod Made
 pub mod Chain
 pub mod Answered

@@ -10,8 +10,8 @@ use Rattle.order.specs.Sums.{sum}
 use Rattle.listing.specs.declared.Answer.{Answer}
 use Rattle.listing.specs.Listing.{Listing, before}
 use Rattle.listing.specs.Cells.{nullitope}
-use Rattle.listing.specs.Output.{builtOf}
-use Rattle.listing.proofs.Output.{built-full}
+use Rattle.listing_outputs.specs.Output.{builtOf}
+use Rattle.listing_outputs.proofs.Output.{built-full}
 use Rattle.product_sizes.specs.declared.sizes.Totals.{Totals}
 use Rattle.product_sizes.specs.Sizing.{Measures}
 

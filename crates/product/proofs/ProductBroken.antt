@@ -3,29 +3,26 @@
 use mathlib.Core.Bool.{Bool}
 use Prim.Native.Nat.{ℕ}
 use native.Mathlib.Omega.{arith}
-use borrow.Author.Tests.{eq-eqb, eqb-true}
-use lib.Dec.{eqb}
 use lib.ListN.{length}
 use Rattle.listing.specs.Listing.{Listing, Limits}
 use Rattle.listing.specs.Shape.{elements}
 use Rattle.listing.specs.Rules.{FirstBroken}
-use Rattle.listing.proofs.Broken.{broken-last, broken-step, broken-inner, tests-on, tests-not, tests-over}
-use Rattle.listing.proofs.Output.{room-tested}
-use Rattle.valid.specs.Tests.{isValid}
+use Rattle.listing.proofs.Broken.{broken-last, broken-step, tests-on, tests-over}
+use Rattle.listing_outputs.proofs.Output.{room-tested}
+use Rattle.product_factors.proofs.Factors.{factors-broken}
 use Rattle.product_closure.specs.Result.{combCase, resultOf}
 use Rattle.product_sizes.specs.Sizing.{sizeTest}
-use Rattle.product.specs.Outcome.{factorsTest, restTest, productTest}
+use Rattle.product.specs.Outcome.{restTest, productTest}
 use Rattle.product.specs.Rules.{productRules}
 
 module _ (m : Limits) (min max : Bool) (A B : Listing) (c e i : ℕ) where
   pub product-broken : FirstBroken (productRules m min max A B c e i) (productTest m min max A B c e i .no)
-  unfolding productTest factorsTest restTest sizeTest
+  unfolding productTest restTest sizeTest
   product-broken =
       let R = resultOf min max A B in
-      broken-inner _ (tests-not (eqb (isValid m A .no) 0) 30 (omega arith) (eqb-true _ _) (eq-eqb _ _)) _ _ (λ vA.
-      broken-step _ (tests-not (eqb (isValid m B .no) 0) 31 (omega arith) (eqb-true _ _) (eq-eqb _ _)) _ (λ vB.
+      factors-broken m A B _ _ (λ vA vB.
       broken-step _ (tests-on (combCase min max A B) 32 (omega arith) (λ z. z) (λ z. z)) _ (λ k.
       broken-step _ (tests-over 33 (omega arith) (m .ranks) (length (R .counts))) _ (λ p.
       broken-step _ (tests-over 34 (omega arith) (m .elements) (elements R)) _ (λ q.
       broken-step _ (tests-over 35 (omega arith) (m .incidences) (length (R .inc))) _ (λ r.
-      broken-last (room-tested R c e i)))))))
+      broken-last (room-tested R c e i))))))

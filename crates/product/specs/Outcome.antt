@@ -2,28 +2,21 @@
 -- max, duocomb both. m are the limits, A is the left factor, B the right one. The output slices held `old` and hold
 -- `new`; r is what is answered.
 --
--- factorsTest   30 and 31: is_valid refuses the left factor, the right one
 -- restTest      what is tested of valid factors: 32, and then the sizes
 -- productTest   the refusals in their order, of the factors and then the rest
 -- Outcome       what a product answers and what its three output slices hold afterwards, all at once
-use mathlib.Core.Bool.{Bool, not}
+use mathlib.Core.Bool.{Bool}
 use Prim.Native.Nat.{ℕ}
-use lib.Dec.{eqb}
 use lib.ListN.{length}
 use Rattle.listing.specs.declared.Answer.{Answer}
 use Rattle.listing.specs.declared.Built.{Built}
-use Rattle.listing.specs.Refusals.{leftInvalid, rightInvalid, combOfPoint}
+use Rattle.listing.specs.Refusals.{combOfPoint}
 use Rattle.listing.specs.Answers.{plain, on, _orElse_}
 use Rattle.listing.specs.Listing.{Listing, Limits}
-use Rattle.listing.specs.Output.{Made}
-use Rattle.valid.specs.Tests.{isValid}
+use Rattle.listing_outputs.specs.Output.{Made}
+use Rattle.product_factors.specs.Factors.{factorsTest}
 use Rattle.product_closure.specs.Result.{combCase, resultOf}
 use Rattle.product_sizes.specs.Sizing.{sizeTest}
-
-unfoldable pub factorsTest : Limits → Listing → Listing → Answer
-factorsTest m A B =
-    on (not (eqb (isValid m A .no) 0)) (plain leftInvalid) orElse
-    on (not (eqb (isValid m B .no) 0)) (plain rightInvalid)
 
 unfoldable pub restTest : Limits → Bool → Bool → Listing → Listing → ℕ → ℕ → ℕ → Answer
 restTest m min max A B c e i =

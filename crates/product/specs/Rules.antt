@@ -3,24 +3,22 @@
 -- productRules   a product, told by min and max, whose output slices have the lengths c, e and i
 use mathlib.Core.Path.{_≡_}
 use mathlib.Core.Bool.{Bool, false}
-use mathlib.Core.List.{List, [], _∷_}
+use mathlib.Core.List.{List, [], _∷_, _++_}
 use Prim.Native.Nat.{ℕ, _≤_}
 use lib.ListN.{length}
-use Rattle.listing.specs.Refusals.{leftInvalid, rightInvalid, combOfPoint, productRanks, productElements}
-use Rattle.listing.specs.Refusals.{productIncidences, outputShort}
+use Rattle.listing.specs.Refusals.{combOfPoint, productRanks, productElements, productIncidences, outputShort}
 use Rattle.listing.specs.Listing.{Listing, Limits}
 use Rattle.listing.specs.Shape.{elements}
-use Rattle.listing.specs.Output.{Fits}
+use Rattle.listing_outputs.specs.Output.{Fits}
 use Rattle.listing.specs.Rules.{Rule, rule}
-use Rattle.valid.specs.Tests.{isValid}
+use Rattle.product_factors.specs.Factors.{factorRules}
 use Rattle.product_closure.specs.Result.{combCase, resultOf}
 
 module _ (m : Limits) (min max : Bool) (A B : Listing) (c e i : ℕ) where
   abbrev pub productRules : List Rule
   productRules =
       let R = resultOf min max A B in
-      rule leftInvalid (isValid m A .no ≡ 0) ∷
-      rule rightInvalid (isValid m B .no ≡ 0) ∷
+      factorRules m A B ++
       rule combOfPoint (combCase min max A B ≡ false) ∷
       rule productRanks (length (R .counts) ≤ m .ranks) ∷
       rule productElements (elements R ≤ m .elements) ∷

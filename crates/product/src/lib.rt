@@ -1,5 +1,4 @@
 // The four products of cells.
-mod factors;
 pub mod make;
 
 use listing::Built;

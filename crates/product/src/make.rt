@@ -1,12 +1,10 @@
 // The chain of tests, and then the builder, once over the two flags.
-use crate::factors;
 use listing::Answer;
 use listing::Built;
 use listing::Index;
 use listing::inner;
-use listing::outputs;
-use listing::outputs::Room;
 use listing::refusal;
+use listing_outputs::Room;
 use product_building::build;
 use product_places::Poles;
 use product_sizes::sizes;
@@ -19,7 +17,7 @@ ghost use lib.ListN.{length};
 ghost use Rattle.listing.specs.Listing.{Listing, held, limits, rank};
 ghost use Rattle.valid.specs.Tests.{isValid};
 ghost use Rattle.listing.specs.Cells.{nullitope};
-ghost use Rattle.listing.specs.Output.{builtOf, Made};
+ghost use Rattle.listing_outputs.specs.Output.{builtOf, Made};
 ghost use Rattle.product_pairs.specs.Product.{productOf};
 ghost use Rattle.product_closure.specs.Result.{nullCase, combCase, resultOf};
 ghost use Rattle.product_sizes.specs.Sizing.{sizeTest, Usable, Measures};
@@ -96,7 +94,7 @@ fn put_nullitope(counts: &mut [Index], ends: &mut [Index], inc: &[Index]) -> Bui
     };
     let t = sizes::check_sizes(s, room);
     if t.no != 0 {
-        return outputs::refused(t);
+        return listing_outputs::refused(t);
     }
     counts[0] = 1;
     ends[0] = 0;
@@ -140,7 +138,7 @@ fn product(
     };
     let t = sizes::check_sizes(s, room);
     if t.no != 0 {
-        return outputs::refused(t);
+        return listing_outputs::refused(t);
     }
     let p = sizes::range(poles, pcounts);
     let q = sizes::range(poles, qcounts);
@@ -189,7 +187,7 @@ fn product_of_valid(
         return put_nullitope(&mut *counts, &mut *ends, &*inc);
     }
     if is_comb_of_point(min, max, p, q) {
-        return outputs::refused(inner::plain(refusal::COMB_OF_POINT));
+        return listing_outputs::refused(inner::plain(refusal::COMB_OF_POINT));
     }
     if min {
         return product(
@@ -240,9 +238,9 @@ pub fn make(
         (held (qcounts .entry) (qends .entry) (qinc .entry))
         (held (counts .entry) (ends .entry) (inc .entry)) (held (counts .exit) (ends .exit) (inc .exit)) r ⌝ }
 {
-    let t = factors::check_factors(pcounts, pends, pinc, qcounts, qends, qinc);
+    let t = product_factors::check_factors(pcounts, pends, pinc, qcounts, qends, qinc);
     if t.no != 0 {
-        return outputs::refused(t);
+        return listing_outputs::refused(t);
     }
     product_of_valid(
         min,

@@ -17,7 +17,7 @@ use Rattle.listing_sups.proofs.Over.{list-over, take-over}
 use Rattle.listing_sups.proofs.Whole.{whole-fillable, whole-ends, whole-inc}
 use Rattle.product_places.specs.declared.Poles.{Poles}
 use Rattle.product_places.proofs.Numbers.{bit-le}
-use Rattle.product_writing.specs.Pairs.{target, listsOf, productLists, sizeOf, Plan}
+use Rattle.product_element.specs.Pairs.{target, listsOf, productLists, sizeOf, Plan}
 use Rattle.product_writing.proofs.Target.{target-size, target-topped}
 use Rattle.product_building.specs.Built.{countsOf, productListing}
 use Rattle.product_building.proofs.CountsLaid.{counts-length, target-counts}

@@ -12,7 +12,7 @@ use Rattle.listing.proofs.Written.{tabulated-length, tabulated-at}
 use Rattle.product_pairs.specs.Trimmed.{bit}
 use Rattle.product_pairs.specs.Paired.{paired}
 use Rattle.listing.specs.Listing.{Listing}
-use Rattle.product_writing.specs.Pairs.{factorLayers, target}
+use Rattle.product_element.specs.Pairs.{factorLayers, target}
 use Rattle.listing.specs.Laid.{Laid, LaidList}
 use Rattle.product_places.specs.Places.{pairsIn}
 use Rattle.product_building.specs.Built.{countsOf}

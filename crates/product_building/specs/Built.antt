@@ -11,7 +11,7 @@ use Rattle.listing.specs.Layers.{derived}
 use Rattle.listing.specs.Written.{tabulated, written}
 use Rattle.product_places.specs.declared.Poles.{Poles}
 use Rattle.product_places.specs.Places.{pairsIn}
-use Rattle.product_writing.specs.Pairs.{target}
+use Rattle.product_element.specs.Pairs.{target}
 
 unfoldable pub countsOf : Bool → Bool → List ℕ → List ℕ → List ℕ
 countsOf min max p q =

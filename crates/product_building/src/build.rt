@@ -13,7 +13,7 @@ ghost use Rattle.listing.specs.Listing.{width, limits, held};
 ghost use Rattle.listing.specs.Laid.{Laid, LaidList};
 ghost use Rattle.order.specs.Lists.{over};
 ghost use Rattle.product_places.specs.Places.{pairsIn, pairsTo};
-ghost use Rattle.product_writing.specs.Pairs.{sizeOf, Plan};
+ghost use Rattle.product_element.specs.Pairs.{sizeOf, Plan};
 ghost use Rattle.product_building.specs.Built.{countsOf, productListing};
 
 // Writes the number of pairs of each of n ranks, from place `at` on. Returns the place after the last.

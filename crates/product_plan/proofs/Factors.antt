@@ -13,7 +13,7 @@ use Rattle.product_pairs.specs.Trimmed.{bit, trimSize, trimUnder, trimmed}
 use Rattle.product_closure.proofs.Alike.{Alike}
 use Rattle.product_sizes.specs.Sizing.{Usable, countsInUse}
 use Rattle.product_sizes.proofs.Parts.{in-use-length, in-use-size, in-use-subs}
-use Rattle.product_writing.specs.Pairs.{subsInUse, factorLayers}
+use Rattle.product_element.specs.Pairs.{subsInUse, factorLayers}
 
 abbrev pub factorOf : Bool → Bool → Listing → Listing
 factorOf min max L = listing (countsInUse min max (L .counts)) (L .ends) (L .inc)

@@ -30,7 +30,7 @@ use Rattle.product_pairs.proofs.Grown.{grown-top, grown-size, grown-under, grow
 use Rattle.product_pairs.proofs.PairedLengths.{paired-sups}
 use Rattle.product_pairs.proofs.GrownLengths.{grown-sups, grown-max-sups}
 use Rattle.product_places.specs.Places.{pairsTo, offsetIn, pairNumber, subsOf}
-use Rattle.product_writing.specs.Pairs.{subsInUse, factorLayers, target, listsOf, pairShift, underPair, overPair}
+use Rattle.product_element.specs.Pairs.{subsInUse, factorLayers, target, listsOf, pairShift, underPair, overPair}
 use Rattle.product_writing.proofs.Target.{factor-topped}
 use Rattle.product_plan.proofs.Factors.{factor-derived}
 

@@ -23,7 +23,7 @@ use Rattle.product_pairs.specs.Paired.{block, pairOf, pairAt, leftSubs, rightSu
 use Rattle.product_pairs.specs.Grown.{minSize, minUnder, grown}
 use Rattle.product_pairs.proofs.Sequences.{upTo-in}
 use Rattle.product_pairs.proofs.Grown.{grown-size, grown-max-under}
-use Rattle.product_writing.specs.Pairs.{subsInUse, factorLayers, target}
+use Rattle.product_element.specs.Pairs.{subsInUse, factorLayers, target}
 use Rattle.product_sizes.specs.Sizing.{Usable, countsInUse}
 use Rattle.product_sizes.proofs.Parts.{usable-shaped, usable-bounded, usable-high}
 use Rattle.product_sizes.proofs.Parts.{in-use-length, in-use-at, in-use-before}

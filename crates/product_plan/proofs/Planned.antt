@@ -18,7 +18,7 @@ use Rattle.product_pairs.specs.Product.{productOf}
 use Rattle.product_places.specs.declared.Poles.{Poles}
 use Rattle.listing_sups.specs.Filling.{starts}
 use Rattle.product_plan.proofs.Factors.{factorOf}
-use Rattle.product_writing.specs.Pairs.{target, listsOf, sizeOf, Plan}
+use Rattle.product_element.specs.Pairs.{target, listsOf, sizeOf, Plan}
 use Rattle.product_building.specs.Built.{productListing}
 use Rattle.product_writing.proofs.Target.{target-size, target-topped}
 use Rattle.product_sizes.specs.Sizing.{Usable, countsInUse}

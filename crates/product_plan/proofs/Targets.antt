@@ -21,7 +21,7 @@ use Rattle.product_pairs.proofs.Positions.{pairAt-exists}
 use Rattle.product_pairs.proofs.Product.{product-sound}
 use Rattle.product_closure.proofs.Alike.{Alike, alike-derived, alike-exists}
 use Rattle.product_closure.proofs.Valid.{valid-sound}
-use Rattle.product_writing.specs.Pairs.{factorLayers, target}
+use Rattle.product_element.specs.Pairs.{factorLayers, target}
 use Rattle.product_sizes.specs.Sizing.{Usable}
 use Rattle.product_plan.proofs.Factors.{factorOf, factor-alike}
 

@@ -9,10 +9,10 @@ use Rattle.listing.specs.Refusals.{productRanks, productElements, productIncide
 use Rattle.listing.specs.Answers.{plain, _orElse_}
 use Rattle.listing.specs.Listing.{Listing, Limits}
 use Rattle.listing.specs.Shape.{elements}
-use Rattle.listing.specs.declared.outputs.Room.{Room}
-use Rattle.listing.specs.Output.{shortTest}
+use Rattle.listing_outputs.specs.declared.Room.{Room}
+use Rattle.listing_outputs.specs.Output.{shortTest}
 use Rattle.listing.proofs.Answers.{on-or-no}
-use Rattle.listing.proofs.Output.{room-fits}
+use Rattle.listing_outputs.proofs.Output.{room-fits}
 use Rattle.product_sizes.specs.declared.sizes.Totals.{Totals}
 use Rattle.product_sizes.specs.Sizing.{Measures, totalsTest, sizeTest}
 

@@ -21,8 +21,8 @@ use Rattle.listing.specs.Answers.{plain, on, _orElse_}
 use Rattle.listing.specs.Listing.{Listing, Limits, limits, rank}
 use Rattle.listing.specs.Shape.{elements}
 use Rattle.listing.specs.Layers.{Layers}
-use Rattle.listing.specs.declared.outputs.Room.{Room}
-use Rattle.listing.specs.Output.{shortTest, roomTest}
+use Rattle.listing_outputs.specs.declared.Room.{Room}
+use Rattle.listing_outputs.specs.Output.{shortTest, roomTest}
 use Rattle.valid.specs.Tests.{isValid}
 use Rattle.product_pairs.specs.Trimmed.{bit}
 use Rattle.product_pairs.specs.Lengths.{allSubs}

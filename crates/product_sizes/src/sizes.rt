@@ -3,9 +3,8 @@ use listing::Answer;
 use listing::Index;
 use listing::inner;
 use listing::limit;
-use listing::outputs;
-use listing::outputs::Room;
 use listing::refusal;
+use listing_outputs::Room;
 use product_places::Poles;
 use product_places::block;
 ghost use mathlib.Core.Path.{_≡_};
@@ -139,5 +138,5 @@ pub fn check_sizes(s: Totals, room: Room) -> Answer
         ends: two_each,
         inc: s.incidences,
     };
-    outputs::check_room(need, room)
+    listing_outputs::check_room(need, room)
 }

@@ -19,7 +19,7 @@ use Rattle.product_pairs.specs.Trimmed.{bit}
 use Rattle.product_pairs.specs.Grown.{upTo}
 use Rattle.product_pairs.proofs.Sequences.{upTo-length}
 use Rattle.product_places.specs.Places.{pairsIn, pairsTo, firstAt}
-use Rattle.product_writing.specs.Pairs.{listsOf, sizeOf, Plan}
+use Rattle.product_element.specs.Pairs.{listsOf, sizeOf, Plan}
 use Rattle.product_places.proofs.Numbers.{pairs-none}
 use Rattle.product_writing.proofs.Target.{lists-low, lists-over-low, lists-high, lists-over-high}
 

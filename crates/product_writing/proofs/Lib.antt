@@ -1,4 +1,3 @@
 pub mod Sizes
 pub mod Target
-pub mod Fits
 pub mod Extremes

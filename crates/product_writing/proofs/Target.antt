@@ -16,7 +16,7 @@ use Rattle.product_pairs.specs.Grown.{upTo}
 use Rattle.product_pairs.proofs.Positions.{paired-topped}
 use Rattle.product_pairs.proofs.Grown.{grown-topped}
 use Rattle.product_places.specs.Places.{pairsIn, pairsTo}
-use Rattle.product_writing.specs.Pairs.{factorLayers, target, listsOf, sizeOf}
+use Rattle.product_element.specs.Pairs.{factorLayers, target, listsOf, sizeOf}
 use Rattle.product_writing.proofs.Sizes.{grown-sum, low-subs, low-sups, high-subs, high-sups}
 
 pub factor-topped : (min : Bool) (P : Listing) → Topped (factorLayers min P)

@@ -1,3 +1,2 @@
 // The elements of a product, written in their order: their subs by formula, their ends, and room for their sups.
-pub mod pair;
 pub mod pairs;

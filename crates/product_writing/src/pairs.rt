@@ -1,7 +1,7 @@
 // The pairs of two factors, written in their order: by rank, the first member's rank, its index, the second's index.
-use crate::pair;
 use listing::Index;
 use listing::inner;
+use product_element::pair;
 use product_places::Poles;
 use product_places::block;
 use product_places::block::Block;
@@ -15,7 +15,7 @@ ghost use Rattle.listing_sups.specs.Filling.{starts, ElementsLaid, Put};
 ghost use Rattle.product_pairs.specs.Trimmed.{bit};
 ghost use Rattle.product_places.specs.Places.{pairsTo, firstAt};
 ghost use Rattle.product_places.specs.Blocks.{BlockOf};
-ghost use Rattle.product_writing.specs.Pairs.{productLists, sizeOf, Writable};
+ghost use Rattle.product_element.specs.Pairs.{productLists, sizeOf, Writable};
 
 // The pairs of a block, from place `at` on. Returns the place after them.
 fn put_block(

@@ -10,7 +10,7 @@ use Rattle.listing.specs.declared.Built.{Built}
 use Rattle.listing.specs.Refusals.{loneBetween}
 use Rattle.listing.specs.Answers.{refusal, fine}
 use Rattle.listing.specs.Listing.{Listing, Limits, limits, rank}
-use Rattle.listing.specs.Output.{prefix}
+use Rattle.listing_outputs.specs.Output.{prefix}
 use Rattle.valid_diamond.specs.Dyadic.{DiamondAt}
 use Rattle.valid.specs.Ascent.{Ascends}
 use Rattle.valid.specs.Tests.{isValid, closed}

@@ -11,14 +11,15 @@ use Rattle.listing.specs.declared.Built.{Built}
 use Rattle.listing.specs.Answers.{plain, on, _orElse_}
 use Rattle.listing.specs.Listing.{Listing, Limits, limits}
 use Rattle.listing.specs.Shape.{elements}
-use Rattle.listing.specs.Output.{shortTest}
+use Rattle.listing_outputs.specs.Output.{shortTest}
 use Rattle.listing.proofs.Answers.{or-fine, or-stop}
 use Rattle.listing.proofs.Broken.{zero-or}
-use Rattle.listing.proofs.Output.{made-answer, made-once}
+use Rattle.listing_outputs.proofs.Output.{made-answer, made-once}
 use Rattle.valid.specs.Tests as tests
 use Rattle.product_closure.specs.Result.{combCase, resultOf}
 use Rattle.product_sizes.specs.Sizing.{sizeTest}
-use Rattle.product.specs.Outcome.{factorsTest, restTest, productTest, Outcome}
+use Rattle.product_factors.specs.Factors.{factorsTest}
+use Rattle.product.specs.Outcome.{restTest, productTest, Outcome}
 use Rattle.promises.specs.OfProducts.{ProductsTaken, ProductsRefuse, ProductsKeep, ProductsOnce}
 use Rattle.promises.proofs.Alike.{any}
 use Rattle.promises.proofs.Produced.{produces, outcome-kept, outcomes-swapped}

@@ -13,12 +13,13 @@ use lib.ListN.{length, getD}
 use denote.Ref.{now}
 use Rattle.listing.specs.Refusals.{band, bandNo}
 use Rattle.listing.specs.Listing.{Listing, limits, rank}
-use Rattle.listing.specs.Counts.{counted, facets, rankOf, elCountOf, vertexCountOf, facetCountOf}
+use Rattle.listing_shape.specs.Counts.{counted, facets, rankOf, elCountOf, vertexCountOf, facetCountOf}
 use Rattle.listing.specs.Shape.{Shaped}
 use Rattle.listing.proofs.Answers.{or-no, no-or}
-use Rattle.listing.proofs.Bands.{band-shape, band-structure, band-flags, band-products, band-over, band-none}
+use Rattle.listing_shape.proofs.Bands.{band-shape, band-structure, band-flags, band-products, band-over, band-none}
 use Rattle.listing.proofs.ShapeExact.{shape-exact}
-use Rattle.listing.proofs.ShapeBroken.{counted-broken, shape-alone}
+use Rattle.listing.proofs.ShapeBroken.{shape-alone}
+use Rattle.listing_shape.proofs.Counts.{counted-broken}
 use Rattle.listing.proofs.Clear.{clear-exact}
 use Rattle.valid_incidence.specs.Incidence.{Incident}
 use Rattle.valid_incidence.proofs.IncidenceExact.{incidences-exact}

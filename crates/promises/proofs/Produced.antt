@@ -7,9 +7,9 @@ use lib.ListN.{length}
 use Rattle.listing.specs.declared.Built.{Built}
 use Rattle.listing.specs.Listing.{Listing, limits}
 use Rattle.listing.specs.Rules.{FirstBroken}
-use Rattle.listing.specs.Output.{prefix}
+use Rattle.listing_outputs.specs.Output.{prefix}
 use Rattle.listing.proofs.Answers.{no-or}
-use Rattle.listing.proofs.Output.{made-answer, made-untouched, made-wrote, made-prefix}
+use Rattle.listing_outputs.proofs.Output.{made-answer, made-untouched, made-wrote, made-prefix}
 use Rattle.listing.proofs.ShapeExact.{shape-exact}
 use Rattle.valid.specs.Tests.{bounded, checkIncidences, isValid}
 use Rattle.product_closure.specs.Result.{combCase, resultOf}

@@ -22,8 +22,9 @@ use Rattle.product_pairs.specs.Grown.{upTo, minSize, minUnder, maxSize, maxUnde
 use Rattle.product_pairs.specs.Product.{layerProduct, productOf}
 use Rattle.product_closure.specs.Result.{nullCase, combCase, resultOf}
 use Rattle.product_sizes.specs.Sizing.{sizeTest}
-use Rattle.listing.specs.Output.{shortTest}
-use Rattle.product.specs.Outcome.{factorsTest, restTest, productTest}
+use Rattle.listing_outputs.specs.Output.{shortTest}
+use Rattle.product_factors.specs.Factors.{factorsTest}
+use Rattle.product.specs.Outcome.{restTest, productTest}
 use Rattle.order.specs.Tests.{every}
 use Rattle.flag_change.specs.Flags.{flagAt, flagTest, startTest}
 use Rattle.flag_change.specs.Change.{common, other, between, changeAt, padded}

@@ -13,11 +13,11 @@ use Rattle.search_events.specs.declared.Event.{Event}
 use Rattle.search_events.specs.declared.Said.{Said}
 use Rattle.flag.specs.Orientations.{ofByte}
 use Rattle.search_events.specs.Events.{saidOf, Stepped, SaidStep}
-use Rattle.listing.proofs.class.Reads as class
-use Rattle.listing.proofs.rank.Reads as rank
-use Rattle.listing.proofs.el_count.Reads as el-count
-use Rattle.listing.proofs.vertex_count.Reads as vertex-count
-use Rattle.listing.proofs.facet_count.Reads as facet-count
+use Rattle.listing_shape.proofs.class.Reads as class
+use Rattle.listing_shape.proofs.rank.Reads as rank
+use Rattle.listing_shape.proofs.el_count.Reads as el-count
+use Rattle.listing_shape.proofs.vertex_count.Reads as vertex-count
+use Rattle.listing_shape.proofs.facet_count.Reads as facet-count
 use Rattle.valid.proofs.bounded.Reads as bounded
 use Rattle.valid.proofs.check_incidences.Reads as check-incidences
 use Rattle.valid.proofs.is_dyadic.Reads as is-dyadic

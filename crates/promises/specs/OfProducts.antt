@@ -14,7 +14,7 @@ use mathlib.Core.Path.{_≡_}
 use mathlib.Core.Bool.{Bool, true, false}
 use Rattle.listing.specs.declared.Built.{Built}
 use Rattle.listing.specs.Answers.{plain}
-use Rattle.listing.specs.Output.{prefix}
+use Rattle.listing_outputs.specs.Output.{prefix}
 use Rattle.product.proofs.duopyramid.Reads as duopyramid
 use Rattle.product.proofs.duoprism.Reads as duoprism
 use Rattle.product.proofs.duotegum.Reads as duotegum

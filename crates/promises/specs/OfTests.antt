@@ -23,19 +23,20 @@ use Rattle.listing.specs.Refusals.{bandNo}
 use Rattle.listing.specs.Answers.{fine}
 use Rattle.listing.specs.Listing.{Listing, Limits, limits, rank}
 use Rattle.listing.specs.Shape.{Shaped}
-use Rattle.listing.specs.Rules.{Rule, FirstBroken, countRules, shapeRules}
+use Rattle.listing.specs.Rules.{Rule, FirstBroken, shapeRules}
+use Rattle.listing_shape.specs.Counts.{countRules}
 use Rattle.valid_incidence.specs.Incidence.{Incident}
 use Rattle.valid_diamond.specs.Dyadic.{DiamondUpTo, Distinct}
 use Rattle.valid.specs.Bounds.{Bounded}
 use Rattle.valid.specs.Closed.{Closed}
 use Rattle.valid.specs.Rules.{boundedRules, incidentRules, dyadicRules, validRules, closedRules}
-use Rattle.listing.proofs.class.Reads as class
-use Rattle.listing.proofs.band_number.Reads as band-number
-use Rattle.listing.proofs.rank.Reads as rank-count
-use Rattle.listing.proofs.el_count.Reads as el-count
-use Rattle.listing.proofs.vertex_count.Reads as vertex-count
-use Rattle.listing.proofs.facet_count.Reads as facet-count
-use Rattle.listing.proofs.shape.Reads as shape
+use Rattle.listing_shape.proofs.class.Reads as class
+use Rattle.listing_shape.proofs.band_number.Reads as band-number
+use Rattle.listing_shape.proofs.rank.Reads as rank-count
+use Rattle.listing_shape.proofs.el_count.Reads as el-count
+use Rattle.listing_shape.proofs.vertex_count.Reads as vertex-count
+use Rattle.listing_shape.proofs.facet_count.Reads as facet-count
+use Rattle.listing_shape.proofs.shape.Reads as shape
 use Rattle.valid.proofs.bounded.Reads as bounded
 use Rattle.valid.proofs.check_incidences.Reads as check-incidences
 use Rattle.valid.proofs.is_dyadic.Reads as is-dyadic

@@ -20,7 +20,7 @@ use Rattle.listing.specs.declared.Built.{Built}
 use Rattle.listing.specs.Listing.{Listing, limits, rank}
 use Rattle.listing.specs.Cells.{nullitope}
 use Rattle.listing.specs.Rules.{Rule, FirstBroken}
-use Rattle.listing.specs.Output.{Untouched, Wrote}
+use Rattle.listing_outputs.specs.Output.{Untouched, Wrote}
 use Rattle.valid.specs.Closed.{Closed}
 use Rattle.valid.specs.Tests.{bounded, checkIncidences, isValid}
 use Rattle.product_pairs.specs.Trimmed.{bit}

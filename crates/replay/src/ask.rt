@@ -1,11 +1,11 @@
 // Each question read from its line and put to the function that it names. The functions are told apart by letters of
 // their names.
-use crate::text;
 use listing::Index;
 use replay_asking::cell;
 use replay_asking::flags;
 use replay_asking::pair;
 use replay_asking::room;
+use replay_reading::text;
 
 // The class of a refusal's number.
 fn class(line: &[u8]) {

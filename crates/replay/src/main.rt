@@ -2,9 +2,9 @@
 // are empty or begin with '#' come back as they are. The lines expected are answers of the Rust program, and answers
 // by the rules where the Rust has none.
 mod ask;
-mod text;
 
 use libc::STDOUT_FILENO;
+use replay_reading::text;
 ghost use mathlib.Core.Path.{_≡_};
 ghost use lib.ListN.{length};
 

@@ -7,10 +7,10 @@ use replay_saying::say;
 // The four counts by the fourth letter: rank, vertex_count, facet_count, el_count.
 fn count_of(letter: u8, counts: &[Index], r: usize) -> Number {
     match letter {
-        b'k' => listing::rank(counts),
-        b't' => listing::vertex_count(counts),
-        b'e' => listing::facet_count(counts),
-        _ => listing::el_count(counts, r),
+        b'k' => listing_shape::rank(counts),
+        b't' => listing_shape::vertex_count(counts),
+        b'e' => listing_shape::facet_count(counts),
+        _ => listing_shape::el_count(counts, r),
     }
 }
 
@@ -37,5 +37,5 @@ pub fn test(letter: u8, counts: &[Index], ends: &[Index], inc: &[Index]) {
 
 // The class of a refusal's number.
 pub fn class(no: u16) {
-    say::number(listing::band_number(listing::class(no)) as u64);
+    say::number(listing_shape::band_number(listing_shape::class(no)) as u64);
 }

@@ -20,9 +20,9 @@ use Rattle.flag_change.specs.Flags.{startTest}
 use Rattle.flag_change.proofs.StartExact.{start-exact}
 use Rattle.search_theory.specs.Search.{State}
 use Rattle.search_store.specs.declared.found.Progress.{Progress}
-use Rattle.search_store.specs.Rows.{flatten}
+use Rattle.search_index.specs.Rows.{flatten}
 use Rattle.search_store.specs.Held.{stateOf}
-use Rattle.search_store.proofs.Rows.{rows-length, rows-flat}
+use Rattle.search_index.proofs.Rows.{rows-length, rows-flat}
 use Rattle.search_masks.specs.Masks.{maskFits}
 use Rattle.search_masks.proofs.Ranks.{fits-exact}
 use Rattle.search.specs.declared.Searched.{Searched}

@@ -29,8 +29,8 @@ use Rattle.search_theory.proofs.Coloured.{coloured-bytes}
 use Rattle.search_theory.proofs.Orientation.{bytes-flip, place-exact}
 use Rattle.search_theory.proofs.Alike.{came-alike, clash-alike}
 use Rattle.search_theory.proofs.Course.{search-came, search-clash}
-use Rattle.search_store.specs.Rows.{rowOf, rows, sameList, flatten}
-use Rattle.search_store.proofs.Rows.{same-decides, rows-length, rows-at}
+use Rattle.search_index.specs.Rows.{rowOf, rows, sameList, flatten}
+use Rattle.search_index.proofs.Rows.{same-decides, rows-length, rows-at}
 use Rattle.search_walk.specs.Searched.{maskChanges, foundBy}
 use Rattle.search.specs.SearchedBy.{foundAs}
 use Rattle.search.specs.Exact.{Searchable, Leads, FirstMet, Repeat, Holds, Finds}

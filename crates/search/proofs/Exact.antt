@@ -15,8 +15,8 @@ use Rattle.flag_change.specs.Flags.{startTest}
 use Rattle.search_theory.specs.Search.{State}
 use Rattle.search_theory.proofs.Found.{overflow-full}
 use Rattle.search_theory.proofs.Prefix.{prefix}
-use Rattle.search_store.specs.Rows.{rows, sameList, flatten}
-use Rattle.search_store.proofs.Rows.{same-decides}
+use Rattle.search_index.specs.Rows.{rows, sameList, flatten}
+use Rattle.search_index.proofs.Rows.{same-decides}
 use Rattle.search_masks.specs.Masks.{maskFits}
 use Rattle.search_walk.specs.Searched.{maskChanges, foundBy}
 use Rattle.search.specs.declared.Searched.{Searched}

@@ -7,7 +7,7 @@ use native.Mathlib.Nat.{suc-mul, zero-mul}
 use native.Mathlib.Omega.{arith}
 use lib.ListN.{length, getD, length-append}
 use lib.Seq.{take-at, drop-append-add}
-use Rattle.search_store.specs.Rows.{rowOf, flatten}
+use Rattle.search_index.specs.Rows.{rowOf, flatten}
 use Rattle.search_walk.proofs.Neighbours.{All}
 
 module _ (w : ℕ) where

@@ -14,8 +14,8 @@ use Rattle.search_theory.specs.Search.{Neighbour, AtLeast, Colouring}
 use Rattle.search_masks.specs.Masks.{InMask, ranksOf}
 use Rattle.search_masks.proofs.Ranks.{ranks-exact}
 use Rattle.search_theory.proofs.Found.{overflow-exact}
-use Rattle.search_store.specs.Rows.{sameList}
-use Rattle.search_store.proofs.Rows.{same-decides}
+use Rattle.search_index.specs.Rows.{sameList}
+use Rattle.search_index.proofs.Rows.{same-decides}
 use Rattle.search_walk.specs.Searched.{maskChanges, foundBy}
 use Rattle.search.specs.Exact.{Searchable, Leads}
 use Rattle.search_walk.proofs.Neighbours.{mem-in, in-mem}

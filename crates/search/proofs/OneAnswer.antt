@@ -15,8 +15,8 @@ use Rattle.listing.specs.Listing.{Listing, rank}
 use Rattle.flag_change.specs.Change.{changeAt}
 use Rattle.search_theory.specs.Search.{Once, Colouring}
 use Rattle.search_theory.proofs.Once.{in-at}
-use Rattle.search_store.specs.Rows.{rowOf, rows, flatten}
-use Rattle.search_store.proofs.Rows.{rows-length, rows-at, rows-flat}
+use Rattle.search_index.specs.Rows.{rowOf, rows, flatten}
+use Rattle.search_index.proofs.Rows.{rows-length, rows-at, rows-flat}
 use Rattle.search.specs.declared.Searched.{Searched}
 use Rattle.search.specs.Exact.{Leads, FirstMet, Repeat, Holds, Finds}
 

@@ -26,7 +26,7 @@ use Rattle.flag_change.specs.Flags.{IsFlag}
 use Rattle.flag_change.specs.Change.{changeAt}
 use Rattle.search_theory.specs.Search.{Once, AtLeast, Colouring, tone}
 use Rattle.search_theory.specs.Course.{Stands, Agrees}
-use Rattle.search_store.specs.Rows.{rowOf, rows}
+use Rattle.search_index.specs.Rows.{rowOf, rows}
 use Rattle.search_masks.specs.Masks.{InMask, InnerRanks}
 use Rattle.search.specs.declared.Searched.{Searched}
 

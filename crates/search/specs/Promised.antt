@@ -14,7 +14,7 @@ use lib.ListN.{length, take}
 use Rattle.listing.specs.Refusals.{moreFlags}
 use Rattle.listing.specs.Listing.{Listing, Limits, rank}
 use Rattle.listing.specs.Rules.{FirstBroken}
-use Rattle.search_store.specs.Rows.{rows}
+use Rattle.search_index.specs.Rows.{rows}
 use Rattle.search_walk.specs.Searched.{foundBy}
 use Rattle.search.specs.declared.Searched.{Searched}
 use Rattle.search.specs.SearchedBy.{refusedAs, roomOf}

@@ -22,7 +22,7 @@ use Rattle.listing.specs.Answers.{plain, ifZero, on, _orElse_}
 use Rattle.listing.specs.Listing.{Listing, Limits, rank}
 use Rattle.flag_change.specs.Flags.{startTest}
 use Rattle.search_theory.specs.Search.{State}
-use Rattle.search_store.specs.Rows.{flatten}
+use Rattle.search_index.specs.Rows.{flatten}
 use Rattle.search_masks.specs.Masks.{maskFits}
 use Rattle.search.specs.declared.Searched.{Searched}
 use Rattle.search_walk.specs.Searched.{foundBy}

@@ -11,12 +11,12 @@ use lib.Seq.{paste, getD-take, take-suc-set, drop-set-lt}
 use Rattle.search_theory.specs.Search.{State, placeAfter, again, indexIn, meet}
 use Rattle.search_theory.proofs.Step.{place-kept, place-same, place-first, meet-again, meet-full, meet-new}
 use Rattle.search_store.specs.declared.found.Progress.{Progress}
-use Rattle.search_store.specs.Rows.{rows, sameList}
-use Rattle.search_store.specs.Hash.{hashOf}
+use Rattle.search_index.specs.Rows.{rows, sameList}
+use Rattle.search_index.specs.Hash.{hashOf}
 use Rattle.search_store.specs.Held.{stateOf, Held, Rest, Moved}
-use Rattle.search_store.proofs.Hash.{hash-small}
-use Rattle.search_store.proofs.Rows.{row-end, rows-length, put-length, put-rest, put-rows}
-use Rattle.search_store.proofs.Indexing.{index-more}
+use Rattle.search_index.proofs.Hash.{hash-small}
+use Rattle.search_index.proofs.Rows.{row-end, rows-length, put-length, put-rest, put-rows}
+use Rattle.search_index.proofs.Indexing.{index-more}
 
 -- ---- what the state holds
 

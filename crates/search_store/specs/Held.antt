@@ -12,8 +12,8 @@ use lib.ListN.{length, take, drop}
 use Rattle.listing.specs.Listing.{limits}
 use Rattle.search_theory.specs.Search.{State}
 use Rattle.search_store.specs.declared.found.Progress.{Progress}
-use Rattle.search_store.specs.Rows.{rows}
-use Rattle.search_store.specs.Index.{Indexed}
+use Rattle.search_index.specs.Rows.{rows}
+use Rattle.search_index.specs.Index.{Indexed}
 
 unfoldable pub stateOf : ℕ → List ℕ → List ℕ → Progress → State (List ℕ)
 stateOf w table bytes s = record {

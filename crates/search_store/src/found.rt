@@ -1,9 +1,9 @@
 // What a search has found: flags in the table, in the order found, their bytes, and the index of the flags.
-use crate::index;
-use crate::row;
 use listing::Index;
 use listing::inner;
 use listing::limit;
+use search_index::index;
+use search_index::row;
 ghost use mathlib.Core.Path.{_≡_};
 ghost use mathlib.Core.Bool.{false};
 ghost use Prim.Native.Nat.{_+_, _*_, _≤_, _<_};
@@ -11,8 +11,8 @@ ghost use lib.ListN.{length, getD, take, set};
 ghost use lib.Seq.{paste};
 ghost use Rattle.listing.specs.Listing.{limits};
 ghost use Rattle.search_theory.specs.Search.{meet as meetIn};
-ghost use Rattle.search_store.specs.Hash.{hashOf};
-ghost use Rattle.search_store.specs.Rows.{sameList};
+ghost use Rattle.search_index.specs.Hash.{hashOf};
+ghost use Rattle.search_index.specs.Rows.{sameList};
 ghost use Rattle.search_store.specs.Held.{stateOf, Held, Moved};
 
 // How far a search has come: how many flags it has found, how many there were when the cell showed itself not

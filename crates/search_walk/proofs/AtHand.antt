@@ -11,8 +11,8 @@ use Rattle.order.proofs.Over.{over-length, over-first}
 use Rattle.listing.specs.Listing.{Listing, limits, rank, subs, sups}
 use Rattle.valid.specs.Closed.{Closed}
 use Rattle.flag_change.specs.Change.{common, other, between, changeAt, Flanked}
-use Rattle.search_store.specs.Hash.{hashes, weight, hashOf}
-use Rattle.search_store.proofs.Hash.{old-inside, hash-changed}
+use Rattle.search_index.specs.Hash.{hashes, weight, hashOf}
+use Rattle.search_index.proofs.Hash.{old-inside, hash-changed}
 use Rattle.search_walk.specs.Ready.{AtHand}
 
 -- a row at the beginning of the array

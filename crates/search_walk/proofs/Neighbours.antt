@@ -17,8 +17,8 @@ use Rattle.flag_change.proofs.Changes.{changes}
 use Rattle.search_theory.specs.Search.{State, meet, meetAll}
 use Rattle.search_theory.proofs.Once.{in-at, at-in}
 use Rattle.search_theory.proofs.Step.{meet-cases}
-use Rattle.search_store.specs.Rows.{rows}
-use Rattle.search_store.proofs.Rows.{rows-length, rows-at}
+use Rattle.search_index.specs.Rows.{rows}
+use Rattle.search_index.proofs.Rows.{rows-length, rows-at}
 use Rattle.search_masks.specs.Masks.{InnerRanks, ranksOf}
 use Rattle.search_masks.proofs.Ranks.{ranks-exact}
 use Rattle.search_walk.specs.Searched.{maskChanges}

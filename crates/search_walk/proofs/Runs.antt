@@ -13,9 +13,9 @@ use Rattle.flag_change.specs.Flags.{IsFlag}
 use Rattle.search_theory.specs.Search.{meetAll, work, run}
 use Rattle.search_theory.proofs.Run.{run-next, run-stop, run-end}
 use Rattle.search_store.specs.declared.found.Progress.{Progress}
-use Rattle.search_store.specs.Rows.{rowOf, sameList}
+use Rattle.search_index.specs.Rows.{rowOf, sameList}
 use Rattle.search_store.specs.Held.{stateOf, Held, Moved}
-use Rattle.search_store.proofs.Rows.{rows-at}
+use Rattle.search_index.proofs.Rows.{rows-at}
 use Rattle.search_store.proofs.Meets.{count-is, moved-none}
 use Rattle.search_masks.specs.Masks.{InnerRanks}
 use Rattle.search_walk.specs.Searched.{maskChanges}

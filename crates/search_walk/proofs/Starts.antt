@@ -11,11 +11,11 @@ use Rattle.listing.specs.Listing.{Listing, limits}
 use Rattle.flag_change.specs.Flags.{IsFlag}
 use Rattle.flag_change.specs.Change.{padded}
 use Rattle.search_theory.specs.Search.{unbegun, Once, meet, run, search}
-use Rattle.search_store.specs.Chain.{latest}
+use Rattle.search_index.specs.Chain.{latest}
 use Rattle.search_store.specs.declared.found.Progress.{Progress}
-use Rattle.search_store.specs.Rows.{rows, sameList}
-use Rattle.search_store.specs.Hash.{hashes}
-use Rattle.search_store.specs.Index.{Indexed}
+use Rattle.search_index.specs.Rows.{rows, sameList}
+use Rattle.search_index.specs.Hash.{hashes}
+use Rattle.search_index.specs.Index.{Indexed}
 use Rattle.search_store.specs.Held.{stateOf, Held, Moved}
 use Rattle.search_walk.specs.Searched.{maskChanges, foundBy}
 use Rattle.search_walk.specs.Ready.{Ended, AllFlags}

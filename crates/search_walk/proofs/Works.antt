@@ -16,7 +16,7 @@ use Rattle.flag_change.specs.Change.{changeAt}
 use Rattle.search_theory.specs.Search.{State, meet, meetAll}
 use Rattle.search_theory.proofs.Step.{meets-overflow}
 use Rattle.search_store.specs.declared.found.Progress.{Progress}
-use Rattle.search_store.specs.Rows.{sameList}
+use Rattle.search_index.specs.Rows.{sameList}
 use Rattle.search_store.specs.Held.{stateOf, Held, Rest, Moved}
 use Rattle.search_store.proofs.Meets.{moved-none}
 use Rattle.search_masks.specs.Masks.{InMask, InnerRanks}

@@ -16,8 +16,8 @@ use Rattle.valid.specs.Closed.{Closed}
 use Rattle.flag_change.specs.Flags.{IsFlag}
 use Rattle.search_theory.specs.Search.{State}
 use Rattle.search_store.specs.declared.found.Progress.{Progress}
-use Rattle.search_store.specs.Rows.{rowOf}
-use Rattle.search_store.specs.Hash.{hashes, sumFrom, Weights}
+use Rattle.search_index.specs.Rows.{rowOf}
+use Rattle.search_index.specs.Hash.{hashes, sumFrom, Weights}
 use Rattle.search_store.specs.Held.{stateOf, Held, Rest}
 use Rattle.search_masks.specs.Masks.{InnerRanks}
 

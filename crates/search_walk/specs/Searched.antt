@@ -7,7 +7,7 @@ use Prim.Native.Nat.{ℕ}
 use Rattle.listing.specs.Listing.{Listing}
 use Rattle.flag_change.specs.Change.{changeAt}
 use Rattle.search_theory.specs.Search.{State, search}
-use Rattle.search_store.specs.Rows.{sameList}
+use Rattle.search_index.specs.Rows.{sameList}
 use Rattle.search_masks.specs.Masks.{ranksOf}
 
 unfoldable pub maskChanges : Listing → ℕ → List ℕ → List (List ℕ)

@@ -31,7 +31,7 @@ fn flags(counts: &[Index], ends: &[Index], inc: &[Index]) -> Searched {
         ends,
         inc,
         slice::front(&first, counts.len()),
-        all_changes(listing::rank(counts).value),
+        all_changes(listing_shape::rank(counts).value),
         &mut table,
         &mut bytes,
     )

@@ -66,7 +66,7 @@ pub fn row(name: Name, counts: &[Index], verdict: u16, count: u16, orientable: u
     elements(counts);
     valid(verdict);
     flags(count, orientable);
-    crate::answer(closed, listing::rank(counts).value);
+    crate::answer(closed, listing_shape::rank(counts).value);
     end();
 }
 

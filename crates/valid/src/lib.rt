@@ -15,7 +15,7 @@ ghost use Rattle.valid.specs.Tests as tests;
 pub fn is_valid(counts: &[Index], ends: &[Index], inc: &[Index]) -> Answer
     ensures { λ r. ⌜ r ≡ tests.isValid limits (held (counts .entry) (ends .entry) (inc .entry)) ⌝ }
 {
-    let s = listing::shape(counts, ends, inc);
+    let s = listing_shape::shape(counts, ends, inc);
     if s.no != 0 {
         return s;
     }
@@ -34,7 +34,7 @@ pub fn is_valid(counts: &[Index], ends: &[Index], inc: &[Index]) -> Answer
 pub fn bounded(counts: &[Index], ends: &[Index], inc: &[Index]) -> Answer
     ensures { λ r. ⌜ r ≡ tests.bounded limits (held (counts .entry) (ends .entry) (inc .entry)) ⌝ }
 {
-    let s = listing::shape(counts, ends, inc);
+    let s = listing_shape::shape(counts, ends, inc);
     if s.no != 0 {
         return s;
     }
@@ -46,7 +46,7 @@ pub fn check_incidences(counts: &[Index], ends: &[Index], inc: &[Index]) -> Answ
     ensures { λ r. ⌜ r ≡ tests.checkIncidences limits
         (held (counts .entry) (ends .entry) (inc .entry)) ⌝ }
 {
-    let s = listing::shape(counts, ends, inc);
+    let s = listing_shape::shape(counts, ends, inc);
     if s.no != 0 {
         return s;
     }
@@ -58,7 +58,7 @@ pub fn is_dyadic(counts: &[Index], ends: &[Index], inc: &[Index]) -> Answer
     ensures { λ r. ⌜ r ≡ tests.isDyadic limits
         (held (counts .entry) (ends .entry) (inc .entry)) ⌝ }
 {
-    let s = listing::shape(counts, ends, inc);
+    let s = listing_shape::shape(counts, ends, inc);
     if s.no != 0 {
         return s;
     }
@@ -73,7 +73,7 @@ pub fn is_dyadic(counts: &[Index], ends: &[Index], inc: &[Index]) -> Answer
 pub fn closed(counts: &[Index], ends: &[Index], inc: &[Index]) -> Answer
     ensures { λ r. ⌜ r ≡ tests.closed limits (held (counts .entry) (ends .entry) (inc .entry)) ⌝ }
 {
-    let s = listing::shape(counts, ends, inc);
+    let s = listing_shape::shape(counts, ends, inc);
     if s.no != 0 {
         return s;
     }

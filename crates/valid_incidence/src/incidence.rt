@@ -3,7 +3,6 @@ use listing::Answer;
 use listing::Element;
 use listing::Index;
 use listing::inner;
-use listing::membership;
 use listing::refusal;
 ghost use mathlib.Core.Path.{_≡_};
 ghost use mathlib.Core.List.{List, _∷_};
@@ -39,7 +38,10 @@ fn check_entry(ends: &[Index], inc: &[Index], way: Way, of: Element, x: Index) -
     ensures { λ a. ⌜ a ≡ entryTest (now (ends .entry)) (now (inc .entry)) way (of .rank) (of .index) x ⌝ }
 {
     if x < way.size {
-        if membership::contains(inner::side_of(ends, inc, way.place, x, way.side), of.index) {
+        if listing_membership::contains(
+            inner::side_of(ends, inc, way.place, x, way.side),
+            of.index,
+        ) {
             inner::plain(0)
         } else {
             Answer {

@@ -14,7 +14,7 @@ use Rattle.product_sizes.proofs.Extents.{measured-by}
 use Rattle.product_plan.proofs.Planned.{built-is, build-asked}
 use Rattle.product_sizes.proofs.Parts.{usable-shaped, usable-high}
 use Rattle.product_sizes.proofs.Tested.{listing-tested, Passed, sizes-passed}
-use Rattle.listing.proofs.Output.{made-refused, made-written}
+use Rattle.listing_outputs.proofs.Output.{made-refused, made-written}
 use Rattle.product.proofs.make.product.Statement.{statement}
 use Rattle.product.proofs.make.product.Tie as tie
 

@@ -11,7 +11,7 @@ use Rattle.product_closure.proofs.Results.{needed}
 use Rattle.product_closure.specs.Result.{nullCase, combCase}
 use Rattle.product_sizes.specs.Sizing.{Usable}
 use Rattle.product.proofs.Chain.{comb-decides, null-made, first-made, second-made}
-use Rattle.listing.proofs.Output.{made-refused}
+use Rattle.listing_outputs.proofs.Output.{made-refused}
 use Rattle.product.proofs.make.product_of_valid.Statement.{statement}
 use Rattle.product.proofs.make.product_of_valid.Tie as tie
 

@@ -9,7 +9,7 @@ use Rattle.listing.proofs.Answers.{no-of}
 use Rattle.listing.specs.Cells.{nullitope}
 use Rattle.product_sizes.proofs.Tested.{listing-tested, Passed, sizes-passed}
 use Rattle.product_sizes.specs.Sizing.{sizeTest}
-use Rattle.listing.proofs.Output.{made-refused, made-written}
+use Rattle.listing_outputs.proofs.Output.{made-refused, made-written}
 use Rattle.product.proofs.Made.{nullitope-measures, one-set, two-set}
 use Rattle.product.proofs.make.put_nullitope.Statement.{statement}
 use Rattle.product.proofs.make.put_nullitope.Tie as tie

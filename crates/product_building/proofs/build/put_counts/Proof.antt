@@ -6,7 +6,7 @@ use native.Mathlib.Omega.{arith}
 use lib.ListN.{length}
 use Rattle.product_pairs.specs.Trimmed.{bit}
 use Rattle.listing.specs.Laid.{LaidList}
-use Rattle.product_writing.specs.Pairs.{sizeOf}
+use Rattle.product_element.specs.Pairs.{sizeOf}
 use Rattle.product_building.specs.Built.{countsOf}
 use Rattle.product_building.proofs.CountsLaid.{counts-length, counts-laid}
 use Rattle.product_building.proofs.build.put_counts.Statement.{statement}

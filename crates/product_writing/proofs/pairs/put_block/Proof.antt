@@ -11,8 +11,8 @@ use Rattle.listing_sups.specs.Filling.{Put}
 use Rattle.listing_sups.proofs.Laying.{put-none, put-then}
 use Rattle.product_places.specs.Blocks.{inBlock}
 use Rattle.product_places.proofs.Numbers.{number-first, number-last, first-same}
-use Rattle.product_writing.specs.Pairs.{productLists}
-use Rattle.product_writing.proofs.Fits.{writable-room}
+use Rattle.product_element.specs.Pairs.{productLists}
+use Rattle.product_element.proofs.Fits.{writable-room}
 use Rattle.product_writing.proofs.pairs.put_block.Statement.{statement}
 use Rattle.product_writing.proofs.pairs.put_block.Tie as tie
 

@@ -11,9 +11,9 @@ use Rattle.listing.specs.Listing.{Listing, listing, limits}
 use Rattle.listing_sups.specs.Filling.{Put}
 use Rattle.listing_sups.proofs.Laying.{elements-none, put-then}
 use Rattle.product_places.specs.Places.{firstAt}
-use Rattle.product_writing.specs.Pairs.{productLists, sizeOf, Plan}
+use Rattle.product_element.specs.Pairs.{productLists, sizeOf, Plan}
 use Rattle.product_writing.proofs.Extremes.{sizes, min-put, max-asked, max-put}
-use Rattle.product_writing.proofs.Fits.{writable-room, first-few}
+use Rattle.product_element.proofs.Fits.{writable-room, first-few}
 use Rattle.product_writing.proofs.pairs.put_elements.Statement.{statement}
 use Rattle.product_writing.proofs.pairs.put_elements.Tie as tie
 

@@ -10,8 +10,8 @@ use Rattle.listing_sups.specs.Filling.{Put}
 use Rattle.listing_sups.proofs.Laying.{put-none, put-then}
 use Rattle.product_places.specs.Places.{firstAt}
 use Rattle.product_places.proofs.Numbers.{first-next}
-use Rattle.product_writing.specs.Pairs.{productLists}
-use Rattle.product_writing.proofs.Fits.{writable-room, first-few, block-own, block-start, block-put}
+use Rattle.product_element.specs.Pairs.{productLists}
+use Rattle.product_element.proofs.Fits.{writable-room, first-few, block-own, block-start, block-put}
 use Rattle.product_writing.proofs.pairs.put_rank.Statement.{statement}
 use Rattle.product_writing.proofs.pairs.put_rank.Tie as tie
 

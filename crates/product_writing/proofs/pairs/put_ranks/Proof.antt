@@ -12,8 +12,8 @@ use Rattle.listing_sups.proofs.Laying.{put-none, put-then}
 use Rattle.product_pairs.specs.Trimmed.{bit}
 use Rattle.product_places.specs.Places.{pairsTo, firstAt}
 use Rattle.product_places.proofs.Numbers.{pairs-none, pairs-next}
-use Rattle.product_writing.specs.Pairs.{productLists}
-use Rattle.product_writing.proofs.Fits.{writable-room, first-few}
+use Rattle.product_element.specs.Pairs.{productLists}
+use Rattle.product_element.proofs.Fits.{writable-room, first-few}
 use Rattle.product_writing.proofs.pairs.put_ranks.Statement.{statement}
 use Rattle.product_writing.proofs.pairs.put_ranks.Tie as tie
 

@@ -3,7 +3,7 @@
 use native.Mathlib.Omega.{arith}
 use borrow.Author.Needs.{needs}
 use lib.ListN.{take}
-use Rattle.search_store.proofs.Hash.{hash-small}
+use Rattle.search_index.proofs.Hash.{hash-small}
 use Rattle.search_store.proofs.found.add.Statement.{statement}
 use Rattle.search_store.proofs.found.add.Tie as tie
 

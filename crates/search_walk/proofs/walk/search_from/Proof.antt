@@ -9,8 +9,8 @@ use Rattle.listing.specs.Listing.{Listing, listing, limits}
 use Rattle.flag_change.proofs.Padding.{padded-length}
 use Rattle.search_theory.specs.Search.{meet}
 use Rattle.search_store.specs.Held.{stateOf, Moved}
-use Rattle.search_store.specs.Rows.{sameList}
-use Rattle.search_store.specs.Hash.{hashes, hashOf}
+use Rattle.search_index.specs.Rows.{sameList}
+use Rattle.search_index.specs.Hash.{hashes, hashOf}
 use Rattle.search_walk.proofs.Starts.{none, held-none, take-padded, first-flags, all-found}
 use Rattle.search_walk.proofs.walk.search_from.Statement.{statement}
 use Rattle.search_walk.proofs.walk.search_from.Tie as tie

@@ -8,8 +8,8 @@ use borrow.Author.Needs.{needs}
 use lib.ListN.{length, getD, length-set}
 use Rattle.listing.specs.Listing.{listing, limits}
 use Rattle.flag_change.specs.Change.{other, between}
-use Rattle.search_store.specs.Hash.{weight}
-use Rattle.search_store.proofs.Hash.{weights-small}
+use Rattle.search_index.specs.Hash.{weight}
+use Rattle.search_index.proofs.Hash.{weights-small}
 use Rattle.search_walk.proofs.AtHand.{hand-neighbours, hand-changed, hand-old, hand-hash, put-back}
 use Rattle.search_walk.proofs.walk.try_next.Statement.{statement}
 use Rattle.search_walk.proofs.walk.try_next.Tie as tie

@@ -13,8 +13,8 @@ use Rattle.order.specs.Lists.{over}
 use Rattle.listing.specs.Listing.{Listing, listing, limits}
 use Rattle.search_theory.specs.Search.{meetAll}
 use Rattle.search_store.specs.Held.{stateOf}
-use Rattle.search_store.specs.Rows.{sameList, rowOf}
-use Rattle.search_store.proofs.Rows.{row-end, row-length}
+use Rattle.search_index.specs.Rows.{sameList, rowOf}
+use Rattle.search_index.proofs.Rows.{row-end, row-length}
 use Rattle.search_masks.proofs.Low.{low-fits}
 use Rattle.search_walk.specs.Ready.{AtHand}
 use Rattle.search_walk.specs.Searched.{maskChanges}

@@ -1,0 +1,129 @@
+-- `fill`. Invariant: what is read from i on, stored from n on, makes what is to be stored. Measure: what is left of the
+-- text. Assumes nothing.
+use Rattle.replay_reading.proofs.Stores.{stored-length, stored-on, stored-up}
+use Rattle.replay_reading.proofs.Texts.{read-on, read-off, read-end}
+use Rattle.replay_reading.specs.Text.{read, numbersIn, gap}
+use Rattle.listing.specs.Listing.{width}
+use lib.Seq.{sets}
+use lib.ListN.{length, drop}
+use Prim.Native.Nat.{min, _+_, _-_, _≤_}
+use borrow.Author.Needs.{needs}
+use native.Mathlib.Omega.{arith}
+use mathlib.Core.Path.{_≡_, refl, sym, ap, _∙_}
+use Rattle.replay_reading.proofs.text.fill.Statement.{statement}
+use Rattle.replay_reading.proofs.text.fill.Tie as tie
+
+abbrev Inv-loop : tie.InvT-loop
+Inv-loop text out₀ s₀ n₀ i₀ out s n i =
+    (i ≤ length text)
+    × (n ≤ length out)
+    × (length out ≡ length out₀)
+    × (min (n + length (read (width - 1) s (drop i text))) (length out₀)
+    ≡ min (length (numbersIn (width - 1) text)) (length out₀))
+    × (sets out n (read (width - 1) s (drop i text)) ≡ sets out₀ 0 (numbersIn (width - 1) text))
+
+abbrev μ-loop : tie.MeasureT-loop
+μ-loop text out₀ s₀ n₀ i₀ out s n i = length text - i
+
+loop-holds : tie.Need-loop-holds Inv-loop μ-loop
+loop-holds c = (search needs, search needs, search needs, search needs, refl)
+
+shared-slice-read-b : tie.Need-shared-slice-read-b Inv-loop μ-loop
+shared-slice-read-b c = search needs
+
+goes-on-requires : tie.Need-goes-on-requires Inv-loop μ-loop
+goes-on-requires c κs = search needs
+
+with-byte-requires : tie.Need-with-byte-requires Inv-loop μ-loop
+with-byte-requires c κs = search needs
+
+add-i : tie.Need-add-i Inv-loop μ-loop
+add-i c = search needs
+
+loop-less : tie.Need-loop-less Inv-loop μ-loop
+loop-less c = search needs
+
+loop-again : tie.Need-loop-again Inv-loop μ-loop
+loop-again c =
+    let d = c .before .before .before .before .before in
+    let b = d .loop in
+    let t = d .before .before .before .args .text .now in
+    let e = sym (c .before .before .goes-on .ensures) ∙ c .before .if1 .taken in
+    let o = read-on t (b .i) (c .before .before .before .before .loop-test .taken) (width - 1) (b .s) e in
+    let w = c .with-byte .ensures in
+    (omega arith, b .inv .1, b .inv .2, rw (w, ← o) (b .inv .3), rw (w, ← o) (b .inv .4))
+
+narrow-requires : tie.Need-narrow-requires Inv-loop μ-loop
+narrow-requires c κs = search needs
+
+put-requires : tie.Need-put-requires Inv-loop μ-loop
+put-requires c κs = search needs
+
+add-i-2 : tie.Need-add-i-2 Inv-loop μ-loop
+add-i-2 c = search needs
+
+loop-less-2 : tie.Need-loop-less-2 Inv-loop μ-loop
+loop-less-2 c = search needs
+
+loop-again-2 : tie.Need-loop-again-2 Inv-loop μ-loop
+loop-again-2 c =
+    let d = c .before .before .before in
+    let g = d .before .before .before .before .before .before in
+    let b = g .loop in
+    let t = g .before .before .before .args .text .now in
+    let p = rw (d .narrow .ensures) at (c .before .before .put .ensures) in
+    let e = sym (d .before .before .before .goes-on .ensures) ∙ d .before .before .if1 .left in
+    let o = read-off t (b .i) (d .before .before .before .before .before .loop-test .taken) (width - 1) (b .s) e in
+    let r = read (width - 1) gap (drop (b .i + 1) t) in
+    let k = stored-length p r in
+    let u = rw (b .inv .2) at (stored-up p r) in (
+      omega arith,
+      omega (arith, p .up-to),
+      omega arith,
+      u ∙ rw (← o) (b .inv .3),
+      stored-on p r ∙ ap (sets (b .out) (b .n)) (sym o) ∙ b .inv .4,
+    )
+
+narrow-requires-2 : tie.Need-narrow-requires-2 Inv-loop μ-loop
+narrow-requires-2 c κs = search needs
+
+put-requires-2 : tie.Need-put-requires-2 Inv-loop μ-loop
+put-requires-2 c κs = search needs
+
+same-length : tie.Need-same-length Inv-loop μ-loop
+same-length c = search needs
+
+returns : tie.Need-returns Inv-loop μ-loop
+returns c =
+    let d = c .before .before .before in
+    let b = d .before .before .before .loop in
+    let t = d .before .before .before .before .before .before .args .text .now in
+    let p = rw (d .narrow2 .ensures) at (c .before .before .put2 .ensures) in
+    let o = read-end t (b .i) (d .before .before .loop-test .left) (width - 1) (b .s) in
+    record {
+      up-to = omega (arith, p .up-to, ap length o, b .inv .3);
+      holds = p .holds ∙ ap (sets (b .out) (b .n)) (sym o) ∙ b .inv .4;
+    }
+
+pub fill-spec : {M : Type 1} → statement M
+fill-spec =
+    tie.close
+    (tie.spec
+    Inv-loop
+    μ-loop
+    loop-holds
+    shared-slice-read-b
+    goes-on-requires
+    with-byte-requires
+    add-i
+    loop-less
+    loop-again
+    narrow-requires
+    put-requires
+    add-i-2
+    loop-less-2
+    loop-again-2
+    narrow-requires-2
+    put-requires-2
+    same-length
+    returns)

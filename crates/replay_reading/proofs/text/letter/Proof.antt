@@ -1,0 +1,18 @@
+-- `letter`. Past the end there is 0. Assumes nothing.
+use lib.ListN.{List·getD-eq-default}
+use mathlib.Core.Path.{sym}
+use borrow.Author.Needs.{needs}
+use Rattle.replay_reading.proofs.text.letter.Statement.{statement}
+use Rattle.replay_reading.proofs.text.letter.Tie as tie
+
+shared-slice-read-result : tie.Need-shared-slice-read-result
+shared-slice-read-result c = search needs
+
+returns : tie.Need-returns
+returns c = search needs
+
+returns-2 : tie.Need-returns-2
+returns-2 c = sym (List·getD-eq-default (c .before .args .line .now) 0 (c .if1 .left))
+
+pub letter-spec : {M : Type 1} → statement M
+letter-spec = tie.close (tie.spec shared-slice-read-result returns returns-2)

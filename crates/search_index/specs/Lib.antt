@@ -1,0 +1,4 @@
+pub mod Rows
+pub mod Hash
+pub mod Chain
+pub mod Index
