@@ -5,6 +5,7 @@ use listing::Index;
 use listing::inner;
 use listing::limit;
 use listing::refusal;
+use listing_membership::members;
 ghost use mathlib.Core.Path.{_≡_};
 ghost use Prim.Native.Nat.{_+_, _-_, _≤_, _<_};
 ghost use lib.ListN.{length, getD};
@@ -38,7 +39,7 @@ fn stands_at(
     if r == 0 {
         return true;
     }
-    listing_membership::contains(inner::side_of(ends, inc, here, x, 0), flag[r - 1])
+    members::contains(inner::side_of(ends, inc, here, x, 0), flag[r - 1])
 }
 
 // Whether the numbers are a flag: one existing index per rank, each a sub of the next.
@@ -87,7 +88,7 @@ fn other_among(short: &[Index], long: &[Index], e: u16) -> u16
         let x = short[i];
         if x == e {
             i += 1;
-        } else if listing_membership::ascending_contains(long, x) {
+        } else if members::ascending_contains(long, x) {
             return x;
         } else {
             i += 1;

@@ -14,7 +14,7 @@ use Rattle.order.proofs.Over.{over-first}
 use Rattle.order.proofs.Tests.{or-none}
 use Rattle.listing.specs.declared.Answer.{Answer}
 use Rattle.listing.specs.declared.Built.{Built}
-use Rattle.listing_outputs.specs.declared.Room.{Room}
+use Rattle.listing_outputs.specs.declared.outputs.Room.{Room}
 use Rattle.listing.specs.Refusals.{outputShort}
 use Rattle.listing.specs.Answers.{plain, fine, ifZero}
 use Rattle.listing.specs.Listing.{Listing, listing}

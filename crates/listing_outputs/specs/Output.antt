@@ -20,7 +20,7 @@ use lib.ListN.{length, take}
 use Rattle.order.specs.Lists.{over}
 use Rattle.listing.specs.declared.Answer.{Answer}
 use Rattle.listing.specs.declared.Built.{Built}
-use Rattle.listing_outputs.specs.declared.Room.{Room}
+use Rattle.listing_outputs.specs.declared.outputs.Room.{Room}
 use Rattle.listing.specs.Refusals.{outputShort}
 use Rattle.listing.specs.Answers.{plain, ifZero, on}
 use Rattle.listing.specs.Listing.{Listing, listing}

@@ -4,8 +4,10 @@ use listing::Built;
 use listing::Index;
 use listing::inner;
 use listing::refusal;
-use listing_outputs::Room;
+use listing_outputs::outputs;
+use listing_outputs::outputs::Room;
 use product_building::build;
+use product_factors::factors;
 use product_places::Poles;
 use product_sizes::sizes;
 use product_sizes::sizes::Totals;
@@ -94,7 +96,7 @@ fn put_nullitope(counts: &mut [Index], ends: &mut [Index], inc: &[Index]) -> Bui
     };
     let t = sizes::check_sizes(s, room);
     if t.no != 0 {
-        return listing_outputs::refused(t);
+        return outputs::refused(t);
     }
     counts[0] = 1;
     ends[0] = 0;
@@ -138,7 +140,7 @@ fn product(
     };
     let t = sizes::check_sizes(s, room);
     if t.no != 0 {
-        return listing_outputs::refused(t);
+        return outputs::refused(t);
     }
     let p = sizes::range(poles, pcounts);
     let q = sizes::range(poles, qcounts);
@@ -187,7 +189,7 @@ fn product_of_valid(
         return put_nullitope(&mut *counts, &mut *ends, &*inc);
     }
     if is_comb_of_point(min, max, p, q) {
-        return listing_outputs::refused(inner::plain(refusal::COMB_OF_POINT));
+        return outputs::refused(inner::plain(refusal::COMB_OF_POINT));
     }
     if min {
         return product(
@@ -238,9 +240,9 @@ pub fn make(
         (held (qcounts .entry) (qends .entry) (qinc .entry))
         (held (counts .entry) (ends .entry) (inc .entry)) (held (counts .exit) (ends .exit) (inc .exit)) r ⌝ }
 {
-    let t = product_factors::check_factors(pcounts, pends, pinc, qcounts, qends, qinc);
+    let t = factors::check_factors(pcounts, pends, pinc, qcounts, qends, qinc);
     if t.no != 0 {
-        return listing_outputs::refused(t);
+        return outputs::refused(t);
     }
     product_of_valid(
         min,

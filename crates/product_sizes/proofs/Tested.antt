@@ -9,7 +9,7 @@ use Rattle.listing.specs.Refusals.{productRanks, productElements, productIncide
 use Rattle.listing.specs.Answers.{plain, _orElse_}
 use Rattle.listing.specs.Listing.{Listing, Limits}
 use Rattle.listing.specs.Shape.{elements}
-use Rattle.listing_outputs.specs.declared.Room.{Room}
+use Rattle.listing_outputs.specs.declared.outputs.Room.{Room}
 use Rattle.listing_outputs.specs.Output.{shortTest}
 use Rattle.listing.proofs.Answers.{on-or-no}
 use Rattle.listing_outputs.proofs.Output.{room-fits}

@@ -21,7 +21,7 @@ use Rattle.listing.specs.Answers.{plain, on, _orElse_}
 use Rattle.listing.specs.Listing.{Listing, Limits, limits, rank}
 use Rattle.listing.specs.Shape.{elements}
 use Rattle.listing.specs.Layers.{Layers}
-use Rattle.listing_outputs.specs.declared.Room.{Room}
+use Rattle.listing_outputs.specs.declared.outputs.Room.{Room}
 use Rattle.listing_outputs.specs.Output.{shortTest, roomTest}
 use Rattle.valid.specs.Tests.{isValid}
 use Rattle.product_pairs.specs.Trimmed.{bit}

@@ -4,7 +4,8 @@ use listing::Index;
 use listing::inner;
 use listing::limit;
 use listing::refusal;
-use listing_outputs::Room;
+use listing_outputs::outputs;
+use listing_outputs::outputs::Room;
 use product_places::Poles;
 use product_places::block;
 ghost use mathlib.Core.Path.{_≡_};
@@ -138,5 +139,5 @@ pub fn check_sizes(s: Totals, room: Room) -> Answer
         ends: two_each,
         inc: s.incidences,
     };
-    listing_outputs::check_room(need, room)
+    outputs::check_room(need, room)
 }

@@ -4,6 +4,7 @@ use listing::Element;
 use listing::Index;
 use listing::inner;
 use listing::refusal;
+use listing_membership::members;
 ghost use mathlib.Core.Path.{_≡_};
 ghost use mathlib.Core.List.{List, _∷_};
 ghost use Prim.Native.Nat.{ℕ, _<_};
@@ -38,10 +39,7 @@ fn check_entry(ends: &[Index], inc: &[Index], way: Way, of: Element, x: Index) -
     ensures { λ a. ⌜ a ≡ entryTest (now (ends .entry)) (now (inc .entry)) way (of .rank) (of .index) x ⌝ }
 {
     if x < way.size {
-        if listing_membership::contains(
-            inner::side_of(ends, inc, way.place, x, way.side),
-            of.index,
-        ) {
+        if members::contains(inner::side_of(ends, inc, way.place, x, way.side), of.index) {
             inner::plain(0)
         } else {
             Answer {

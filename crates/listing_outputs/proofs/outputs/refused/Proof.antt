@@ -2,8 +2,8 @@
 -- Assumes nothing.
 use mathlib.Core.Path.{sym}
 use Rattle.listing_outputs.proofs.Output.{built-refused}
-use Rattle.listing_outputs.proofs.refused.Statement.{statement}
-use Rattle.listing_outputs.proofs.refused.Tie as tie
+use Rattle.listing_outputs.proofs.outputs.refused.Statement.{statement}
+use Rattle.listing_outputs.proofs.outputs.refused.Tie as tie
 
 returns : tie.Need-returns
 returns c = λ R h. sym (built-refused _ R h)

@@ -4,8 +4,8 @@ use mathlib.Core.Path.{sym, _∙_}
 use native.Mathlib.Omega.{arith}
 use borrow.Author.Needs.{needs}
 use Rattle.listing_outputs.proofs.Output.{short-counts, short-ends, short-inc, room-fine}
-use Rattle.listing_outputs.proofs.check_room.Statement.{statement}
-use Rattle.listing_outputs.proofs.check_room.Tie as tie
+use Rattle.listing_outputs.proofs.outputs.check_room.Statement.{statement}
+use Rattle.listing_outputs.proofs.outputs.check_room.Tie as tie
 
 plain-requires : tie.Need-plain-requires
 plain-requires c κs = search needs

@@ -9,8 +9,8 @@ use borrow.Author.Needs.{needs}
 use lib.ListN.{length}
 use Rattle.order.specs.Lists.{Ascending}
 use Rattle.order.proofs.Positions.{has-at, OnlyFrom, only-all, only-none, only-above, only-below}
-use Rattle.listing_membership.proofs.found_by_halving.Statement.{statement}
-use Rattle.listing_membership.proofs.found_by_halving.Tie as tie
+use Rattle.listing_membership.proofs.members.found_by_halving.Statement.{statement}
+use Rattle.listing_membership.proofs.members.found_by_halving.Tie as tie
 
 abbrev Inv-loop : tie.InvT-loop
 Inv-loop list x low₀ high₀ low high = (high ≤ length list) × (Ascending list → OnlyFrom list x low high)

@@ -7,8 +7,8 @@ use borrow.Author.Tests.{eq-eqb, ne-eqb}
 use lib.ListN.{length, drop}
 use Rattle.order.specs.Lists.{has}
 use Rattle.order.proofs.Positions.{has-step, has-end}
-use Rattle.listing_membership.proofs.found_by_scanning.Statement.{statement}
-use Rattle.listing_membership.proofs.found_by_scanning.Tie as tie
+use Rattle.listing_membership.proofs.members.found_by_scanning.Statement.{statement}
+use Rattle.listing_membership.proofs.members.found_by_scanning.Tie as tie
 
 abbrev Inv-loop : tie.InvT-loop
 Inv-loop list x j₀ j = has list x ≡ has (drop j list) x

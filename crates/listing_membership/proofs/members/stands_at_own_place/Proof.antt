@@ -5,8 +5,8 @@ use mathlib.Core.Bool.{true≢false}
 use borrow.Author.Needs.{needs}
 use borrow.Author.Tests.{eqb-true}
 use Rattle.order.proofs.Positions.{has-at}
-use Rattle.listing_membership.proofs.stands_at_own_place.Statement.{statement}
-use Rattle.listing_membership.proofs.stands_at_own_place.Tie as tie
+use Rattle.listing_membership.proofs.members.stands_at_own_place.Statement.{statement}
+use Rattle.listing_membership.proofs.members.stands_at_own_place.Tie as tie
 
 wide-requires : tie.Need-wide-requires
 wide-requires c κs = search needs
