@@ -21,7 +21,7 @@ use Rattle.product_sizes.specs.Sizing.{sizeTest}
 use Rattle.product_factors.specs.Factors.{factorsTest}
 use Rattle.product.specs.Outcome.{restTest, productTest, Outcome}
 use Rattle.product_sizes.proofs.Tested.{Passed, sizes-passed}
-use Rattle.product_factors.proofs.Factors.{factors-valid}
+use Rattle.product_factors.proofs.FactorTests.{factors-valid}
 
 -- ---- which test decides
 

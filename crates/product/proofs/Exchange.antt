@@ -17,7 +17,7 @@ use Rattle.product_closure.proofs.Valid.{valid-sound}
 use Rattle.product_closure.proofs.Exchanged.{SameSizes, comb-exchanged, result-exchanged}
 use Rattle.product_sizes.specs.Sizing.{sizeTest}
 use Rattle.product.specs.Outcome.{restTest, productTest, Outcome}
-use Rattle.product_factors.proofs.Factors.{factors-fine}
+use Rattle.product_factors.proofs.FactorTests.{factors-fine}
 use Rattle.product.proofs.Chain.{rest-decides}
 
 -- ---- listings of the same sizes

@@ -1,3 +1,9 @@
+pub mod PlanFactors
+pub mod PlanTargets
+pub mod PlanLists
+pub mod PlanIndices
+pub mod PlanPast
+pub mod Planned
 pub mod Made
 pub mod Chain
 pub mod Answered

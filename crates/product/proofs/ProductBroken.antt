@@ -9,7 +9,7 @@ use Rattle.listing.specs.Shape.{elements}
 use Rattle.listing.specs.Rules.{FirstBroken}
 use Rattle.listing.proofs.Broken.{broken-last, broken-step, tests-on, tests-over}
 use Rattle.listing_outputs.proofs.Output.{room-tested}
-use Rattle.product_factors.proofs.Factors.{factors-broken}
+use Rattle.product_factors.proofs.FactorTests.{factors-broken}
 use Rattle.product_closure.specs.Result.{combCase, resultOf}
 use Rattle.product_sizes.specs.Sizing.{sizeTest}
 use Rattle.product.specs.Outcome.{restTest, productTest}

@@ -1,1 +1,1 @@
-pub mod Factors
+pub mod FactorTests

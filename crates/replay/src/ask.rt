@@ -129,33 +129,64 @@ fn on_cell(line: &[u8], counts: &[Index], ends: &[Index], inc: &[Index], flag: &
     cell::test(text::letter(line, 3), counts, ends, inc);
 }
 
+// A question with a second factor, whose last list is read here. Each list is read into room of its own and lent on:
+// a function with many arrays is slow to check.
+fn last_of_factors(
+    line: &[u8],
+    pcounts: &[Index],
+    pends: &[Index],
+    pinc: &[Index],
+    qcounts: &[Index],
+    qends: &[Index],
+) {
+    let mut qinc = room::many();
+    let n = text::list(line, 5, &mut qinc);
+    on_factors(line, pcounts, pends, pinc, qcounts, qends, &qinc[..n]);
+}
+
+// The same, one list before.
+fn ends_of_factors(
+    line: &[u8],
+    pcounts: &[Index],
+    pends: &[Index],
+    pinc: &[Index],
+    qcounts: &[Index],
+) {
+    let mut qends = room::some();
+    let n = text::list(line, 4, &mut qends);
+    last_of_factors(line, pcounts, pends, pinc, qcounts, &qends[..n]);
+}
+
+// A cell, and then a flag or the counts of the second factor.
+fn more(line: &[u8], counts: &[Index], ends: &[Index], inc: &[Index]) {
+    let mut list = room::few();
+    let n = text::list(line, 3, &mut list);
+    if is_product(line) {
+        ends_of_factors(line, counts, ends, inc, &list[..n]);
+    } else {
+        on_cell(line, counts, ends, inc, &list[..n]);
+    }
+}
+
+// The incidences of a cell, and what comes after them.
+fn incidences(line: &[u8], counts: &[Index], ends: &[Index]) {
+    let mut inc = room::many();
+    let n = text::list(line, 2, &mut inc);
+    more(line, counts, ends, &inc[..n]);
+}
+
+// The ends of a cell, and what comes after them.
+fn ends(line: &[u8], counts: &[Index]) {
+    let mut ends = room::some();
+    let n = text::list(line, 1, &mut ends);
+    incidences(line, counts, &ends[..n]);
+}
+
 // A question with lists: a cell, and then a flag or the second factor. Lists that the line lacks are empty.
 fn lists(line: &[u8]) {
     let mut counts = room::few();
-    let mut ends = room::some();
-    let mut inc = room::many();
-    let mut more = room::few();
-    let mut more_ends = room::some();
-    let mut more_inc = room::many();
-    let c = text::list(line, 0, &mut counts);
-    let e = text::list(line, 1, &mut ends);
-    let i = text::list(line, 2, &mut inc);
-    let m = text::list(line, 3, &mut more);
-    if is_product(line) {
-        let f = text::list(line, 4, &mut more_ends);
-        let j = text::list(line, 5, &mut more_inc);
-        on_factors(
-            line,
-            &counts[..c],
-            &ends[..e],
-            &inc[..i],
-            &more[..m],
-            &more_ends[..f],
-            &more_inc[..j],
-        );
-    } else {
-        on_cell(line, &counts[..c], &ends[..e], &inc[..i], &more[..m]);
-    }
+    let n = text::list(line, 0, &mut counts);
+    ends(line, &counts[..n]);
 }
 
 // Any question: class, sign, next_event, or one with lists.

@@ -4,7 +4,7 @@ use mathlib.Core.Path.{refl, _∙_}
 use borrow.Author.Needs.{needs}
 use Rattle.listing.proofs.Answers.{no-of, stops}
 use Rattle.product.proofs.Chain.{factors-decide, rest-decides, made-outcome}
-use Rattle.product_factors.proofs.Factors.{factors-valid}
+use Rattle.product_factors.proofs.FactorTests.{factors-valid}
 use Rattle.listing_outputs.proofs.Output.{made-refused}
 use Rattle.product.proofs.make.make.Statement.{statement}
 use Rattle.product.proofs.make.make.Tie as tie

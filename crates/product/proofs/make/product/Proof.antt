@@ -11,7 +11,7 @@ use Rattle.product_places.specs.declared.Poles.{Poles}
 use Rattle.product_sizes.specs.Sizing.{sizeTest}
 use Rattle.product_sizes.specs.Sizing.{Measures}
 use Rattle.product_sizes.proofs.Extents.{measured-by}
-use Rattle.product_plan.proofs.Planned.{built-is, build-asked}
+use Rattle.product.proofs.Planned.{built-is, build-asked}
 use Rattle.product_sizes.proofs.Parts.{usable-shaped, usable-high}
 use Rattle.product_sizes.proofs.Tested.{listing-tested, Passed, sizes-passed}
 use Rattle.listing_outputs.proofs.Output.{made-refused, made-written}

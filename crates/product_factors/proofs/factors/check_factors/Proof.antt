@@ -3,7 +3,7 @@
 use mathlib.Core.Path.{sym, _∙_}
 use borrow.Author.Needs.{needs}
 use Rattle.listing.proofs.Answers.{no-of, stops}
-use Rattle.product_factors.proofs.Factors.{factors-left, factors-right, factors-fine}
+use Rattle.product_factors.proofs.FactorTests.{factors-left, factors-right, factors-fine}
 use Rattle.product_factors.proofs.factors.check_factors.Statement.{statement}
 use Rattle.product_factors.proofs.factors.check_factors.Tie as tie
 

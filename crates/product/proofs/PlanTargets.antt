@@ -23,7 +23,7 @@ use Rattle.product_closure.proofs.Alike.{Alike, alike-derived, alike-exists}
 use Rattle.product_closure.proofs.Valid.{valid-sound}
 use Rattle.product_element.specs.Pairs.{factorLayers, target}
 use Rattle.product_sizes.specs.Sizing.{Usable}
-use Rattle.product_plan.proofs.Factors.{factorOf, factor-alike}
+use Rattle.product.proofs.PlanFactors.{factorOf, factor-alike}
 
 -- layers with other lists
 abbrev listing-of : Layers → (ℕ → ℕ → List ℕ) → Layers

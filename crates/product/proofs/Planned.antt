@@ -17,7 +17,7 @@ use Rattle.listing.proofs.Written.{joined-length, written-elements, written-end
 use Rattle.product_pairs.specs.Product.{productOf}
 use Rattle.product_places.specs.declared.Poles.{Poles}
 use Rattle.listing_sups.specs.Filling.{starts}
-use Rattle.product_plan.proofs.Factors.{factorOf}
+use Rattle.product.proofs.PlanFactors.{factorOf}
 use Rattle.product_element.specs.Pairs.{target, listsOf, sizeOf, Plan}
 use Rattle.product_building.specs.Built.{productListing}
 use Rattle.product_writing.proofs.Target.{target-size, target-topped}
@@ -25,10 +25,10 @@ use Rattle.product_sizes.specs.Sizing.{Usable, countsInUse}
 use Rattle.product_sizes.proofs.Parts.{usable-shaped, in-use-length}
 use Rattle.product_sizes.proofs.Tested.{Passed}
 use Rattle.product_sizes.proofs.Extents.{in-use-few}
-use Rattle.product_plan.proofs.Targets.{target-written, target-sound, factor-sound}
-use Rattle.product_plan.proofs.Lists.{pair-under, pair-over}
-use Rattle.product_plan.proofs.Entries.{all-few}
-use Rattle.product_plan.proofs.Past.{highest-past}
+use Rattle.product.proofs.PlanTargets.{target-written, target-sound, factor-sound}
+use Rattle.product.proofs.PlanLists.{pair-under, pair-over}
+use Rattle.product.proofs.PlanIndices.{all-few}
+use Rattle.product.proofs.PlanPast.{highest-past}
 
 module _ (min max : Bool) (A B : Listing) (uA : Usable min max A) (uB : Usable min max B) where
   abbrev P : Listing

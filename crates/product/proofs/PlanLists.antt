@@ -32,7 +32,7 @@ use Rattle.product_pairs.proofs.GrownLengths.{grown-sups, grown-max-sups}
 use Rattle.product_places.specs.Places.{pairsTo, offsetIn, pairNumber, subsOf}
 use Rattle.product_element.specs.Pairs.{subsInUse, factorLayers, target, listsOf, pairShift, underPair, overPair}
 use Rattle.product_writing.proofs.Target.{factor-topped}
-use Rattle.product_plan.proofs.Factors.{factor-derived}
+use Rattle.product.proofs.PlanFactors.{factor-derived}
 
 -- where no rank is higher there is nothing over an element
 none-over : (min : Bool) (P : Listing) (i a : ℕ) → factorLayers min P .top ≤ i

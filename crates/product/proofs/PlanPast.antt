@@ -27,8 +27,8 @@ use Rattle.product_element.specs.Pairs.{subsInUse, factorLayers, target}
 use Rattle.product_sizes.specs.Sizing.{Usable, countsInUse}
 use Rattle.product_sizes.proofs.Parts.{usable-shaped, usable-bounded, usable-high}
 use Rattle.product_sizes.proofs.Parts.{in-use-length, in-use-at, in-use-before}
-use Rattle.product_plan.proofs.Factors.{factorOf, subs-above}
-use Rattle.product_plan.proofs.Entries.{place-past, exists-few}
+use Rattle.product.proofs.PlanFactors.{factorOf, subs-above}
+use Rattle.product.proofs.PlanIndices.{place-past, exists-few}
 
 entries-past : (ends inc : List ℕ) (k : ℕ) → length ends ≤ k → entries ends inc k ≡ []
 unfolding entries

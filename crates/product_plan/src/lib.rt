@@ -1,1 +1,0 @@
-// Theory: the sizes of a product are a plan of it, which is what the builder asks for.
