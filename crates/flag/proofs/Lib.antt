@@ -1,3 +1,4 @@
 pub mod ChangeAnswers
 pub mod ChangeTwice
 pub mod ChangeBroken
+pub mod FlippedByte

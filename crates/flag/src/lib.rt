@@ -1,4 +1,6 @@
 // Flags: chains of elements from the lowest rank to the highest. Here are the change of a flag and its orientation.
+pub mod parity;
+
 use flag_change::chain;
 use listing::Answer;
 use listing::Index;

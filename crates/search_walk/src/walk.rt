@@ -1,6 +1,6 @@
 // The search on a listing that is known to be closed: flags are kept in the table in the order found, and worked in
 // that order.
-use flag::Orientation;
+use flag::parity;
 use flag_change::chain;
 use listing::Index;
 use listing::inner;
@@ -25,13 +25,6 @@ ghost use Rattle.search_store.specs.Held.{stateOf, Held, Moved};
 ghost use Rattle.search_masks.specs.Masks.{InnerRanks};
 ghost use Rattle.search_walk.specs.Searched.{maskChanges, foundBy};
 ghost use Rattle.search_walk.specs.Ready.{Ended, Places, Ready, Walks, AtHand};
-
-// The byte of the other orientation.
-fn flipped(byte: u8) -> u8
-    ensures { λ b. ⌜ b ≡ 1 - byte ⌝ }
-{
-    Orientation::of_byte(byte).flip().byte()
-}
 
 // The places where the ranks begin.
 fn places_of(counts: &[Index]) -> [usize; limit::RANKS]
@@ -129,7 +122,7 @@ fn work(
     let mut flag: [Index; limit::RANKS] = [0; limit::RANKS];
     row::get_row(&*table, at, w, &mut flag);
     let sum = index::sum_of(&flag, w, weights);
-    let byte = flipped(bytes[at]);
+    let byte = parity::flipped(bytes[at]);
     let mut left = mask;
     let mut s = start;
     while mask::any_left(left) {

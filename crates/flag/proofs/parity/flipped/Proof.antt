@@ -1,9 +1,9 @@
 -- The byte of the flipped orientation of a byte is 1 for 0, and 0 for any other. No loop.
 -- Assumes nothing.
 use borrow.Author.Needs.{needs}
-use Rattle.search_walk.proofs.Begins.{flip-byte}
-use Rattle.search_walk.proofs.walk.flipped.Statement.{statement}
-use Rattle.search_walk.proofs.walk.flipped.Tie as tie
+use Rattle.flag.proofs.FlippedByte.{flip-byte}
+use Rattle.flag.proofs.parity.flipped.Statement.{statement}
+use Rattle.flag.proofs.parity.flipped.Tie as tie
 
 of-byte-requires : tie.Need-of-byte-requires
 of-byte-requires c κs = search needs
