@@ -1,5 +1,5 @@
--- The four counts: refused for no ranks, which is the one rule that they have, and else the number asked for; the facets
--- where the rank less one wraps.
+-- The four counts: refused for no ranks, which is the one rule that they have, and else the number asked for; the
+-- facets where the rank less one wraps.
 -- Assumes nothing.
 use mathlib.Core.Path.{_≡_, refl, sym, ap, _∙_}
 use mathlib.Core.Logic.{inl, inr}
