@@ -2,6 +2,8 @@
 // are empty or begin with '#' come back as they are. The lines expected are answers of the Rust program, and answers
 // by the rules where the Rust has none.
 mod ask;
+mod cell;
+mod flags;
 
 use libc::STDOUT_FILENO;
 use replay_reading::text;

@@ -1,4 +1,5 @@
 // Answers as text. A list of more than 300 numbers is given by its length, its sum and its check number.
+use crate::room::BYTES;
 use libc::STDOUT_FILENO;
 use listing::Answer;
 use listing::Index;
@@ -18,12 +19,6 @@ const LONGEST: usize = 300;
 const FACTOR: u64 = 257;
 
 const MODULUS: u64 = 4294967291;
-
-// How many more numbers an array has than its limit.
-pub const SPARE: usize = 16;
-
-// Lists of bytes are written up to this length: a little more than a search has flags.
-pub const BYTES: usize = limit::FLAGS + SPARE;
 
 // A number after a space.
 pub fn number(n: u64) {
@@ -131,7 +126,7 @@ fn widen(list: &[u8], out: &mut [Index]) -> usize
     i
 }
 
-// Room for the bytes of a list as wider numbers.
+// Room for the bytes of a list as wider numbers: of a list as long as the longest that is lent.
 fn room() -> [Index; BYTES]
     ensures { λ r. ⌜ limits .flags + spare ≡ length r ⌝ }
 {

@@ -2,27 +2,31 @@
 // them is lent. Each contract fixes what is returned, and then gives the length, which lending an array needs.
 use listing::Index;
 use listing::limit;
-use replay_saying::say;
 ghost use mathlib.Core.Path.{_≡_};
 ghost use Prim.Native.Nat.{_+_, _-_, _*_, min};
 ghost use lib.ListN.{length, replicate};
 ghost use Rattle.io.specs.Counts.{Counts};
 ghost use Rattle.listing.specs.Listing.{width, limits};
 ghost use Rattle.replay_saying.specs.Room.{spare};
 
 // What the arrays are full of: numbers that no product or search writes.
 const FULL: Index = 65535;
 
 const FULL_BYTE: u8 = 255;
 
+// How many more numbers an array has than its limit.
+const SPARE: usize = 16;
+
 // How long they are.
-const FEW: usize = limit::RANKS + say::SPARE;
+const FEW: usize = limit::RANKS + SPARE;
 
-const SOME: usize = 2 * limit::ELEMENTS + say::SPARE;
+const SOME: usize = 2 * limit::ELEMENTS + SPARE;
 
-const MANY: usize = limit::INCIDENCES + say::SPARE;
+const MANY: usize = limit::INCIDENCES + SPARE;
 
-const TABLE: usize = limit::RANKS * (limit::FLAGS + say::SPARE);
+const TABLE: usize = limit::RANKS * (limit::FLAGS + SPARE);
+
+pub const BYTES: usize = limit::FLAGS + SPARE;
 
 // Room for counts, or for a flag.
 pub fn few() -> [Index; FEW]
@@ -57,11 +61,11 @@ pub fn table() -> [Index; TABLE]
 }
 
 // Room for orientations.
-pub fn orientations() -> [u8; say::BYTES]
+pub fn orientations() -> [u8; BYTES]
     ensures { λ r. ⌜ r ≡ replicate (limits .flags + spare) 255 ⌝ }
     ensures { λ r. ⌜ limits .flags + spare ≡ length r ⌝ }
 {
-    [FULL_BYTE; say::BYTES]
+    [FULL_BYTE; BYTES]
 }
 
 // So many numbers of a slice, or all if it has fewer.

@@ -2,8 +2,8 @@
 -- Assumes nothing.
 use borrow.Author.Needs.{needs}
 use Prim.Native.Nat.{_-_, _≤_}
-use Rattle.replay_asking.proofs.flags.told.Statement.{statement}
-use Rattle.replay_asking.proofs.flags.told.Tie as tie
+use Rattle.replay.proofs.flags.told.Statement.{statement}
+use Rattle.replay.proofs.flags.told.Tie as tie
 
 abbrev Inv-loop : tie.InvT-loop
 Inv-loop count place table odd w at₀ end at = at ≤ end

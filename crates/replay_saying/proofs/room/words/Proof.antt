@@ -1,8 +1,8 @@
 -- `words`. A number up to the length counts a start of the slice. Assumes nothing.
 use Rattle.replay_saying.proofs.Counting.{counted}
 use borrow.Author.Needs.{needs}
-use Rattle.replay_asking.proofs.room.words.Statement.{statement}
-use Rattle.replay_asking.proofs.room.words.Tie as tie
+use Rattle.replay_saying.proofs.room.words.Statement.{statement}
+use Rattle.replay_saying.proofs.room.words.Tie as tie
 
 returns : tie.Need-returns
 returns c = (search needs, counted _ _ (search needs))

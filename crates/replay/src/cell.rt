@@ -2,6 +2,7 @@
 use listing::Answer;
 use listing::Index;
 use listing::Number;
+use replay_reading::text;
 use replay_saying::say;
 
 // The four counts by the fourth letter: rank, vertex_count, facet_count, el_count.
@@ -15,8 +16,9 @@ fn count_of(letter: u8, counts: &[Index], r: usize) -> Number {
 }
 
 // A count.
-pub fn count(letter: u8, counts: &[Index], r: usize) {
-    say::count(count_of(letter, counts, r));
+pub fn count(line: &[u8], counts: &[Index]) {
+    let r = text::plain(line, 0) as usize;
+    say::count(count_of(text::letter(line, 3), counts, r));
 }
 
 // The tests by the fourth letter: bounded, check_incidences, is_dyadic, closed, is_valid.
@@ -31,11 +33,12 @@ fn answer_of(letter: u8, counts: &[Index], ends: &[Index], inc: &[Index]) -> Ans
 }
 
 // A test.
-pub fn test(letter: u8, counts: &[Index], ends: &[Index], inc: &[Index]) {
-    say::answer(answer_of(letter, counts, ends, inc));
+pub fn test(line: &[u8], counts: &[Index], ends: &[Index], inc: &[Index]) {
+    say::answer(answer_of(text::letter(line, 3), counts, ends, inc));
 }
 
 // The class of a refusal's number.
-pub fn class(no: u16) {
-    say::number(listing_shape::band_number(listing_shape::class(no)) as u64);
+pub fn class(line: &[u8]) {
+    let band = listing_shape::class(text::narrow(text::plain(line, 0)));
+    say::number(listing_shape::band_number(band) as u64);
 }

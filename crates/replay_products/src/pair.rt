@@ -1,8 +1,22 @@
 // Questions on products.
-use crate::room;
 use listing::Built;
 use listing::Index;
+use replay_reading::text;
+use replay_saying::room;
 use replay_saying::say;
+
+// Whether the line asks for a product and what the tests say of it: it begins with the word 'tested'.
+fn is_tested(line: &[u8]) -> bool {
+    text::letter(line, 0) == b't'
+}
+
+// The fifth letter of a product's name.
+fn letter_of(line: &[u8]) -> u8 {
+    if is_tested(line) {
+        return text::letter(line, 11);
+    }
+    text::letter(line, 4)
+}
 
 // Whether minimal elements are left out, by the fifth letter: of the duoprism and the duocomb.
 fn leaves_min(letter: u8) -> bool {
@@ -42,10 +56,11 @@ fn lists(counts: &[Index], ends: &[Index], inc: &[Index]) {
     say::list(inc);
 }
 
-// What a product left in its slices: all of it or, where it is to be tested, what the tests say of what it wrote; of a
-// refused one nothing then.
-fn left(tested: bool, b: Built, counts: &[Index], ends: &[Index], inc: &[Index]) {
-    if !tested {
+// What a product answered and left in its slices: all of it or, where it is to be tested, what the tests say of what it
+// wrote; of a refused one nothing then.
+fn left(line: &[u8], b: Built, counts: &[Index], ends: &[Index], inc: &[Index]) {
+    built(b);
+    if !is_tested(line) {
         lists(counts, ends, inc);
         return;
     }
@@ -57,10 +72,9 @@ fn left(tested: bool, b: Built, counts: &[Index], ends: &[Index], inc: &[Index])
     }
 }
 
-// The product that the letter stands for, and what it left in the slices lent.
+// The product that the line asks for, and what it left in the slices lent.
 fn product_in(
-    letter: u8,
-    tested: bool,
+    line: &[u8],
     pcounts: &[Index],
     pends: &[Index],
     pinc: &[Index],
@@ -71,6 +85,7 @@ fn product_in(
     ends: &mut [Index],
     inc: &mut [Index],
 ) {
+    let letter = letter_of(line);
     let b = product::make::make(
         leaves_min(letter),
         leaves_max(letter),
@@ -84,33 +99,27 @@ fn product_in(
         &mut *ends,
         &mut *inc,
     );
-    built(b);
-    left(tested, b, counts, ends, inc);
+    left(line, b, counts, ends, inc);
 }
 
-// The product that the letter stands for, with room of these lengths, as far as there is so much.
+// The product that the line asks for, with room of the lengths that it asks for, as far as there is so much.
 pub fn product(
-    letter: u8,
-    tested: bool,
+    line: &[u8],
     pcounts: &[Index],
     pends: &[Index],
     pinc: &[Index],
     qcounts: &[Index],
     qends: &[Index],
     qinc: &[Index],
-    clength: u64,
-    elength: u64,
-    ilength: u64,
 ) {
     let mut counts = room::few();
     let mut ends = room::some();
     let mut inc = room::many();
-    let c = room::words(clength, &counts);
-    let e = room::words(elength, &ends);
-    let i = room::words(ilength, &inc);
+    let c = room::words(text::plain(line, 0) as u64, &counts);
+    let e = room::words(text::plain(line, 1) as u64, &ends);
+    let i = room::words(text::plain(line, 2) as u64, &inc);
     product_in(
-        letter,
-        tested,
+        line,
         pcounts,
         pends,
         pinc,
