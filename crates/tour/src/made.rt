@@ -1,12 +1,12 @@
 // Cells that are made as products of others.
 use crate::row;
 use crate::slice;
+use crate::table;
+use crate::table::Name;
 use listing::Built;
 use listing::Index;
 use listing::limit;
 use product::make;
-use tour_words::table;
-use tour_words::table::Name;
 
 // So many elements and incidences there is room for: more than any product of the tour has.
 const ELEMENTS: usize = 64;

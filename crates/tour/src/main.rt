@@ -3,6 +3,7 @@ mod made;
 mod names;
 mod row;
 mod slice;
+mod table;
 
 use listing::Index;
 use tour_cells::dyad;

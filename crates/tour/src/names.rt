@@ -1,5 +1,5 @@
 // The names of the rows, each as wide as its column. They are passed by value: a text that is lent is slower to check.
-use tour_words::table::Name;
+use crate::table::Name;
 
 // Boxes.
 pub const BOX: Name = *b"box                           ";

@@ -1,10 +1,10 @@
 // A row of the table: what the tests and the search say of one cell.
 use crate::slice;
+use crate::table;
+use crate::table::Name;
 use listing::Index;
 use listing::limit;
 use search::Searched;
-use tour_words::table;
-use tour_words::table::Name;
 
 // So many flags there is room for: more than any cell of the tour has.
 const FLAGS: usize = 256;

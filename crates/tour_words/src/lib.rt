@@ -2,9 +2,9 @@
 // function here prints, and returns nothing.
 mod element;
 pub mod print;
-pub mod table;
 
 use listing::Answer;
+use listing::Index;
 use listing::refusal;
 use print::number;
 use print::text;
@@ -118,4 +118,9 @@ pub fn answer(a: Answer, top: usize) {
         number(a.no);
         text(b")");
     }
+}
+
+// What a test says of a listing with these counts.
+pub fn verdict(a: Answer, counts: &[Index]) {
+    answer(a, listing_shape::rank(counts).value);
 }

@@ -1,11 +1,11 @@
 // A table of cells, a row for each: its name, its elements by rank, is_valid, flags, orientable, closed.
-use crate::print::blank;
-use crate::print::end;
-use crate::print::number;
-use crate::print::text;
 use listing::Answer;
 use listing::Index;
 use listing::inner;
+use tour_words::print::blank;
+use tour_words::print::end;
+use tour_words::print::number;
+use tour_words::print::text;
 
 // The name of a row, as wide as its column.
 pub type Name = [u8; 30];
@@ -66,7 +66,7 @@ pub fn row(name: Name, counts: &[Index], verdict: u16, count: u16, orientable: u
     elements(counts);
     valid(verdict);
     flags(count, orientable);
-    crate::answer(closed, listing_shape::rank(counts).value);
+    tour_words::verdict(closed, counts);
     end();
 }
 
@@ -74,6 +74,6 @@ pub fn row(name: Name, counts: &[Index], verdict: u16, count: u16, orientable: u
 pub fn refused(name: Name, a: Answer) {
     text(&name);
     text(b"  -              -             -  -           ");
-    crate::answer(a, 0);
+    tour_words::answer(a, 0);
     end();
 }
