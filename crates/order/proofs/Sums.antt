@@ -19,6 +19,10 @@ unfolding choose
 choose-no (yes p) a b h = absurd (h p)
 choose-no (no p) a b h = refl
 
+-- what a turn of a loop leaves: the number after one that is below n is at most n
+pub next-le : (a n : ℕ) → a < n → a + 1 ≤ n
+next-le a n h = omega (arith, h)
+
 pub sum-none : (f : ℕ → ℕ) → sum f 0 ≡ 0
 unfolding sum
 sum-none f = refl

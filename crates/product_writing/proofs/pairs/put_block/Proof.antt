@@ -1,11 +1,13 @@
 -- `put_block`. Invariant: the pairs of the first a elements of the block's first rank are written. Measure: the
 -- elements left.
 -- Assumes nothing.
+use mathlib.Core.List.{List}
 use mathlib.Core.Path.{_≡_, refl, sym, _∙_}
-use Prim.Native.Nat.{_-_, _≤_}
+use Prim.Native.Nat.{ℕ, _+_, _-_, _≤_}
 use native.Mathlib.Omega.{arith}
 use lib.ListN.{getD}
 use borrow.Author.Needs.{needs}
+use Rattle.order.proofs.Sums.{next-le}
 use Rattle.listing.specs.Listing.{listing}
 use Rattle.listing_sups.specs.Filling.{Put}
 use Rattle.listing_sups.proofs.Laying.{put-none, put-then}
@@ -41,6 +43,17 @@ turn c = c .before .before .before
 
 abbrev called : tie.After-slice-known4 Inv-loop μ-loop → tie.After-put-pairs-of-arg2 Inv-loop μ-loop
 called c = c .before .before .before .before .before
+
+-- the product's lists, and the number of the first pair of the block's element a; written out, since terms that the
+-- prover finds by itself are slow to check
+abbrev lists : tie.Start Inv-loop μ-loop → ℕ → List ℕ
+lists s =
+    let a = s .args in
+    productLists (a .poles) (listing (a .p .now) (a .pends .now) (a .pinc .now))
+    (listing (a .q .now) (a .qends .now) (a .qinc .now))
+
+abbrev number : tie.Start Inv-loop μ-loop → ℕ → ℕ
+number s a = inBlock (s .args .poles) (s .args .p .now) (s .args .q .now) (s .args .block) a 0
 
 returns : tie.Need-returns Inv-loop μ-loop
 returns c =
@@ -82,9 +95,15 @@ loop-less c = search needs
 
 loop-again : tie.Need-loop-again Inv-loop μ-loop
 loop-again c =
-    let v = turn (called c) .loop .inv in
-    let w = c .before .before .before .before .put-pairs-of .ensures in
-    (omega arith, v .1, put-then _ _ _ _ _ _ _ _ _ _ _ _ (v .2) w)
+    let d = turn (called c) in
+    let s = begun (asked d) in
+    let a = d .loop .a in
+    let v = d .loop .inv in
+    let w = c .before .before .before .before .put-pairs-of .ensures in (
+      next-le _ _ (called c .before .before .loop-test .taken),
+      v .1,
+      put-then (lists s) (number s 0) (number s a) (number s (a + 1)) _ _ _ _ _ _ _ _ (v .2) w,
+    )
 
 same-length : tie.Need-same-length Inv-loop μ-loop
 same-length c = c .before .loop .inv .2 .ends-length

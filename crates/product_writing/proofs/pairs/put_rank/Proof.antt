@@ -36,11 +36,15 @@ turn c = c .before .before .before
 abbrev called : tie.After-slice-known4 Inv-loop μ-loop → tie.After-put-block-arg2 Inv-loop μ-loop
 called c = c .before .before .before .before .before
 
+-- the product's lists, and the number of the first pair whose first member is of rank i
 abbrev lists : tie.Start Inv-loop μ-loop → ℕ → List ℕ
 lists s =
     let a = s .args in
     productLists (a .poles) (listing (a .p .now) (a .pends .now) (a .pinc .now))
     (listing (a .q .now) (a .qends .now) (a .qinc .now))
+
+abbrev number : tie.Start Inv-loop μ-loop → ℕ → ℕ
+number s i = firstAt (s .args .poles .min) (s .args .p .now) (s .args .q .now) (s .args .rank) i
 
 -- the ranks of a block make the rank
 whole : (c : tie.In-loop Inv-loop μ-loop)
@@ -79,10 +83,16 @@ loop-less c = search needs
 
 loop-again : tie.Need-loop-again Inv-loop μ-loop
 loop-again c =
-    let v = turn (called c) .before .loop .inv in
+    let d = turn (called c) in
+    let s = begun (d .before) in
+    let i = d .before .loop .i in
+    let v = d .before .loop .inv in
     let b = called c .before .before .block-of .ensures in
-    let w = c .before .before .before .before .put-block .ensures in
-    (omega arith, put-then _ _ _ _ _ _ _ _ _ _ _ _ (v .1) (block-put b (whole (turn (called c))) w))
+    let w = c .before .before .before .before .put-block .ensures in (
+      omega arith,
+      put-then (lists s) (number s 0) (number s i) (number s (i + 1)) _ _ _ _ _ _ _ _ (v .1)
+      (block-put b (whole d) w),
+    )
 
 same-length : tie.Need-same-length Inv-loop μ-loop
 same-length c = c .before .loop .inv .1 .ends-length
