@@ -6,6 +6,9 @@ pub mod refusal;
 // A number of a listing: a count, an end, an index. Its width is `width` in specs/Listing.
 pub type Index = u16;
 
+// The largest number of a listing.
+pub const LARGEST: Index = 65535;
+
 // What a test answers: a refusal's number, 0 for none, and the fields that it carries.
 #[repr(C)]
 pub struct Answer {

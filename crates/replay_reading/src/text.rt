@@ -9,10 +9,8 @@ ghost use Rattle.listing.specs.Listing.{width};
 ghost use Rattle.replay_reading.specs.Text.{until, opened, bracketed, afterLists, largest, withDigit, goesOn};
 ghost use Rattle.replay_reading.specs.Text.{withByte, numbersIn, Stored};
 
-// The largest numbers of 32, 16 and 8 bits: any above them is taken for them.
+// The largest numbers of 32 and 8 bits: any above them is taken for them, as in a listing any above its largest.
 const LARGEST: u32 = 4294967295;
-
-const LARGEST_INDEX: Index = 65535;
 
 const LARGEST_BYTE: u8 = 255;
 
@@ -42,10 +40,10 @@ pub fn letter(line: &[u8], at: usize) -> u8
 pub fn narrow(v: u32) -> Index
     ensures { λ r. ⌜ r ≡ min v (width - 1) ⌝ }
 {
-    if v < LARGEST_INDEX as u32 {
+    if v < listing::LARGEST as u32 {
         v as Index
     } else {
-        LARGEST_INDEX
+        listing::LARGEST
     }
 }
 

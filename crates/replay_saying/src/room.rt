@@ -10,7 +10,7 @@ ghost use Rattle.listing.specs.Listing.{width, limits};
 ghost use Rattle.replay_saying.specs.Room.{spare};
 
 // What the arrays are full of: numbers that no product or search writes.
-const FULL: Index = 65535;
+const FULL: Index = listing::LARGEST;
 
 const FULL_BYTE: u8 = 255;
 

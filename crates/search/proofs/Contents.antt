@@ -20,7 +20,7 @@ use Rattle.listing.specs.Answers.{fine}
 use Rattle.listing.specs.Listing.{Listing, Limits, rank}
 use Rattle.flag_change.specs.Flags.{IsFlag}
 use Rattle.search_theory.specs.Search.{State, Neighbour, AtLeast, Proper, Colouring, tone}
-use Rattle.search_theory.proofs.Once.{in-at}
+use Rattle.search_theory.proofs.Once.{mem-at}
 use Rattle.search_theory.proofs.Lookup.{index-only}
 use Rattle.search_theory.proofs.Grown.{start-even, start-first}
 use Rattle.search_theory.proofs.Proper.{search-proper}
@@ -103,7 +103,7 @@ module _ {m : Limits} {L : Listing} {first : List ℕ} {mask : ℕ} (T : Searcha
       (λ k h. rows-at w t′ (length (S .found)) k [] (omega arith) ∙ row-is [] k (omega arith))
 
   reached : (k : ℕ) → k < length (S .found) → Reach (Neighbour (maskChanges L mask)) first (row k)
-  reached k h = rw (row-is [] k h) (proper .reached _ (in-at (S .found) [] k h))
+  reached k h = rw (row-is [] k h) (proper .reached _ (mem-at (S .found) [] k h))
 
   came : (k : ℕ) → 0 < k → k < length (S .found) → FirstMet L mask row byte k
   unfolding foundBy

@@ -12,7 +12,7 @@ use Rattle.listing.specs.Listing.{Listing}
 use Rattle.flag_change.specs.Change.{changeAt}
 use Rattle.order.proofs.Positions.{ascending-at, ascending-back}
 use Rattle.search_theory.specs.Course.{HasNeighbour, nbr, Came, Clash}
-use Rattle.search_theory.proofs.Once.{in-at, at-in}
+use Rattle.search_theory.proofs.Once.{mem-at, at-in}
 use Rattle.search_masks.specs.Masks.{InMask, ranksOf}
 use Rattle.search_masks.proofs.Ranks.{ranks-exact, ranks-ascend}
 use Rattle.search_walk.specs.Searched.{maskChanges}
@@ -37,7 +37,7 @@ module _ (mask : ℕ) where
   rankAt i = getD (ranksOf mask) i 0
 
   rank-in : (i : ℕ) → i < length (ranksOf mask) → InMask mask (rankAt i)
-  rank-in i h = ranks-exact mask (rankAt i) .0 (mem-in (rankAt i) (ranksOf mask) (in-at (ranksOf mask) 0 i h))
+  rank-in i h = ranks-exact mask (rankAt i) .0 (mem-in (rankAt i) (ranksOf mask) (mem-at (ranksOf mask) 0 i h))
 
   place-of : (r : ℕ) → InMask mask r → (i : ℕ) × (i < length (ranksOf mask)) × (rankAt i ≡ r)
   place-of r h = at-in (ranksOf mask) 0 r (in-mem r (ranksOf mask) (ranks-exact mask r .1 h))

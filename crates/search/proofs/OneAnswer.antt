@@ -14,7 +14,7 @@ use Rattle.order.proofs.Earlier.{Compared, compare, earlier-at}
 use Rattle.listing.specs.Listing.{Listing, rank}
 use Rattle.flag_change.specs.Change.{changeAt}
 use Rattle.search_theory.specs.Search.{Once, Colouring}
-use Rattle.search_theory.proofs.Once.{in-at}
+use Rattle.search_theory.proofs.Once.{mem-at}
 use Rattle.search_index.specs.Rows.{rowOf, rows, flatten}
 use Rattle.search_index.proofs.Rows.{rows-length, rows-at, rows-flat}
 use Rattle.search.specs.declared.Searched.{Searched}
@@ -26,7 +26,7 @@ once-apart : (l : List (List ℕ)) → Once l → (j k : ℕ) → j < k → k < 
 unfolding Once
 once-apart [] o j k h i = absurd (omega arith)
 once-apart (x ∷ l) o j zero h i = absurd (omega arith)
-once-apart (x ∷ l) o zero (suc k) h i = λ e. o .0 (Memᴰ·cast e (in-at l [] k (omega arith)))
+once-apart (x ∷ l) o zero (suc k) h i = λ e. o .0 (Memᴰ·cast e (mem-at l [] k (omega arith)))
 once-apart (x ∷ l) o (suc j) (suc k) h i = once-apart l (o .1) j k (omega arith) (omega arith)
 
 -- no two of the first n rows are the same

@@ -10,7 +10,7 @@ use lib.ListN.{length, getD, List·getD-append}
 use lib.Seq.{getD-at}
 use Rattle.search_theory.specs.Search.{State, unbegun, add, again, indexIn, meet, meetAll, work, search}
 use Rattle.search_theory.specs.Search.{Neighbour, Decides, Proper, Colouring, tone}
-use Rattle.search_theory.proofs.Once.{length-snoc, in-at}
+use Rattle.search_theory.proofs.Once.{length-snoc, mem-at}
 use Rattle.search_theory.proofs.Lookup.{index-at}
 use Rattle.search_theory.proofs.Step.{place-same, meet-cases}
 use Rattle.search_theory.proofs.Run.{run-ends}
@@ -89,7 +89,7 @@ module _ {A : Type 0} (same : A → A → Bool) (decides : Decides same) (room :
       go : (y : A) → Neighbour nbrs x y → 1 - getD (s .bytes) k 0 ≡ byte y
       go y n =
           rw (h .toned k i)
-          (tone-flip (c .colour a) (c .colour x) (c .colour y) (c .flips x y (f .reached x (in-at (s .found) a k i)) n))
+          (tone-flip (c .colour a) (c .colour x) (c .colour y) (c .flips x y (f .reached x (mem-at (s .found) a k i)) n))
 
   unbegun-toned : Toned byte a unbegun
   unbegun-toned = record { paired = refl; still = refl; toned = λ k h. absurd (omega arith) }

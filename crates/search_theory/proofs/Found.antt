@@ -11,7 +11,7 @@ use native.Mathlib.Omega.{arith}
 use lib.ListN.{length}
 use Rattle.order.specs.Steps.{Reach, start, next}
 use Rattle.search_theory.specs.Search.{State, search, Neighbour, Decides, Once, AtLeast, Beyond, Proper}
-use Rattle.search_theory.proofs.Once.{in-at, at-in, once-fits}
+use Rattle.search_theory.proofs.Once.{mem-at, at-in, once-fits}
 use Rattle.search_theory.proofs.Run.{search-full}
 use Rattle.search_theory.proofs.Grown.{start-first}
 use Rattle.search_theory.proofs.Proper.{search-proper}
@@ -38,7 +38,7 @@ module _ {A : Type 0} (same : A → A → Bool) (decides : Decides same) (room :
     closed x y m n =
         let p = at-in (S .found) a x m in
         let r = search-stored same decides room nbrs a o (p .0) (p .1) y (rw (p .2) n) in
-        Memᴰ·cast (sym (r .stands)) (in-at (S .found) a (r .index) (r .known))
+        Memᴰ·cast (sym (r .stands)) (mem-at (S .found) a (r .index) (r .known))
 
     all-found : (y : A) → Reach (Neighbour nbrs) a y → List·Memᴰ y (S .found)
     all-found y start = start-in

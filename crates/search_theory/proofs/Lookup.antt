@@ -8,7 +8,7 @@ use Prim.Native.Nat.{ℕ, zero, suc, _<_}
 use native.Mathlib.Omega.{arith}
 use lib.ListN.{length, getD}
 use Rattle.search_theory.specs.Search.{indexIn, Decides, Once}
-use Rattle.search_theory.proofs.Once.{in-at}
+use Rattle.search_theory.proofs.Once.{mem-at}
 
 module _ {A : Type 0} (same : A → A → Bool) where
   index-here : (x y : A) (l : List A) → same x y ≡ true → indexIn same (x ∷ l) y ≡ 0
@@ -71,5 +71,5 @@ module _ {A : Type 0} (same : A → A → Bool) (decides : Decides same) where
   index-only (x ∷ l) d y (suc k) o h e = go (tested x y) (index-only l d y k (o .1) (omega arith) e)
     where
       go : Tested x y → indexIn same l y ≡ k → indexIn same (x ∷ l) y ≡ suc k
-      go (inl t) i = absurd (o .0 (Memᴰ·cast (t .1 ∙ sym (decides (getD l k d) y .0 e)) (in-at l d k (omega arith))))
+      go (inl t) i = absurd (o .0 (Memᴰ·cast (t .1 ∙ sym (decides (getD l k d) y .0 e)) (mem-at l d k (omega arith))))
       go (inr t) i = index-later same x y l (t .0) ∙ ap suc i

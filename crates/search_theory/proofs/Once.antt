@@ -14,10 +14,10 @@ module _ {A : Type 0} where
   pub length-snoc : (l : List A) (y : A) → length (l ++ (y ∷ [])) ≡ suc (length l)
   length-snoc l y = length-append l (y ∷ []) ∙ omega arith
 
-  pub in-at : (l : List A) (d : A) (k : ℕ) → k < length l → List·Memᴰ (getD l k d) l
-  in-at [] d k h = absurd (not-suc-le-zero h)
-  in-at (x ∷ l) d zero h = List·Memᴰ·head refl
-  in-at (x ∷ l) d (suc k) h = List·Memᴰ·tail (in-at l d k (le-of-suc-le-suc h))
+  pub mem-at : (l : List A) (d : A) (k : ℕ) → k < length l → List·Memᴰ (getD l k d) l
+  mem-at [] d k h = absurd (not-suc-le-zero h)
+  mem-at (x ∷ l) d zero h = List·Memᴰ·head refl
+  mem-at (x ∷ l) d (suc k) h = List·Memᴰ·tail (mem-at l d k (le-of-suc-le-suc h))
 
   pub at-in : (l : List A) (d y : A) → List·Memᴰ y l → (k : ℕ) × (k < length l) × (getD l k d ≡ y)
   at-in l d y (List·Memᴰ·head e) = (0, omega arith, sym e)

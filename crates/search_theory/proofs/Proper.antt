@@ -14,7 +14,7 @@ use Rattle.order.specs.Steps.{Reach, start, next}
 use Rattle.search_theory.specs.Search.{State, unbegun, add, overfull, placeAfter, again, indexIn, meet, meetAll}
 use Rattle.search_theory.specs.Search.{work}
 use Rattle.search_theory.specs.Search.{search, Neighbour, Decides, Once, Proper}
-use Rattle.search_theory.proofs.Once.{length-snoc, once-snoc, in-at}
+use Rattle.search_theory.proofs.Once.{length-snoc, once-snoc, mem-at}
 use Rattle.search_theory.proofs.Lookup.{index-in}
 use Rattle.search_theory.proofs.Step.{place-kept, place-same, place-first, meet-cases}
 use Rattle.search_theory.proofs.Run.{run-ends}
@@ -92,7 +92,7 @@ module _ {A : Type 0} (room : ℕ) (R : A → A → Type 0) (a : A) where
 neighbours-reached : {A : Type 0} (room : ℕ) (nbrs : A → List A) (a : A) (k : ℕ) (s : State A)
     → k < length (s .found) → Proper room (Neighbour nbrs) a s → (y : A) → Neighbour nbrs (getD (s .found) k a) y
     → Reach (Neighbour nbrs) a y
-neighbours-reached room nbrs a k s i h y n = next (h .reached (getD (s .found) k a) (in-at (s .found) a k i)) n
+neighbours-reached room nbrs a k s i h y n = next (h .reached (getD (s .found) k a) (mem-at (s .found) a k i)) n
 
 module _ {A : Type 0} (same : A → A → Bool) (decides : Decides same) (room : ℕ) where
   -- a thing whose index is the length is not there

@@ -15,7 +15,7 @@ use Rattle.flag_change.specs.Flags.{IsFlag}
 use Rattle.flag_change.specs.Change.{changeAt}
 use Rattle.flag_change.proofs.Changes.{changes}
 use Rattle.search_theory.specs.Search.{State, meet, meetAll}
-use Rattle.search_theory.proofs.Once.{in-at, at-in}
+use Rattle.search_theory.proofs.Once.{mem-at, at-in}
 use Rattle.search_theory.proofs.Step.{meet-cases}
 use Rattle.search_index.specs.Rows.{rows}
 use Rattle.search_index.proofs.Rows.{rows-length, rows-at}
@@ -73,7 +73,7 @@ module _ (L : Listing) (table : List ℕ) (n : ℕ) where
   pub rows-flags : All (IsFlag L) (rows (length (L .counts)) table n) → AllFlags L table n
   rows-flags h k i =
       let w = length (L .counts) in
-      rw (rows-at w table n k [] i) at (h _ (in-at (rows w table n) [] k (omega (arith, rows-length w table n))))
+      rw (rows-at w table n k [] i) at (h _ (mem-at (rows w table n) [] k (omega (arith, rows-length w table n))))
 
   pub flags-rows : AllFlags L table n → All (IsFlag L) (rows (length (L .counts)) table n)
   flags-rows h y m =

@@ -91,7 +91,7 @@ loop-again c =
     let w = c .before .before .before .before .put-block .ensures in (
       omega arith,
       put-then (lists s) (number s 0) (number s i) (number s (i + 1)) _ _ _ _ _ _ _ _ (v .1)
-      (block-put b (whole d) w),
+          (block-put b (whole d) w),
     )
 
 same-length : tie.Need-same-length Inv-loop μ-loop
