@@ -88,8 +88,8 @@ module _ {A : Type 0} (same : A → A → Bool) (decides : Decides same) (room :
 
       go : (y : A) → Neighbour nbrs x y → 1 - getD (s .bytes) k 0 ≡ byte y
       go y n =
-          rw (h .toned k i)
-          (tone-flip (c .colour a) (c .colour x) (c .colour y) (c .flips x y (f .reached x (mem-at (s .found) a k i)) n))
+          let r = f .reached x (mem-at (s .found) a k i) in
+          rw (h .toned k i) (tone-flip (c .colour a) (c .colour x) (c .colour y) (c .flips x y r n))
 
   unbegun-toned : Toned byte a unbegun
   unbegun-toned = record { paired = refl; still = refl; toned = λ k h. absurd (omega arith) }
