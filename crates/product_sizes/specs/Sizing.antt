@@ -6,7 +6,8 @@
 -- Little        an extent so small that products of two fit a word
 -- totalsOf      how many ranks, elements and incidences the product has of two factors that have these extents in use
 -- Measures      the same of a listing
--- totalsTest    33, 34, 35 by the limits, and 36 by the room in the output slices, for a product of these three numbers
+-- limitsThen    33, 34, 35 by the limits, and then the rest
+-- totalsTest    these, and 36 by the room in the output slices, for a product of these three numbers
 -- sizeTest      the same of a listing
 use mathlib.Core.Path.{_≡_}
 use mathlib.Core.Bool.{Bool}
@@ -70,16 +71,17 @@ pub record Measures (R : Listing) (t : Totals) : Type 0 where
   pub ends : length (R .ends) ≡ 2 * t .elements
   pub incidences : length (R .inc) ≡ t .incidences
 
+abbrev pub limitsThen : Limits → ℕ → ℕ → ℕ → Answer → Answer
+limitsThen m ranks elements incidences rest =
+    on (ltb (m .ranks) ranks) (plain productRanks) orElse
+    on (ltb (m .elements) elements) (plain productElements) orElse
+    on (ltb (m .incidences) incidences) (plain productIncidences) orElse rest
+
 unfoldable pub totalsTest : Limits → Totals → Room → Answer
 totalsTest m t o =
-    on (ltb (m .ranks) (t .ranks)) (plain productRanks) orElse
-    on (ltb (m .elements) (t .elements)) (plain productElements) orElse
-    on (ltb (m .incidences) (t .incidences)) (plain productIncidences) orElse
-    shortTest (record { counts = t .ranks; ends = 2 * t .elements; inc = t .incidences }) o
+    limitsThen m (t .ranks) (t .elements) (t .incidences)
+    (shortTest (record { counts = t .ranks; ends = 2 * t .elements; inc = t .incidences }) o)
 
 unfoldable pub sizeTest : Limits → Listing → ℕ → ℕ → ℕ → Answer
 sizeTest m R c e i =
-    on (ltb (m .ranks) (length (R .counts))) (plain productRanks) orElse
-    on (ltb (m .elements) (elements R)) (plain productElements) orElse
-    on (ltb (m .incidences) (length (R .inc))) (plain productIncidences) orElse
-    roomTest R c e i
+    limitsThen m (length (R .counts)) (elements R) (length (R .inc)) (roomTest R c e i)

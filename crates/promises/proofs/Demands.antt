@@ -3,8 +3,8 @@
 -- Demand 1. Every entry takes any slices and comes to an end: no contract asks anything of its caller, and each is met
 -- in the end. Which refusal comes exactly when, and what is written.
 -- Demand 2, the part that is proved: the tests accept exactly what the book asks; what the counts, a change, a search,
--- an orientation and the events are. That the answers equal those of the Rust is shown by running both
--- (docs/COMPARISON.md).
+-- an orientation and the events are; and a C function answers what its entry answers. That the answers equal those of
+-- the Rust is shown by running both (docs/COMPARISON.md).
 -- Demand 3. What the four products keep, each said of the slices that the entry wrote, up to the lengths answered.
 -- Assumes nothing.
 use Rattle.listing.specs.Listing.{limits}
@@ -14,7 +14,7 @@ use Rattle.promises.specs.Demands.{DemandOne, DemandTwo, DemandThree, On
 use Rattle.promises.proofs.OfTests.{tests-taken, tests-refuse, tests-named, tests-answer, tests-once}
 use Rattle.promises.proofs.OfProducts.{products-taken, products-refuse, products-keep, products-once}
 use Rattle.promises.proofs.OfFlags.{flags-taken, flags-refuse, flags-named, flags-answer, flags-once}
-use Rattle.promises.proofs.OfBoundary.{boundary-taken, boundary-once}
+use Rattle.promises.proofs.OfBoundary.{boundary-taken, boundary, boundary-once}
 
 pub demand-one : DemandOne
 demand-one = record {
@@ -31,7 +31,7 @@ demand-one = record {
 }
 
 pub demand-two : DemandTwo
-demand-two = record { tests-answer = tests-answer; flags-answer = flags-answer }
+demand-two = record { tests-answer = tests-answer; flags-answer = flags-answer; boundary-passes = boundary }
 
 pub demand-three : DemandThree
 demand-three = record {

@@ -6,7 +6,8 @@
 -- AnyTaken        every entry takes any slices and numbers: no contract asks anything of its caller
 -- RefusalsNamed   a refusal is true of what its fields name, and names the first such thing in order
 -- DemandOne       any slices are answered: which refusal comes exactly when, and what is written
--- DemandTwo       the tests accept exactly what the book asks; what counts, changes, searches and events answer
+-- DemandTwo       the tests accept exactly what the book asks; what counts, changes, searches and events answer; a C
+--                 function answers what its entry answers
 -- DemandThree     what the four products keep
 -- OneForEach      no second answer fits the contract of any entry
 use mathlib.Core.Path.{_≡_}
@@ -20,7 +21,7 @@ use Rattle.promises.specs.Entries.{SaysOfTwo, lent}
 use Rattle.promises.specs.OfTests.{TestsTaken, TestsRefuse, TestsNamed, TestsAnswer, TestsOnce}
 use Rattle.promises.specs.OfProducts.{ProductsTaken, ProductsRefuse, ProductsKeep, ProductsOnce}
 use Rattle.promises.specs.OfFlags.{FlagsTaken, FlagsRefuse, FlagsNamed, FlagsAnswer, FlagsOnce}
-use Rattle.promises.specs.OfBoundary.{BoundaryTaken, BoundaryOnce}
+use Rattle.promises.specs.OfBoundary.{BoundaryTaken, Boundary, BoundaryOnce}
 
 pub record AnyTaken : Type 0 where
   pub tests : TestsTaken
@@ -42,6 +43,7 @@ pub record DemandOne : Type 0 where
 pub record DemandTwo : Type 0 where
   pub tests-answer : TestsAnswer
   pub flags-answer : FlagsAnswer
+  pub boundary-passes : Boundary
 
 pub record DemandThree : Type 0 where
   -- closed is is_valid, with lists that ascend and the diamond at the maximal element
