@@ -1,7 +1,6 @@
 -- `put_pairs_of`. Invariant: the pairs of element a with the first b elements of the block's second rank are written.
 -- Measure: the elements left.
 -- Assumes nothing.
-use mathlib.Core.List.{List}
 use mathlib.Core.Path.{_≡_, refl}
 use Prim.Native.Nat.{ℕ, _+_, _-_, _≤_}
 use native.Mathlib.Omega.{arith}
@@ -41,13 +40,7 @@ turn c = c .before .before .before
 abbrev called : tie.After-slice-known4 Inv-loop μ-loop → tie.After-put-pair-arg2 Inv-loop μ-loop
 called c = c .before .before .before .before .before
 
--- the product's lists, and the number of the pair of the element a and the block's element b
-abbrev lists : tie.Start Inv-loop μ-loop → ℕ → List ℕ
-lists s =
-    let a = s .args in
-    productLists (a .poles) (listing (a .p .now) (a .pends .now) (a .pinc .now))
-    (listing (a .q .now) (a .qends .now) (a .qinc .now))
-
+-- the number of the pair of the element a and the block's element b
 abbrev number : tie.Start Inv-loop μ-loop → ℕ → ℕ
 number s b = inBlock (s .args .poles) (s .args .p .now) (s .args .q .now) (s .args .block) (s .args .a) b
 
@@ -104,7 +97,7 @@ loop-again c =
     let w = c .before .before .before .before .put-pair .ensures in (
       next-le _ _ (called c .before .before .loop-test .taken),
       v .1,
-      put-then (lists s) (number s 0) (number s b) (number s (b + 1)) _ _ _ _ _ _ _ _ (v .2) w,
+      put-then _ (number s 0) (number s b) (number s (b + 1)) _ _ _ _ _ _ _ _ (v .2) w,
     )
 
 same-length : tie.Need-same-length Inv-loop μ-loop

@@ -1,7 +1,6 @@
 -- `put_block`. Invariant: the pairs of the first a elements of the block's first rank are written. Measure: the
 -- elements left.
 -- Assumes nothing.
-use mathlib.Core.List.{List}
 use mathlib.Core.Path.{_≡_, refl, sym, _∙_}
 use Prim.Native.Nat.{ℕ, _+_, _-_, _≤_}
 use native.Mathlib.Omega.{arith}
@@ -44,14 +43,8 @@ turn c = c .before .before .before
 abbrev called : tie.After-slice-known4 Inv-loop μ-loop → tie.After-put-pairs-of-arg2 Inv-loop μ-loop
 called c = c .before .before .before .before .before
 
--- the product's lists, and the number of the first pair of the block's element a; written out, since terms that the
--- prover finds by itself are slow to check
-abbrev lists : tie.Start Inv-loop μ-loop → ℕ → List ℕ
-lists s =
-    let a = s .args in
-    productLists (a .poles) (listing (a .p .now) (a .pends .now) (a .pinc .now))
-    (listing (a .q .now) (a .qends .now) (a .qinc .now))
-
+-- the number of the first pair of the block's element a; written out, since terms that the prover finds by itself are
+-- slow to check
 abbrev number : tie.Start Inv-loop μ-loop → ℕ → ℕ
 number s a = inBlock (s .args .poles) (s .args .p .now) (s .args .q .now) (s .args .block) a 0
 
@@ -102,7 +95,7 @@ loop-again c =
     let w = c .before .before .before .before .put-pairs-of .ensures in (
       next-le _ _ (called c .before .before .loop-test .taken),
       v .1,
-      put-then (lists s) (number s 0) (number s a) (number s (a + 1)) _ _ _ _ _ _ _ _ (v .2) w,
+      put-then _ (number s 0) (number s a) (number s (a + 1)) _ _ _ _ _ _ _ _ (v .2) w,
     )
 
 same-length : tie.Need-same-length Inv-loop μ-loop

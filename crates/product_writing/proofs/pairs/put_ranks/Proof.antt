@@ -1,7 +1,6 @@
 -- `put_ranks`. Invariant: the pairs of the ranks below `rank` are written, and `start` is the number of the next.
 -- Measure: the ranks left.
 -- Assumes nothing.
-use mathlib.Core.List.{List}
 use mathlib.Core.Path.{_≡_, refl}
 use Prim.Native.Nat.{ℕ, _+_, _-_, _≤_, _<_}
 use native.Mathlib.Omega.{arith}
@@ -45,13 +44,7 @@ turn c = c .before .before .before
 abbrev called : tie.After-slice-known4 Inv-loop μ-loop → tie.After-put-rank-arg2 Inv-loop μ-loop
 called c = c .before .before .before .before .before
 
--- the product's lists, and the number of the first pair of a rank
-abbrev lists : tie.Start Inv-loop μ-loop → ℕ → List ℕ
-lists s =
-    let a = s .args in
-    productLists (a .poles) (listing (a .p .now) (a .pends .now) (a .pinc .now))
-    (listing (a .q .now) (a .qends .now) (a .qinc .now))
-
+-- the number of the first pair of a rank
 abbrev number : tie.Start Inv-loop μ-loop → ℕ → ℕ
 number s r = firstAt (s .args .poles .min) (s .args .p .now) (s .args .q .now) r 0
 
@@ -124,7 +117,7 @@ loop-again c =
     let w = c .before .before .before .before .before .put-rank .ensures in (
       omega arith,
       omega (arith, v .1, c .pairs-in .ensures, pairs-next (s .args .p .now) (s .args .q .now) r),
-      put-then (lists s) (number s 0) (number s r) (number s (r + 1)) _ _ _ _ _ _ _ _ (v .2) w,
+      put-then _ (number s 0) (number s r) (number s (r + 1)) _ _ _ _ _ _ _ _ (v .2) w,
     )
 
 same-length : tie.Need-same-length Inv-loop μ-loop
