@@ -2,7 +2,7 @@
 # Builds and runs the host side for x86-64, the processor of the archive, on a machine with another one.
 #
 #   host/cross.sh test                 every test, against the archive
-#   host/cross.sh examples             the example in Rust and the one in C
+#   host/cross.sh examples             the examples in Rust and those in C
 #   host/cross.sh oracle [FOLDER]      the Rust files, as oracle/build.sh does
 #   host/cross.sh compare [WORDS..]    the differential run
 #   host/cross.sh bench [WORDS..]      the benchmark; times under an emulator are not those of a processor
@@ -10,8 +10,9 @@
 #
 # It needs a C and a C++ compiler for x86-64, a rustc that has the standard library of x86_64-unknown-linux-gnu, and
 # qemu-x86_64. On Debian: gcc-x86-64-linux-gnu, g++-x86-64-linux-gnu, qemu-user; with rustup:
-# rustup target add x86_64-unknown-linux-gnu. These variables name others: CC, CXX, RUSTC, RUSTDOC, QEMU (the
-# emulator's command), SYSROOT (the folder that has lib64/ld-linux-x86-64.so.2; else the compiler is asked).
+# rustup target add x86_64-unknown-linux-gnu; without, from Debian 13 on: dpkg --add-architecture amd64, then cargo, rustc
+# and libstd-rust-dev:amd64. These variables name others: CC, CXX, RUSTC, RUSTDOC, QEMU (the emulator's command), SYSROOT
+# (the folder that has lib64/ld-linux-x86-64.so.2; else the compiler is asked).
 set -eu
 
 here=$(cd "$(dirname "$0")" && pwd)
@@ -55,9 +56,12 @@ case $command in
 test) cargo test --release "$@" ;;
 examples)
     cargo run --release --example prism
-    "$CC" -std=c99 -Wall -Wextra -pedantic -Werror -I../include flumedrac/examples/cell.c \
-        "${FLUMEDRAC_LIB:-../target/staticlib}/libflumedrac.a" -o target/$target/cell
-    $FLUMEDRAC_RUN target/$target/cell
+    printf 'rank=1\ncount=1\nsubs=\ncount=1\nsubs=0\n' | cargo run --release --example check
+    for example in cell text; do
+        "$CC" -std=c99 -Wall -Wextra -pedantic -Werror -I../include flumedrac/examples/$example.c \
+            "${FLUMEDRAC_LIB:-../target/staticlib}/libflumedrac.a" -o target/$target/$example
+        $FLUMEDRAC_RUN target/$target/$example
+    done
     ;;
 compare | bench)
     cargo build --release --bin "$command"

@@ -1,5 +1,5 @@
 /*
- * Flumedrac: tests of cells, the four products, flag changes and the oriented flag search.
+ * Flumedrac: tests of cells, the four products, flag changes and the oriented flag search; cells read from a text.
  *
  * What is proved, for every input, are the contracts of the functions in crates/flumedrac: that they end, stay inside
  * the slices they are lent, and answer and write what the contracts say. This header says the same in words for C and
@@ -43,7 +43,8 @@
  * no heap and no global state: no function allocates, keeps a pointer or touches anything but its slices, and all may
  * run in several threads at once, as long as no slice that one writes is lent to another. On the stack fd_search takes
  * about 70 KB, of which 64 KB are two arrays, its index of the flags; a product about 25 KB, of which 24 KB are three
- * arrays; fd_is_dyadic, fd_is_valid, fd_closed and fd_change about 4 KB, the tally of the diamond; the others next to
+ * arrays; fd_is_dyadic, fd_is_valid, fd_closed and fd_change about 4 KB, the tally of the diamond; fd_read_text about
+ * 88 KB, what it notes of the text, and fd_check_text about 170 KB, the listing that it reads besides; the others next to
  * nothing.
  */
 #ifndef FLUMEDRAC_H
@@ -67,6 +68,7 @@ extern "C" {
 #define FD_MAX_ELEMENTS 4096    /* the sum of counts */
 #define FD_MAX_INCIDENCES 32768 /* numbers in inc */
 #define FD_MAX_FLAGS 16384      /* flags that a search finds */
+#define FD_MAX_TEXT 65536       /* bytes of a text */
 
 /*
  * The numbers of the refusals, with the fields (a, b, c, d) of fd_answer that they carry. Fields not named are 0.
@@ -110,7 +112,13 @@ enum {
     FD_PRODUCT_RANKS = 33,      /* the product has more than FD_MAX_RANKS ranks */
     FD_PRODUCT_ELEMENTS = 34,   /* .. more than FD_MAX_ELEMENTS elements */
     FD_PRODUCT_INCIDENCES = 35, /* .. more than FD_MAX_INCIDENCES incidences */
-    FD_OUTPUT_SHORT = 36        /* one of the three slices for the product is too short */
+    FD_OUTPUT_SHORT = 36,       /* one of the three slices for the product, or for what is read, is too short */
+
+    /* Text: see fd_read_text. */
+    FD_WRONG_KEY = 40,  /* a line does not begin with its key, or is not there */
+    FD_BAD_LINE = 41,   /* a line has a bad number, or no newline */
+    FD_LONG_TEXT = 42,  /* more than FD_MAX_TEXT bytes */
+    FD_MORE_BYTES = 43  /* bytes after the last line */
 };
 
 /* The classes of refusals, as fd_class answers them. */
@@ -170,7 +178,7 @@ typedef struct {
 
 /*
  * Parameters that come together, for the declarations below. FD_LISTING(p_) is a listing lent to be read: p_counts,
- * p_counts_len, p_ends, p_ends_len, p_inc, p_inc_len. FD_OUTPUT is the three slices that a product is written to:
+ * p_counts_len, p_ends, p_ends_len, p_inc, p_inc_len. FD_OUTPUT is the three slices that a listing is written to:
  * counts, counts_len, ends, ends_len, inc, inc_len.
  */
 #define FD_LISTING(p)                                                                                                  \
@@ -266,6 +274,39 @@ fd_built fd_duoprism(FD_LISTING(p_), FD_LISTING(q_), FD_OUTPUT);
 fd_built fd_duotegum(FD_LISTING(p_), FD_LISTING(q_), FD_OUTPUT);
 fd_built fd_duocomb(FD_LISTING(p_), FD_LISTING(q_), FD_OUTPUT);
 
+/*
+ * A listing read from a text, and written to counts, ends and inc. The text need not end with a 0, and has no other
+ * bytes than these lines, each ended by a newline (byte 10):
+ *
+ *   rank=     its rank; then for every rank, from 0 to this one:
+ *   count=    how many elements the rank has; then for each of them:
+ *   subs=     its subs, with a comma between two of them; nothing if there are none
+ *
+ * A number is written in decimal digits, without a sign, a space or a 0 in front, and is at most 65535. Sups follow
+ * from the subs, as for a product; a sub that does not exist gets none. The point:
+ *
+ *   rank=1
+ *   count=1
+ *   subs=
+ *   count=1
+ *   subs=0
+ *
+ * Refusals: FD_LONG_TEXT, and nothing of the text is looked at. Then what comes first in the text: at the start of a
+ * line FD_WRONG_KEY, if what is left does not begin with the line's key (with its =), as where nothing is left; in a
+ * line FD_BAD_LINE, for all else that is wrong up to its newline; at the end of a good line FD_OVER_RANKS,
+ * FD_OVER_ELEMENTS by the counts so far, or FD_OVER_INCIDENCES by the subs so far and the sups that they make; after
+ * the last line FD_MORE_BYTES. Last comes FD_OUTPUT_SHORT. All fields are 0. Slices of FD_MAX_RANKS,
+ * 2 * FD_MAX_ELEMENTS and FD_MAX_INCIDENCES numbers are always long enough.
+ */
+fd_built fd_read_text(const uint8_t *text, size_t text_len, FD_OUTPUT);
+
+/*
+ * Whether the listing in a text is closed: the number of what refuses the reading (never FD_OUTPUT_SHORT), or else the
+ * number that fd_closed answers for what is read; FD_ACCEPTED if it is closed. Where it is not, fd_read_text and
+ * fd_closed say where. The program cellcheck prints this number for its standard input.
+ */
+uint16_t fd_check_text(const uint8_t *text, size_t text_len);
+
 #ifdef __cplusplus
 }
 #endif
@@ -307,7 +348,11 @@ FD_INLINE const char *fd_refusal_text(uint16_t no)
     case FD_PRODUCT_RANKS: return "the product has more than 16 ranks";
     case FD_PRODUCT_ELEMENTS: return "the product has more than 4,096 elements";
     case FD_PRODUCT_INCIDENCES: return "the product has more than 32,768 incidences";
-    case FD_OUTPUT_SHORT: return "a slice for the product is too short";
+    case FD_OUTPUT_SHORT: return "a slice to write the listing to is too short";
+    case FD_WRONG_KEY: return "a line of the text does not begin with its key, or is missing";
+    case FD_BAD_LINE: return "a line of the text has a bad number, or does not end with a newline";
+    case FD_LONG_TEXT: return "the text has more than 65,536 bytes";
+    case FD_MORE_BYTES: return "the text goes on after its last line";
     default: return "unknown number";
     }
 }
@@ -328,6 +373,12 @@ FD_INLINE uint16_t *fd_lent_room(uint16_t *numbers, size_t length)
 {
     static uint16_t none = 0;
     return length == 0 ? &none : numbers;
+}
+
+FD_INLINE const uint8_t *fd_lent_text(const uint8_t *text, size_t length)
+{
+    static const uint8_t none = 0;
+    return length == 0 ? &none : text;
 }
 
 FD_INLINE uint8_t *fd_lent_bytes(uint8_t *bytes, size_t length)
@@ -393,6 +444,16 @@ FD_INLINE fd_searched fd_search_guarded(FD_LISTING(), const uint16_t *first, siz
                      orientations_len);
 }
 
+FD_INLINE fd_built fd_read_text_guarded(const uint8_t *text, size_t text_len, FD_OUTPUT)
+{
+    return fd_read_text(fd_lent_text(text, text_len), text_len, FD_LENT_OUTPUT);
+}
+
+FD_INLINE uint16_t fd_check_text_guarded(const uint8_t *text, size_t text_len)
+{
+    return fd_check_text(fd_lent_text(text, text_len), text_len);
+}
+
 #define fd_rank(...) fd_rank_guarded(__VA_ARGS__)
 #define fd_el_count(...) fd_el_count_guarded(__VA_ARGS__)
 #define fd_vertex_count(...) fd_vertex_count_guarded(__VA_ARGS__)
@@ -408,6 +469,8 @@ FD_INLINE fd_searched fd_search_guarded(FD_LISTING(), const uint16_t *first, siz
 #define fd_duoprism(...) fd_duoprism_guarded(__VA_ARGS__)
 #define fd_duotegum(...) fd_duotegum_guarded(__VA_ARGS__)
 #define fd_duocomb(...) fd_duocomb_guarded(__VA_ARGS__)
+#define fd_read_text(...) fd_read_text_guarded(__VA_ARGS__)
+#define fd_check_text(...) fd_check_text_guarded(__VA_ARGS__)
 
 #undef FD_INLINE
 #undef FD_LISTING

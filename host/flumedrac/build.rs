@@ -5,6 +5,7 @@
 //! `target/staticlib` of the project, where `rt staticlib flumedrac` writes it.
 
 use std::env;
+use std::fs;
 use std::path::PathBuf;
 use std::process;
 
@@ -26,21 +27,30 @@ fn archive() -> Result<PathBuf, String> {
     // Cargo asks again once the file comes, goes or changes.
     println!("cargo::rerun-if-changed={}", archive.display());
     let processor = env::var("CARGO_CFG_TARGET_ARCH").expect("cargo says what it builds for");
-    if processor != "x86_64" {
-        return Err(format!(
-            "Flumedrac's archive is for x86-64, and this is built for {processor}. \
+    match fs::read(&archive).map(|bytes| made_for(&bytes)) {
+        Ok(made_for) if made_for == processor => Ok(archive),
+        Ok(made_for) => Err(format!(
+            "Flumedrac's archive is for {made_for}, and this is built for {processor}. \
              host/cross.sh builds for x86-64 and runs under an emulator."
-        ));
-    }
-    match archive.is_file() {
-        true => Ok(archive),
-        false => Err(format!(
+        )),
+        Err(_) => Err(format!(
             "Flumedrac's archive is not there: {}\n\
              Make it by 'rt staticlib flumedrac' in {}, which writes target/staticlib/libflumedrac.a.\n\
              Or have FLUMEDRAC_LIB name the folder that libflumedrac.a lies in.",
             archive.display(),
             project().display()
         )),
+    }
+}
+
+/// The processor that an archive is for, as cargo calls it: the first object file in it has a number for that, two
+/// bytes at place 18.
+fn made_for(archive: &[u8]) -> &'static str {
+    let object = archive.windows(4).position(|four| four == b"\x7fELF").map(|start| &archive[start..]);
+    match object.and_then(|object| object.get(18..20)) {
+        Some([62, 0]) => "x86_64",
+        Some([183, 0]) => "aarch64",
+        _ => "another processor",
     }
 }
 

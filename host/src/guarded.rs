@@ -82,6 +82,11 @@ impl Guarded {
         unsafe { std::slice::from_raw_parts_mut(self.put(area, place, numbers), numbers.len()) }
     }
 
+    /// The three slices that a listing is written to, in the last three areas.
+    fn outputs(&self, place: Place, outputs: &Outputs<'_>) -> Outputs<'_> {
+        [0, 1, 2].map(|i| self.lend(AREAS - 3 + i, place, outputs[i]))
+    }
+
     /// A listing, in three areas from the first one named.
     fn listing(&self, first: usize, place: Place, l: Slices<'_>) -> Slices<'_> {
         Slices {
@@ -97,6 +102,11 @@ fn both<A: PartialEq>(ask: impl Fn(Place) -> A) -> A {
     let answer = ask(Place::End);
     assert!(answer == ask(Place::Front), "the answer depends on where the slices lie");
     answer
+}
+
+/// The slices get what stands in the copies of them afterwards.
+fn copy(outputs: Outputs<'_>, new: [Vec<u16>; 3]) {
+    outputs.into_iter().zip(new).for_each(|(slice, new)| slice.copy_from_slice(&new));
 }
 
 /// What was lent for reading must be as it was.
@@ -171,18 +181,36 @@ impl Library for Guarded {
     }
 
     fn product(&self, kind: Kind, p: Slices<'_>, q: Slices<'_>, outputs: Outputs<'_>) -> Built {
-        let [counts, ends, inc] = outputs;
         let (built, new) = both(|at| {
             let lent = (self.listing(0, at, p), self.listing(3, at, q));
-            let [counts, ends, inc] = [self.lend(6, at, counts), self.lend(7, at, ends), self.lend(8, at, inc)];
-            let built = Archive.product(kind, lent.0, lent.1, [&mut *counts, &mut *ends, &mut *inc]);
+            let mut room = self.outputs(at, &outputs);
+            let built = Archive.product(kind, lent.0, lent.1, room.each_mut().map(|slice| &mut **slice));
             unchanged(lent, (p, q));
-            (built, [counts.to_vec(), ends.to_vec(), inc.to_vec()])
+            (built, room.map(|slice| slice.to_vec()))
         });
-        counts.copy_from_slice(&new[0]);
-        ends.copy_from_slice(&new[1]);
-        inc.copy_from_slice(&new[2]);
+        copy(outputs, new);
         built
+    }
+
+    fn read_text(&self, text: &[u8], outputs: Outputs<'_>) -> Built {
+        let (built, new) = both(|at| {
+            let lent = self.read(0, at, text);
+            let mut room = self.outputs(at, &outputs);
+            let built = Archive.read_text(lent, room.each_mut().map(|slice| &mut **slice));
+            unchanged(lent, text);
+            (built, room.map(|slice| slice.to_vec()))
+        });
+        copy(outputs, new);
+        built
+    }
+
+    fn check_text(&self, text: &[u8]) -> u16 {
+        both(|at| {
+            let lent = self.read(0, at, text);
+            let no = Archive.check_text(lent);
+            unchanged(lent, text);
+            no
+        })
     }
 }
 

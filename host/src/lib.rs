@@ -1,5 +1,6 @@
 //! The means of trying Flumedrac: what it is asked, an unproved model of it, and cells to ask about.
 
+pub mod cell_texts;
 pub mod cells;
 pub mod guarded;
 pub mod library;
@@ -10,7 +11,7 @@ pub mod start;
 pub mod text;
 
 pub use guarded::Guarded;
-pub use library::{build, Archive, Kind, Library, Outputs, Test};
+pub use library::{build, with_room, Archive, Kind, Library, Outputs, Test, ALL_ROOM};
 pub use model::{Break, Model};
 pub use question::{reply_to, Question, Reply};
 pub use random::Random;

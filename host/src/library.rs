@@ -61,7 +61,7 @@ impl Kind {
     }
 }
 
-/// The three slices that a product is written to: counts, ends and inc.
+/// The three slices that a listing is written to: counts, ends and inc.
 pub type Outputs<'a> = [&'a mut [u16]; 3];
 
 /// All that can be asked.
@@ -77,17 +77,27 @@ pub trait Library {
     fn sign(&self, orientation: u8) -> f64;
     fn next_event(&self, cursor: &mut Cursor, count: u16, place: u16) -> Event;
     fn product(&self, kind: Kind, p: Slices<'_>, q: Slices<'_>, outputs: Outputs<'_>) -> Built;
+    fn read_text(&self, text: &[u8], outputs: Outputs<'_>) -> Built;
+    fn check_text(&self, text: &[u8]) -> u16;
 }
 
-/// What a library builds with all the room that a product can need: its answer, and what was written.
-pub fn build(library: &dyn Library, kind: Kind, p: &Listing, q: &Listing) -> (Answer, Raw) {
-    let mut slices = [vec![0; MAX_RANKS], vec![0; 2 * MAX_ELEMENTS], vec![0; MAX_INCIDENCES]];
-    let built = library.product(kind, p.slices(), q.slices(), slices.each_mut().map(Vec::as_mut_slice));
+/// Room for any listing.
+pub const ALL_ROOM: [usize; 3] = [MAX_RANKS, 2 * MAX_ELEMENTS, MAX_INCIDENCES];
+
+/// What is written where there is room for any listing: the answer, and the slices as far as they were written.
+pub fn with_room(write: impl FnOnce(Outputs<'_>) -> Built) -> (Answer, Raw) {
+    let mut slices = ALL_ROOM.map(|length| vec![0; length]);
+    let built = write(slices.each_mut().map(Vec::as_mut_slice));
     for (slice, length) in slices.iter_mut().zip([built.counts, built.ends, built.inc]) {
         slice.truncate(length.into());
     }
     let [counts, ends, inc] = slices;
     (built.answer, Raw { counts, ends, inc })
+}
+
+/// What a library builds with all the room that a product can need: its answer, and what was written.
+pub fn build(library: &dyn Library, kind: Kind, p: &Listing, q: &Listing) -> (Answer, Raw) {
+    with_room(|outputs| library.product(kind, p.slices(), q.slices(), outputs))
 }
 
 /// The archive: the proved functions.
@@ -148,5 +158,14 @@ impl Library for Archive {
             Kind::Duotegum => raw::duotegum(p, q, counts, ends, inc),
             Kind::Duocomb => raw::duocomb(p, q, counts, ends, inc),
         }
+    }
+
+    fn read_text(&self, text: &[u8], outputs: Outputs<'_>) -> Built {
+        let [counts, ends, inc] = outputs;
+        raw::read_text(text, counts, ends, inc)
+    }
+
+    fn check_text(&self, text: &[u8]) -> u16 {
+        raw::check_text(text)
     }
 }

@@ -1,9 +1,9 @@
 //! One question to a library, and its reply.
 
-use flumedrac::ffi::{Answer, Cursor, Number};
+use flumedrac::ffi::{Answer, Built, Cursor, Number};
 use flumedrac::{MAX_FLAGS, MAX_RANKS};
 
-use crate::library::{Kind, Library, Test};
+use crate::library::{Kind, Library, Outputs, Test};
 use crate::Raw;
 
 /// What is asked. `L` is a listing, or what holds one.
@@ -45,6 +45,12 @@ pub enum Question<L> {
         q: L,
         room: [usize; 3],
     },
+    /// The listing in a text, with the lengths of the three slices lent.
+    ReadText {
+        text: Vec<u8>,
+        room: [usize; 3],
+    },
+    CheckText(Vec<u8>),
 }
 
 /// All that a library said: the numbers it returned and the slices it was lent, as they are afterwards.
@@ -108,6 +114,16 @@ impl Reply {
     fn count(number: Number) -> Self {
         Self::of(vec![number.no.into(), number.value as i64])
     }
+
+    /// The lengths and the slices of a listing that is built in slices of these lengths.
+    fn built(room: [usize; 3], build: impl FnOnce(Outputs<'_>) -> Built) -> Self {
+        let mut lent = room.map(words);
+        let built = build(lent.each_mut().map(Lent::slice));
+        let mut numbers = answer_numbers(built.answer);
+        numbers.extend([built.counts, built.ends, built.inc].map(i64::from));
+        let spilled = lent.iter().any(Lent::spilled);
+        Reply { numbers, slices: lent.each_mut().map(|lent| lent.slice().to_vec()).to_vec(), spilled }
+    }
 }
 
 impl<L: AsRef<Raw>> Question<L> {
@@ -126,6 +142,8 @@ impl<L: AsRef<Raw>> Question<L> {
             Question::Search { .. } => "search",
             Question::Events { .. } => "events",
             Question::Product { kind, .. } => kind.name(),
+            Question::ReadText { .. } => "read_text",
+            Question::CheckText(_) => "check_text",
         }
     }
 
@@ -160,15 +178,11 @@ impl<L: AsRef<Raw>> Question<L> {
             }
             Question::Events { cell, first, mask } => events(library, cell.as_ref(), first, *mask),
             Question::Product { kind, p, q, room } => {
-                let [mut counts, mut ends, mut inc] = room.map(words);
                 let (p, q) = (p.as_ref().slices(), q.as_ref().slices());
-                let built = library.product(*kind, p, q, [counts.slice(), ends.slice(), inc.slice()]);
-                let mut numbers = answer_numbers(built.answer);
-                numbers.extend([built.counts, built.ends, built.inc].map(i64::from));
-                let spilled = counts.spilled() || ends.spilled() || inc.spilled();
-                let slices = [&mut counts, &mut ends, &mut inc].map(|lent| lent.slice().to_vec()).to_vec();
-                Reply { numbers, slices, spilled }
+                Reply::built(*room, |outputs| library.product(*kind, p, q, outputs))
             }
+            Question::ReadText { text, room } => Reply::built(*room, |outputs| library.read_text(text, outputs)),
+            Question::CheckText(text) => Reply::of(vec![library.check_text(text).into()]),
         }
     }
 }

@@ -40,6 +40,15 @@ impl Display for List<'_> {
     }
 }
 
+/// Bytes in quotes, escaped as in Rust. The program `replay` knows `\n` alone: there, other bytes stand for themselves.
+struct Quoted<'a>(&'a [u8]);
+
+impl Display for Quoted<'_> {
+    fn fmt(&self, f: &mut fmt::Formatter<'_>) -> fmt::Result {
+        write!(f, "\"{}\"", self.0.escape_ascii())
+    }
+}
+
 impl Display for Raw {
     fn fmt(&self, f: &mut fmt::Formatter<'_>) -> fmt::Result {
         write!(f, "{} {} {}", List(&self.counts), List(&self.ends), List(&self.inc))
@@ -66,6 +75,10 @@ impl<L: AsRef<Raw>> Display for Question<L> {
             Question::Product { p, q, room: [counts, ends, inc], .. } => {
                 write!(f, "{} {} {counts} {ends} {inc}", p.as_ref(), q.as_ref())
             }
+            Question::ReadText { text, room: [counts, ends, inc] } => {
+                write!(f, "{} {counts} {ends} {inc}", Quoted(text))
+            }
+            Question::CheckText(text) => write!(f, "{}", Quoted(text)),
         }
     }
 }
@@ -84,15 +97,15 @@ impl Display for Reply {
     }
 }
 
-/// The words of a line: numbers, and numbers in brackets.
+/// The words of a line: numbers and numbers in brackets; and bytes in quotes.
 struct Words<'a>(&'a str);
 
 impl<'a> Words<'a> {
     fn word(&mut self) -> Option<&'a str> {
         let rest = self.0.trim_start();
-        let end = match rest.starts_with('[') {
-            true => rest.find(']')? + 1,
-            false => rest.find(' ').unwrap_or(rest.len()),
+        let end = match rest.chars().next() {
+            Some('[') => rest.find(']')? + 1,
+            _ => rest.find(' ').unwrap_or(rest.len()),
         };
         self.0 = &rest[end..];
         (end > 0).then_some(&rest[..end])
@@ -116,6 +129,65 @@ impl<'a> Words<'a> {
     fn raw(&mut self) -> Option<Raw> {
         Some(Raw { counts: self.list()?, ends: self.list()?, inc: self.list()? })
     }
+
+    /// Bytes in quotes: pieces one after another, where `"x"*3` stands for `"xxx"`.
+    fn bytes(&mut self) -> Option<Vec<u8>> {
+        self.0 = self.0.trim_start();
+        let mut bytes = self.piece()?;
+        while self.0.starts_with('"') {
+            bytes.extend(self.piece()?);
+        }
+        Some(bytes)
+    }
+
+    /// A piece in quotes, as often as the number after a star says.
+    fn piece(&mut self) -> Option<Vec<u8>> {
+        let (inside, rest) = self.0.split_at(quote_end(self.0)?);
+        self.0 = rest;
+        let piece = unescaped(inside.strip_prefix('"')?.strip_suffix('"')?)?;
+        let Some(rest) = self.0.strip_prefix('*') else { return Some(piece) };
+        let digits = rest.bytes().take_while(u8::is_ascii_digit).count();
+        self.0 = &rest[digits..];
+        Some(piece.repeat(rest[..digits].parse().ok()?))
+    }
+
+    fn room(&mut self) -> Option<[usize; 3]> {
+        Some([self.number()?, self.number()?, self.number()?])
+    }
+}
+
+/// Where the quotes end that a line begins with: at the first quote that is not escaped.
+fn quote_end(line: &str) -> Option<usize> {
+    let mut bytes = line.bytes().enumerate().skip(1);
+    loop {
+        match bytes.next()? {
+            (at, b'"') => return Some(at + 1),
+            (_, b'\\') => drop(bytes.next()?),
+            _ => {}
+        }
+    }
+}
+
+/// The bytes that a piece stands for.
+fn unescaped(piece: &str) -> Option<Vec<u8>> {
+    let mut inside = piece.bytes();
+    let mut bytes = vec![];
+    while let Some(byte) = inside.next() {
+        bytes.push(if byte == b'\\' { escaped(&mut inside)? } else { byte });
+    }
+    Some(bytes)
+}
+
+/// The byte that is escaped by these, a backslash before them.
+fn escaped(bytes: &mut impl Iterator<Item = u8>) -> Option<u8> {
+    let digit = |byte: u8| char::from(byte).to_digit(16);
+    Some(match bytes.next()? {
+        b'n' => b'\n',
+        b'r' => b'\r',
+        b't' => b'\t',
+        b'x' => (16 * digit(bytes.next()?)? + digit(bytes.next()?)?) as u8,
+        itself => itself,
+    })
 }
 
 impl AsRef<Raw> for Raw {
@@ -146,14 +218,13 @@ impl Question<Raw> {
                 orientations: words.number()?,
             },
             "events" => Question::Events { cell: words.raw()?, first: words.list()?, mask: words.number()? },
+            "read_text" => Question::ReadText { text: words.bytes()?, room: words.room()? },
+            "check_text" => Question::CheckText(words.bytes()?),
             _ => match (Test::ALL.iter().find(|t| t.name() == name), Kind::ALL.iter().find(|k| k.name() == name)) {
                 (Some(test), _) => Question::Test(*test, words.raw()?),
-                (_, Some(kind)) => Question::Product {
-                    kind: *kind,
-                    p: words.raw()?,
-                    q: words.raw()?,
-                    room: [words.number()?, words.number()?, words.number()?],
-                },
+                (_, Some(kind)) => {
+                    Question::Product { kind: *kind, p: words.raw()?, q: words.raw()?, room: words.room()? }
+                }
                 _ => return None,
             },
         };
@@ -194,6 +265,8 @@ mod tests {
             Question::Search { cell: cell(), first: vec![0; 4], mask: 6, table: 25, orientations: 7 },
             Question::Events { cell: cell(), first: vec![0; 4], mask: 6 },
             Question::Product { kind: Kind::Duoprism, p: cell(), q: Raw::default(), room: [0, 1, 2] },
+            Question::ReadText { text: b"rank=0\ncount=1\nsubs=\n".to_vec(), room: [1, 2, 0] },
+            Question::CheckText((0..=255).chain(*b"\\x41 \"\n\"").collect()),
         ];
         for question in questions {
             let text = question.to_string();
@@ -203,7 +276,11 @@ mod tests {
             assert_eq!(read.ask(&Model::default()), reply);
             assert_eq!(Reply::read(&reply.to_string()), Some(reply));
         }
+        let pieces = Question::read(r#"check_text "a"*2"\n"" b"*0"c""#).expect("a text in pieces");
+        assert_eq!(pieces.to_string(), r#"check_text "aa\nc""#);
+        assert!(Question::read(r#"check_text "a"*b"#).is_none());
         assert!(Question::read("closed [1] [0 0]").is_none());
         assert!(Question::read("rank [1] 2").is_none());
+        assert!(Question::read(r#"check_text "rank=\""#).is_none());
     }
 }

@@ -10,11 +10,15 @@ use search_events::Cursor;
 use search_events::Said;
 ghost use mathlib.Core.Path.{_≡_};
 ghost use mathlib.Core.Bool.{true, false};
+ghost use lib.ListN.{length};
 ghost use Rattle.listing.specs.Refusals.{band, bandNo};
 ghost use Rattle.listing_shape.specs.Counts.{rankOf, elCountOf, vertexCountOf, facetCountOf};
 ghost use Rattle.listing.specs.Listing.{held, limits};
+ghost use Rattle.listing_outputs.specs.Output.{Made};
 ghost use Rattle.valid.specs.Tests as tests;
 ghost use Rattle.product.specs.Outcome.{Outcome};
+ghost use Rattle.text_theory.specs.Said.{listingIn};
+ghost use Rattle.text.specs.Texts.{readTest, checkTest};
 ghost use Rattle.flag.specs.Changed.{changedOf};
 ghost use Rattle.search_events.specs.Events.{SaidStep};
 ghost use Rattle.flag.specs.Orientations.{ofByte, signOf};
@@ -265,4 +269,28 @@ pub extern "C" fn fd_duocomb(
         ends,
         inc,
     )
+}
+
+// Reads a text, and writes the last three slices, which overlap no other slice that is lent here.
+#[no_mangle]
+pub extern "C" fn fd_read_text(
+    text: &[u8],
+    counts: &mut [Index],
+    ends: &mut [Index],
+    inc: &mut [Index],
+) -> Built
+    ensures { λ r. ⌜ Made
+        (readTest limits (now (text .entry)) (length (now (counts .entry))) (length (now (ends .entry)))
+        (length (now (inc .entry))))
+        (listingIn (now (text .entry))) (held (counts .entry) (ends .entry) (inc .entry))
+        (held (counts .exit) (ends .exit) (inc .exit)) r ⌝ }
+{
+    text::read_text(text, counts, ends, inc)
+}
+
+#[no_mangle]
+pub extern "C" fn fd_check_text(text: &[u8]) -> u16
+    ensures { λ r. ⌜ r ≡ checkTest limits (now (text .entry)) .no ⌝ }
+{
+    text::check_text(text)
 }

@@ -52,7 +52,7 @@ joined-at f n t j h l =
     rw (s .1, ← joined-length f t)
     (getD-append-add (joined f t) (f t ++ s .0) j 0 ∙ List·getD-append (f t) (s .0) 0 j l)
 
-joined-same : (f g : ℕ → List ℕ) (n : ℕ) → ((i : ℕ) → i < n → f i ≡ g i) → joined f n ≡ joined g n
+pub joined-same : (f g : ℕ → List ℕ) (n : ℕ) → ((i : ℕ) → i < n → f i ≡ g i) → joined f n ≡ joined g n
 unfolding joined
 joined-same f g zero h = refl
 joined-same f g (suc n) h = rw (joined-same f g n (λ i l. h i (omega arith)), h n (omega arith))

@@ -4,7 +4,7 @@
 -- listing   a listing of three lists
 -- held      the listing in three lent slices
 -- width     how many values a number of a listing can have
--- Limits    how much a listing, and a search over it, may hold
+-- Limits    how much a listing, a search over it, and its text in bytes may hold
 -- limits    the limits in force
 -- rank      one less than the number of ranks
 -- count     the elements of a rank; none for a rank that is not there
@@ -41,9 +41,10 @@ pub record Limits : Type 0 where
   pub elements : ℕ
   pub incidences : ℕ
   pub flags : ℕ
+  pub text : ℕ
 
 abbrev pub limits : Limits
-limits = record { ranks = 16; elements = 4096; incidences = 32768; flags = 16384 }
+limits = record { ranks = 16; elements = 4096; incidences = 32768; flags = 16384; text = 65536 }
 
 abbrev pub rank : Listing → ℕ
 rank L = length (L .counts) - 1

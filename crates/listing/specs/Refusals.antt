@@ -18,6 +18,8 @@
 -- combOfPoint                            duocomb with a factor of rank 1, where none has rank 0
 -- productRanks, productElements          a product with too many ranks, elements
 -- productIncidences, outputShort         too many incidences; an output slice that is too short
+-- wrongKey, badLine                      of a text: a line that does not begin with its key; else not as it is written
+-- longText, moreBytes                    a text that is too long; one that goes on after its last line
 -- within                                 whether a number lies from one number to another, both counted in
 -- band                                   the class of a number: 1 to 9 shape, 10 to 19 structure, 20 to 29 flags,
 --                                        30 to 39 products, all else nothing
@@ -109,6 +111,19 @@ productIncidences = 35
 
 abbrev pub outputShort : ℕ
 outputShort = 36
+
+-- texts
+abbrev pub wrongKey : ℕ
+wrongKey = 40
+
+abbrev pub badLine : ℕ
+badLine = 41
+
+abbrev pub longText : ℕ
+longText = 42
+
+abbrev pub moreBytes : ℕ
+moreBytes = 43
 
 abbrev pub within : ℕ → ℕ → ℕ → Bool
 within a b n = leb a n && leb n b

@@ -55,3 +55,12 @@ pub const PRODUCT_ELEMENTS: u16 = 34;
 pub const PRODUCT_INCIDENCES: u16 = 35;
 
 pub const OUTPUT_SHORT: u16 = 36;
+
+// Texts.
+pub const WRONG_KEY: u16 = 40;
+
+pub const BAD_LINE: u16 = 41;
+
+pub const LONG_TEXT: u16 = 42;
+
+pub const MORE_BYTES: u16 = 43;

@@ -18,7 +18,7 @@ use Rattle.listing_outputs.specs.declared.outputs.Room.{Room}
 use Rattle.listing.specs.Refusals.{outputShort}
 use Rattle.listing.specs.Answers.{plain, fine, ifZero}
 use Rattle.listing.specs.Listing.{Listing, listing}
-use Rattle.listing_outputs.specs.Output.{Fits, shortTest, roomTest, builtOf, after, Made, prefix, Untouched, Wrote}
+use Rattle.listing_outputs.specs.Output.{Fits, needOf, shortTest, roomTest, builtOf, after, Made, prefix, Untouched, Wrote}
 use Rattle.listing.proofs.Answers.{if-not, no-of, stops}
 use Rattle.listing.proofs.Broken.{Tests, tests-on}
 
@@ -99,6 +99,10 @@ module _ (t : Answer) (R : Listing) (z : t .no ≡ 0) where
       ≡ record { answer = t; counts = length (R .counts); ends = length (R .ends); inc = length (R .inc) }
   unfolding builtOf
   built-full = rw z
+
+  pub built-need : (n : Room) → n ≡ needOf R
+      → record { answer = t; counts = n .counts; ends = n .ends; inc = n .inc } ≡ builtOf t R
+  built-need n e = rw e (sym built-full)
 
   after-full : (new old : List ℕ) → after t new old ≡ over new old
   unfolding after

@@ -4,8 +4,9 @@ use listing::Built;
 use listing::inner;
 use listing::refusal;
 ghost use mathlib.Core.Path.{_≡_};
-ghost use Rattle.listing.specs.Listing.{Listing};
-ghost use Rattle.listing_outputs.specs.Output.{shortTest, builtOf};
+ghost use Prim.Native.Nat.{_<_};
+ghost use Rattle.listing.specs.Listing.{Listing, width};
+ghost use Rattle.listing_outputs.specs.Output.{needOf, shortTest, builtOf};
 
 // How many numbers the three slices of a listing take, or have room for.
 pub struct Room {
@@ -39,5 +40,18 @@ pub fn refused(answer: Answer) -> Built
         counts: 0,
         ends: 0,
         inc: 0,
+    }
+}
+
+// What is answered of a listing that is written, which takes so much room.
+pub fn written(answer: Answer, need: Room) -> Built
+    requires { ⌜ (need .counts < width) × (need .ends < width) × (need .inc < width) ⌝ }
+    ensures { λ r. ⌜ ((R : Listing) → need ≡ needOf R → answer .no ≡ 0 → r ≡ builtOf answer R) ⌝ }
+{
+    Built {
+        answer,
+        counts: need.counts as u16,
+        ends: need.ends as u16,
+        inc: need.inc as u16,
     }
 }

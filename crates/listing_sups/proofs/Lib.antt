@@ -6,3 +6,4 @@ pub mod SupsFilled
 pub mod Laying
 pub mod Over
 pub mod Whole
+pub mod Unfilled

@@ -73,7 +73,7 @@ module _ (from n x : ℕ) (up : List ℕ) where
   raised-past h = raised-none from n _ up (λ y l. occurs-apart y x (omega arith))
 
 -- no count has grown by more than b
-raised-most : (from n b : ℕ) (g : ℕ → ℕ) (up up′ : List ℕ) → Raised from n g up up′ → ((x : ℕ) → g x ≤ b)
+pub raised-most : (from n b : ℕ) (g : ℕ → ℕ) (up up′ : List ℕ) → Raised from n g up up′ → ((x : ℕ) → g x ≤ b)
     → (k : ℕ) → getD up′ k 0 ≤ getD up k 0 + b
 raised-most from n b g up up′ r h k = go (decLt k from) (decLt k (from + n))
   where

@@ -4,6 +4,7 @@
 -- subsFrom     the subs of element a of rank i of a listing whose elements are numbered from b on
 -- layersFrom   what the counts and subs of such a listing say
 -- UpCounts     a list that has for each of its elements, by rank and then index, how many sups are derived for it
+-- Counted      the same of layers
 -- Raised       each of n numbers from place `from` on raised by g of its index, and no other
 -- Strewn       for each x of n, the numbers `so x` written from its cursor on, next (from + x), and nothing else
 -- Apart        room for g x numbers at the cursor of each x of n: each ends before the next begins, all before `top`
@@ -14,8 +15,9 @@
 -- SupsFilled   the derived sups of the ranks below r written, each where its element's subs end, and nothing else
 use mathlib.Core.Path.{_≡_}
 use mathlib.Core.List.{List}
-use Prim.Native.Nat.{ℕ, _+_, _-_, _*_, _≤_, _<_}
+use Prim.Native.Nat.{ℕ, suc, _+_, _-_, _*_, _≤_, _<_}
 use lib.ListN.{length, getD, take, drop}
+use Rattle.order.specs.Sums.{sum}
 use Rattle.listing.specs.Listing.{Listing, width, limits, rank, count, before, entries, Ends}
 use Rattle.listing.specs.Shape.{elements}
 use Rattle.listing.specs.Layers.{Layers, layers, derived}
@@ -32,6 +34,10 @@ layersFrom b L = record { top = rank L; size = λ i. count L i; under = subsFrom
 unfoldable pub UpCounts : ℕ → Listing → List ℕ → Type 0
 UpCounts b L up =
     (i x : ℕ) → x < count L i → getD up (before (L .counts) i + x) 0 ≡ length (derived (layersFrom b L) i x)
+
+pub record Counted (M : Layers) (up : List ℕ) : Type 0 where
+  pub long : sum (M .size) (suc (M .top)) ≤ length up
+  pub at : (r x : ℕ) → x < M .size r → getD up (sum (M .size) r + x) 0 ≡ length (derived M r x)
 
 pub record Raised (from n : ℕ) (g : ℕ → ℕ) (up up′ : List ℕ) : Type 0 where
   pub same-length : length up′ ≡ length up

@@ -8,7 +8,7 @@ use Prim.Native.Nat.{ℕ, zero, suc, _+_, _≤_, _<_}
 use native.Mathlib.Omega.{arith}
 use borrow.Author.Tests.{eq-eqb, ne-eqb}
 use lib.Dec.{T, eqb, eqb→eq, eqb-refl}
-use lib.ListN.{length, getD}
+use lib.ListN.{length, getD, replicate}
 use Rattle.order.specs.Lists.{In, has, Ascending, occurs}
 
 pub in-left : (a : ℕ) (s t : List ℕ) → In a s → In a (s ++ t)
@@ -199,3 +199,9 @@ ascending-same (x ∷ l) (y ∷ m) to back hl hm =
     let e = heads x y l m (to x (inl refl)) (back y (inl refl)) hl hm in
     let r = ascending-same l m (tails x y l m e hl to) (tails y x m l (sym e) hm back) (hl .1) (hm .1) in
     λ i. e i ∷ r i
+
+-- all numbers are 0
+pub zeros : (n k : ℕ) → _≡_ {A = ℕ} (getD (replicate n 0) k 0) 0
+zeros zero k = refl
+zeros (suc n) zero = refl
+zeros (suc n) (suc k) = zeros n k

@@ -54,6 +54,24 @@ unfolding sum
 sum-same f g zero h = refl
 sum-same f g (suc n) h = omega (arith, sum-same f g n (λ i l. h i (omega arith)), h n (omega arith))
 
+-- two sums together
+pub sum-plus : (f g : ℕ → ℕ) (n : ℕ) → sum (λ i. f i + g i) n ≡ sum f n + sum g n
+unfolding sum
+sum-plus f g zero = refl
+sum-plus f g (suc n) = omega (arith, sum-plus f g n)
+
+-- the first apart
+pub sum-first : (f : ℕ → ℕ) (n : ℕ) → sum f (suc n) ≡ f 0 + sum (λ i. f (suc i)) n
+unfolding sum
+sum-first f zero = omega arith
+sum-first f (suc n) = omega (arith, sum-first f n)
+
+-- two sums exchanged
+pub sum-swap : (f : ℕ → ℕ → ℕ) (m n : ℕ) → sum (λ a. sum (f a) n) m ≡ sum (λ b. sum (λ a. f a b) m) n
+unfolding sum
+sum-swap f zero n = sym (sum-zero _ n (λ i h. refl))
+sum-swap f (suc m) n = omega (arith, sum-swap f m n, sum-plus (λ b. sum (λ a. f a b) m) (f m) n)
+
 pub part-ok : (f : ℕ → ℕ) (n k : ℕ) → k < sum f n → Placed f n k (partAt f n k)
 unfolding sum partAt choose
 part-ok f zero k h = absurd (not-suc-le-zero h)

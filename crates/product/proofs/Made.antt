@@ -1,23 +1,20 @@
--- What is answered of a listing by its sizes, and the nullitope as it is written out.
+-- The room that a listing takes by its sizes, and the nullitope as it is written out.
 -- Assumes nothing.
 use mathlib.Core.Path.{_≡_, refl}
 use mathlib.Core.List.{List, [], _∷_}
-use Prim.Native.Nat.{ℕ, _*_, _≤_}
+use Prim.Native.Nat.{ℕ, _≤_}
 use native.Mathlib.Omega.{arith}
 use lib.ListN.{length, set}
 use Rattle.order.specs.Lists.{over}
 use Rattle.order.specs.Sums.{sum}
-use Rattle.listing.specs.declared.Answer.{Answer}
 use Rattle.listing.specs.Listing.{Listing, before}
 use Rattle.listing.specs.Cells.{nullitope}
-use Rattle.listing_outputs.specs.Output.{builtOf}
-use Rattle.listing_outputs.proofs.Output.{built-full}
+use Rattle.listing_outputs.specs.Output.{needOf}
 use Rattle.product_sizes.specs.declared.sizes.Totals.{Totals}
-use Rattle.product_sizes.specs.Sizing.{Measures}
+use Rattle.product_sizes.specs.Sizing.{Measures, needOfTotals}
 
-pub built-written : (t : Answer) (R : Listing) → t .no ≡ 0 → (s : Totals) → Measures R s
-    → record { answer = t; counts = s .ranks; ends = 2 * s .elements; inc = s .incidences } ≡ builtOf t R
-built-written t R z s m = rw (built-full t R z, m .ranks, m .ends, m .incidences)
+pub need-is : (R : Listing) (s : Totals) → Measures R s → needOfTotals s ≡ needOf R
+need-is R s m = rw (m .ranks, m .ends, m .incidences)
 
 -- ---- the nullitope
 

@@ -12,7 +12,7 @@ use borrow.Author.Tests.{eq-eqb, ne-eqb}
 use lib.Dec.{eqb}
 use lib.ListN.{length}
 use Rattle.order.specs.Sums.{sum}
-use Rattle.order.proofs.Sums.{sum-same}
+use Rattle.order.proofs.Sums.{sum-same, sum-first}
 use Rattle.listing.specs.Listing.{Listing, count}
 use Rattle.listing.specs.Layers.{Layers, Topped, derived}
 use Rattle.listing.specs.Written.{listAt}
@@ -23,7 +23,6 @@ use Rattle.product_pairs.specs.Sound.{Sound}
 use Rattle.product_pairs.specs.Trimmed.{bit}
 use Rattle.product_pairs.specs.Paired.{El, block, offset, position, leftSubs, rightSubs, pairSubs, paired}
 use Rattle.product_pairs.specs.Grown.{minSize, addMaxIf, grown}
-use Rattle.product_pairs.proofs.Sequences.{sum-first}
 use Rattle.product_pairs.proofs.Positions.{position-exists, paired-under, paired-topped}
 use Rattle.product_pairs.proofs.AddMax.{max-size-low}
 use Rattle.product_pairs.proofs.Grown.{grown-top, grown-size, grown-under, grown-min-under}

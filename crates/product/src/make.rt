@@ -31,12 +31,7 @@ fn written(answer: Answer, s: Totals) -> Built
         × (s .incidences ≤ limits .incidences) ⌝ }
     ensures { λ r. ⌜ ((R : Listing) → Measures R s → answer .no ≡ 0 → r ≡ builtOf answer R) ⌝ }
 {
-    Built {
-        answer,
-        counts: s.ranks as u16,
-        ends: (2 * s.elements) as u16,
-        inc: s.incidences as u16,
-    }
+    outputs::written(answer, sizes::need_of(s))
 }
 
 // Whether one of two ranks is n.

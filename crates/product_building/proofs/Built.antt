@@ -1,31 +1,24 @@
 -- The product as the builder leaves it: its counts, and with all elements laid, its ends and its incidences.
 -- Assumes nothing.
-use mathlib.Core.Path.{_≡_, refl, sym, _∙_}
+use mathlib.Core.Path.{_≡_, sym, ap, _∙_}
 use mathlib.Core.List.{List}
-use Prim.Native.Nat.{ℕ, zero, suc, _*_, _≤_, _<_}
+use Prim.Native.Nat.{ℕ, suc, _*_, _≤_, _<_}
 use native.Mathlib.Omega.{arith}
-use lib.ListN.{length, getD, take, replicate}
+use lib.ListN.{length}
 use Rattle.order.specs.Sums.{sum}
-use Rattle.listing.specs.Listing.{width, Listing, listing}
+use Rattle.listing.specs.Listing.{width, Listing}
 use Rattle.listing.specs.Layers.{Layers, Topped, derived}
 use Rattle.listing.specs.Laid.{LaidList}
 use Rattle.listing.specs.Written.{nth}
-use Rattle.listing_sups.specs.Sups.{UpCounts, Fillable, SupsFilled}
-use Rattle.order.specs.Lists.{over}
+use Rattle.listing_sups.specs.Sups.{UpCounts}
 use Rattle.listing_sups.specs.Filling.{starts, ElementsLaid}
-use Rattle.listing_sups.proofs.Over.{list-over, take-over}
-use Rattle.listing_sups.proofs.Whole.{whole-fillable, whole-ends, whole-inc}
+use Rattle.listing_sups.proofs.Unfilled.{Unfilled}
 use Rattle.product_places.specs.declared.Poles.{Poles}
 use Rattle.product_places.proofs.Numbers.{bit-le}
 use Rattle.product_element.specs.Pairs.{target, listsOf, productLists, sizeOf, Plan}
 use Rattle.product_writing.proofs.Target.{target-size, target-topped}
 use Rattle.product_building.specs.Built.{countsOf, productListing}
 use Rattle.product_building.proofs.CountsLaid.{counts-length, target-counts}
-
-pub zeros : (n k : ℕ) → _≡_ {A = ℕ} (getD (replicate n 0) k 0) 0
-zeros zero k = refl
-zeros (suc n) zero = refl
-zeros (suc n) (suc k) = zeros n k
 
 -- counts of sups, by another number for where the elements begin
 pub counted-from : {b b′ : ℕ} (L : Listing) (up : List ℕ) → b ≡ b′ → UpCounts b L up → UpCounts b′ L up
@@ -94,10 +87,6 @@ module _ {poles : Poles} {P Q : Listing} {counts₀ ends₀ inc₀ counts₁ end
   abbrev r : Buildable poles P Q counts₀ ends₀ inc₀
   r = l .ready
 
-  part-is : take k counts₁ ≡ W r .counts
-  part-is =
-      rw (l .k-is) (take-over _ counts₀ counts₁ (counts-room r) (l .counts) ∙ sym (counts-are r))
-
   number-is : n ≡ N r
   number-is = l .n-is ∙ sym (size r)
 
@@ -105,24 +94,16 @@ module _ {poles : Poles} {P Q : Listing} {counts₀ ends₀ inc₀ counts₁ end
   unfolding listsOf
   laid-T = rw (size r) (l .elements)
 
-  -- what is asked of the code that fills in the sups
-  pub fill-asked : Fillable (listing (take k counts₁) (take (2 * n) ends₁) inc₁)
-  fill-asked =
-      rw (part-is, number-is)
-      (whole-fillable (T r) (topped r) ends₀ inc₀ ends₁ inc₁ laid-T (room-ends r) (room-inc r)
-      (omega (arith, size r, r .plan .elements)) (few-counts r))
-
-  -- and what that leaves
-  pub built-all : (inc₂ : List ℕ)
-      → SupsFilled (listing (take k counts₁) (take (2 * n) ends₁) inc₁) (length (take k counts₁)) inc₂
-      → (counts₁ ≡ over (W r .counts) counts₀) × ((ends₁ ≡ over (W r .ends) ends₀) × (inc₂ ≡ over (W r .inc) inc₀))
-  built-all inc₂ f = (
-    rw (counts-are r)
-        (list-over (countsOf (poles .min) (poles .max) (P .counts) (Q .counts)) counts₀ counts₁ (counts-room r)
-        (l .counts)),
-    (
-      whole-ends (T r) (topped r) ends₀ inc₀ ends₁ inc₁ laid-T (room-ends r) (room-inc r),
-      whole-inc (T r) (topped r) ends₀ inc₀ ends₁ inc₁ laid-T (room-ends r) (room-inc r) inc₂
-          (rw (part-is, number-is) at f),
-    ),
-  )
+  pub product-unfilled : Unfilled (T r) counts₀ ends₀ inc₀ counts₁ ends₁ inc₁ k n
+  product-unfilled = record {
+    topped = topped r;
+    k-is = l .k-is ∙ ap length (sym (counts-are r));
+    counts = rw (counts-are r) (l .counts);
+    n-is = number-is;
+    elements = laid-T;
+    few-counts = few-counts r;
+    few-elements = omega (arith, size r, r .plan .elements);
+    room-counts = r .room;
+    room-ends = room-ends r;
+    room-inc = room-inc r;
+  }

@@ -6,7 +6,7 @@ use mathlib.Core.Bool.{Bool}
 use Prim.Native.Nat.{suc, _+_, _*_}
 use lib.ListN.{length}
 use Rattle.order.specs.Sums.{sum}
-use Rattle.order.proofs.Sums.{sum-same}
+use Rattle.order.proofs.Sums.{sum-same, sum-plus}
 use Rattle.listing.specs.Listing.{Listing, Limits}
 use Rattle.listing.specs.Shape.{elements, Shaped}
 use Rattle.listing.specs.Layers.{Layers, Topped, layers, derived}
@@ -17,7 +17,6 @@ use Rattle.product_pairs.specs.Trimmed.{bit}
 use Rattle.product_pairs.specs.Paired.{block, paired}
 use Rattle.product_pairs.specs.Product.{usedPairs, layerProduct, productOf}
 use Rattle.product_pairs.specs.Lengths.{rankSubs, allSubs, pairedSubs, productSubs}
-use Rattle.product_pairs.proofs.Sequences.{sum-plus}
 use Rattle.product_pairs.proofs.Trimmed.{trimmed-topped}
 use Rattle.product_pairs.proofs.Grown.{grown-top}
 use Rattle.product_pairs.proofs.Product.{product-topped}

@@ -5,9 +5,8 @@ use Prim.Native.Nat.{ℕ, zero, suc, _+_, _-_, _*_, _≤_, _<_}
 use native.Mathlib.Decide.{decLt}
 use native.Mathlib.Omega.{arith}
 use Rattle.order.specs.Sums.{sum}
-use Rattle.order.proofs.Sums.{sum-zero, sum-same}
+use Rattle.order.proofs.Sums.{sum-zero, sum-same, sum-plus}
 use Rattle.listing.proofs.Sequences.{sum-add}
-use Rattle.product_pairs.proofs.Sequences.{sum-plus}
 
 -- by the sum of the indices, and by the first of them
 sum-triangle : (h : ℕ → ℕ → ℕ) (n : ℕ)

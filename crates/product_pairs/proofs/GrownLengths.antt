@@ -9,14 +9,14 @@ use native.Mathlib.Numerals.{add-one}
 use native.Mathlib.Omega.{arith}
 use lib.ListN.{length}
 use Rattle.order.specs.Sums.{sum}
-use Rattle.order.proofs.Sums.{sum-same}
+use Rattle.order.proofs.Sums.{sum-same, sum-first}
 use Rattle.listing.specs.Layers.{Layers, gather, derived}
 use Rattle.listing.proofs.Layers.{gather-same}
 use Rattle.product_pairs.specs.Sound.{Sound}
 use Rattle.product_pairs.specs.Trimmed.{bit}
 use Rattle.product_pairs.specs.Grown.{minSize, minUnder, addMin, maxSize, addMax, grown}
 use Rattle.product_pairs.specs.Lengths.{rankSubs, allSubs}
-use Rattle.product_pairs.proofs.Sequences.{upTo-length, upTo-occurs, sum-all, sum-first}
+use Rattle.product_pairs.proofs.Sequences.{upTo-length, upTo-occurs, sum-all}
 use Rattle.product_pairs.proofs.AddMax.{max-size-low, max-size-top, max-under-low, max-under-top, addMax-sound}
 use Rattle.product_pairs.proofs.Lengths.{rankSubs-lowest}
 

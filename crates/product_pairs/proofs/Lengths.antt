@@ -9,13 +9,13 @@ use native.Mathlib.Omega.{arith}
 use lib.ListN.{length}
 use Rattle.order.specs.Lists.{In, occurs}
 use Rattle.order.specs.Sums.{sum}
-use Rattle.order.proofs.Sums.{sum-zero, sum-same}
+use Rattle.order.proofs.Sums.{sum-zero, sum-same, sum-plus, sum-first, sum-swap}
 use Rattle.listing.specs.Layers.{Layers, Topped, derived}
 use Rattle.listing.proofs.Layers.{derived-length}
 use Rattle.listing.proofs.Written.{total}
 use Rattle.product_pairs.specs.Sound.{Sound}
 use Rattle.product_pairs.specs.Lengths.{rankSubs, allSubs}
-use Rattle.product_pairs.proofs.Sequences.{sum-plus, sum-first, sum-swap, occurs-all}
+use Rattle.product_pairs.proofs.Sequences.{occurs-all}
 
 no-member : (l : List ℕ) → ((a : ℕ) → In a l → ⊥) → length l ≡ 0
 unfolding In

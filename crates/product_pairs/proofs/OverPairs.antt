@@ -6,11 +6,11 @@ use Prim.Native.Nat.{ℕ, suc, _+_, _-_, _<_}
 use native.Mathlib.Omega.{arith}
 use Rattle.order.specs.Sums.{sum}
 use Rattle.order.specs.Pairs.{Pairs}
-use Rattle.order.proofs.Sums.{sum-zero, sum-same}
+use Rattle.order.proofs.Sums.{sum-zero, sum-same, sum-plus}
 use Rattle.listing.specs.Layers.{Layers, order}
 use Rattle.listing.proofs.Sequences.{sum-parts}
 use Rattle.product_pairs.specs.Paired.{El, block, offset, position, paired}
-use Rattle.product_pairs.proofs.Sequences.{sum-plus, sum-one, sum-rows}
+use Rattle.product_pairs.proofs.Sequences.{sum-one, sum-rows}
 
 -- The pair of element a of rank i and element b of the rank that makes R with it; the sum of f over all these pairs.
 abbrev pub pairIn : ℕ → ℕ → ℕ → ℕ → El × El

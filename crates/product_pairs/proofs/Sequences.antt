@@ -12,7 +12,7 @@ use Rattle.order.specs.Lists.{In, Ascending, occurs}
 use Rattle.order.specs.Sums.{sum}
 use Rattle.order.proofs.Lists.{in-left, in-right, append-in, ascending-append, ascending-once}
 use Rattle.order.proofs.Lists.{occurs-some, occurs-append}
-use Rattle.order.proofs.Sums.{sum-zero, sum-same}
+use Rattle.order.proofs.Sums.{sum-zero, sum-same, sum-plus}
 use Rattle.listing.proofs.Sequences.{occurs-same, occurs-other, sum-parts}
 use Rattle.product_pairs.specs.Grown.{upTo}
 
@@ -57,12 +57,6 @@ upTo-occurs a n h =
 
 -- ---- sums
 
-module _ (f g : ℕ → ℕ) where
-  pub sum-plus : (n : ℕ) → sum (λ i. f i + g i) n ≡ sum f n + sum g n
-  unfolding sum
-  sum-plus zero = refl
-  sum-plus (suc n) = omega (arith, sum-plus n)
-
 pub sum-all : (c n : ℕ) → sum (λ i. c) n ≡ n * c
 unfolding sum
 sum-all c zero = omega arith
@@ -74,12 +68,6 @@ unfolding sum
 sum-cross f g zero n = omega arith
 sum-cross f g (suc m) n =
     omega (arith, sum-cross f g m n, sum-plus (λ b. f m) g n, sum-all (f m) n)
-
--- the first apart
-pub sum-first : (f : ℕ → ℕ) (n : ℕ) → sum f (suc n) ≡ f 0 + sum (λ i. f (suc i)) n
-unfolding sum
-sum-first f zero = omega arith
-sum-first f (suc n) = omega (arith, sum-first f n)
 
 -- only one is not 0
 pub sum-one : (f : ℕ → ℕ) (n i : ℕ) → i < n → ((k : ℕ) → k < n → k ≢ i → f k ≡ 0) → sum f n ≡ f i
@@ -94,11 +82,6 @@ sum-one f (suc n) i h z = go (λ l. sum-one f n i l (λ k m. z k (omega arith)))
     go ih (no d) =
         let l : i < n = omega arith in
         omega (arith, ih l, z n (omega arith) (λ q. d (sym q)))
-
-pub sum-swap : (f : ℕ → ℕ → ℕ) (m n : ℕ) → sum (λ a. sum (f a) n) m ≡ sum (λ b. sum (λ a. f a b) m) n
-unfolding sum
-sum-swap f zero n = sym (sum-zero _ n (λ i h. refl))
-sum-swap f (suc m) n = omega (arith, sum-swap f m n, sum-plus (λ b. sum (λ a. f a b) m) (f m) n)
 
 -- m rows of n each
 pub sum-rows : (f : ℕ → ℕ) (m n : ℕ) → sum f (m * n) ≡ sum (λ a. sum (λ b. f (a * n + b)) n) m

@@ -7,7 +7,7 @@ use Prim.Native.Nat.{ℕ, suc, _+_, _-_, _*_, _≤_, _<_}
 use native.Mathlib.Omega.{arith}
 use lib.ListN.{length, getD, drop, length-take, length-drop}
 use Rattle.order.specs.Sums.{sum}
-use Rattle.order.proofs.Sums.{sum-same}
+use Rattle.order.proofs.Sums.{sum-same, sum-first}
 use Rattle.listing.specs.Listing.{Listing, limits, before, start, entries}
 use Rattle.listing.specs.Shape.{elements}
 use Rattle.listing.specs.Layers.{Layers, layers}
@@ -16,7 +16,6 @@ use Rattle.listing.proofs.Sequences.{sum-add, sum-parts}
 use Rattle.product_pairs.specs.Trimmed.{bit, trimSize, trimmed}
 use Rattle.product_pairs.specs.Product.{productOf}
 use Rattle.product_pairs.specs.Lengths.{rankSubs, allSubs}
-use Rattle.product_pairs.proofs.Sequences.{sum-first}
 use Rattle.product_pairs.proofs.Trimmed.{trimmed-sound}
 use Rattle.product_pairs.proofs.Lengths.{rankSubs-lowest}
 use Rattle.product_closure.specs.Sizes.{allElements, sizesOf}

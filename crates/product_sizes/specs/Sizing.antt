@@ -6,6 +6,7 @@
 -- Little        an extent so small that products of two fit a word
 -- totalsOf      how many ranks, elements and incidences the product has of two factors that have these extents in use
 -- Measures      the same of a listing
+-- needOfTotals  how much room a listing of these three numbers takes
 -- limitsThen    33, 34, 35 by the limits, and then the rest
 -- totalsTest    these, and 36 by the room in the output slices, for a product of these three numbers
 -- sizeTest      the same of a listing
@@ -71,6 +72,9 @@ pub record Measures (R : Listing) (t : Totals) : Type 0 where
   pub ends : length (R .ends) ≡ 2 * t .elements
   pub incidences : length (R .inc) ≡ t .incidences
 
+abbrev pub needOfTotals : Totals → Room
+needOfTotals t = record { counts = t .ranks; ends = 2 * t .elements; inc = t .incidences }
+
 abbrev pub limitsThen : Limits → ℕ → ℕ → ℕ → Answer → Answer
 limitsThen m ranks elements incidences rest =
     on (ltb (m .ranks) ranks) (plain productRanks) orElse
@@ -80,7 +84,7 @@ limitsThen m ranks elements incidences rest =
 unfoldable pub totalsTest : Limits → Totals → Room → Answer
 totalsTest m t o =
     limitsThen m (t .ranks) (t .elements) (t .incidences)
-    (shortTest (record { counts = t .ranks; ends = 2 * t .elements; inc = t .incidences }) o)
+    (shortTest (needOfTotals t) o)
 
 unfoldable pub sizeTest : Limits → Listing → ℕ → ℕ → ℕ → Answer
 sizeTest m R c e i =

@@ -15,7 +15,7 @@ ghost use Rattle.order.specs.Sums.{sum};
 ghost use Rattle.listing.specs.Listing.{held, limits, Ends, entries};
 ghost use Rattle.listing.specs.Layers.{layers};
 ghost use Rattle.product_pairs.specs.Trimmed.{bit, trimmed};
-ghost use Rattle.product_sizes.specs.Sizing.{Usable, countsInUse, extentOf, Little, totalsOf, totalsTest};
+ghost use Rattle.product_sizes.specs.Sizing.{needOfTotals, Usable, countsInUse, extentOf, Little, totalsOf, totalsTest};
 
 // How large the part of a factor is that a product uses: its ranks, elements and subs, and the elements of its lowest
 // and of its highest rank.
@@ -120,6 +120,18 @@ pub fn product_sizes(poles: Poles, p: Extent, q: Extent) -> Totals
     }
 }
 
+// How much room a product of these sizes needs.
+pub fn need_of(s: Totals) -> Room
+    requires { ⌜ s .elements ≤ limits .elements ⌝ }
+    ensures { λ r. ⌜ r ≡ needOfTotals s ⌝ }
+{
+    Room {
+        counts: s.ranks,
+        ends: 2 * s.elements,
+        inc: s.incidences,
+    }
+}
+
 // Whether a product of these sizes is within the limits, and then whether there is room for it.
 pub fn check_sizes(s: Totals, room: Room) -> Answer
     ensures { λ r. ⌜ r ≡ totalsTest limits s room ⌝ }
@@ -133,11 +145,5 @@ pub fn check_sizes(s: Totals, room: Room) -> Answer
     if limit::INCIDENCES < s.incidences {
         return inner::plain(refusal::PRODUCT_INCIDENCES);
     }
-    let two_each = 2 * s.elements;
-    let need = Room {
-        counts: s.ranks,
-        ends: two_each,
-        inc: s.incidences,
-    };
-    outputs::check_room(need, room)
+    outputs::check_room(need_of(s), room)
 }

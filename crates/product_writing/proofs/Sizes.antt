@@ -9,13 +9,13 @@ use native.Mathlib.Omega.{arith}
 use lib.ListN.{length}
 use Rattle.order.specs.Lists.{occurs}
 use Rattle.order.specs.Sums.{sum}
-use Rattle.order.proofs.Sums.{choose-yes, choose-no, sum-same}
+use Rattle.order.proofs.Sums.{choose-yes, choose-no, sum-same, sum-first}
 use Rattle.listing.specs.Layers.{Layers, derived}
 use Rattle.listing.specs.Written.{joined, tabulated, listAt, nth}
 use Rattle.listing.proofs.Layers.{derived-length}
 use Rattle.listing.proofs.Written.{tabulated-same, nth-at}
 use Rattle.product_pairs.specs.Trimmed.{bit}
-use Rattle.product_pairs.proofs.Sequences.{sum-first, sum-all}
+use Rattle.product_pairs.proofs.Sequences.{sum-all}
 use Rattle.product_places.proofs.Parts.{when}
 use Rattle.product_pairs.specs.Grown.{upTo, minSize, minUnder, maxSize, maxUnder, addMax, addMinIf, addMaxIf, grown}
 

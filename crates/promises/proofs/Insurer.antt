@@ -18,7 +18,7 @@ use Rattle.valid.proofs.ClosedExact.{closed-exact, closed-is-valid-and}
 use Rattle.product_closure.specs.Result.{HighEnough}
 use Rattle.product.specs.Outcome.{Outcome}
 use Rattle.promises.specs.Starred.{leakingBox, Trial, answered, tried}
-use Rattle.promises.specs.Starred.Trial.{tested, combined, refused, changed}
+use Rattle.promises.specs.Starred.Trial.{tested, combined, refused, readAs, unread, changed}
 use Rattle.promises.proofs.Produced.{outcome-kept}
 use Rattle.promises.proofs.Starred.{starred}
 
@@ -29,17 +29,21 @@ abbrev validIn : Trial → Answer
 validIn (tested L v c) = v
 validIn (combined min max A B a R v c) = v
 validIn (refused min max A B a) = a
+validIn (readAs t a L c) = a
+validIn (unread t a) = a
 validIn (changed L f r c) = c .answer
 
 abbrev closedIn : Trial → Answer
 closedIn (tested L v c) = c
 closedIn (combined min max A B a R v c) = c
 closedIn (refused min max A B a) = a
+closedIn (readAs t a L c) = c
+closedIn (unread t a) = a
 closedIn (changed L f r c) = c .answer
 
 last : map answered tried ≡ tried → answered (tested leakingBox fine (refusal loneBetween 2 0 4 0))
     ≡ tested leakingBox fine (refusal loneBetween 2 0 4 0)
-last e = ap (λ rows. getD rows 21 (tested leakingBox fine fine)) e
+last e = ap (λ rows. getD rows 30 (tested leakingBox fine fine)) e
 
 -- The cell: is_valid accepts it, and closed says of edge 0 that only one face lies between it and the cell.
 pub let-through : (isValid limits leakingBox ≡ fine) × (closed limits leakingBox ≡ refusal loneBetween 2 0 4 0)

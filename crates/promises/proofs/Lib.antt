@@ -7,6 +7,7 @@ pub mod Produced
 pub mod Cases
 pub mod OfTests
 pub mod OfProducts
+pub mod OfTexts
 pub mod OfFlags
 pub mod OfBoundary
 pub mod Cursor

@@ -2,6 +2,7 @@
 -- Assumes nothing.
 use mathlib.Core.Path.{refl}
 use mathlib.Core.Bool.{true, false}
+use Rattle.listing_outputs.proofs.Output.{made-once}
 use Rattle.search_events.specs.Events.{eventAt}
 use Rattle.promises.specs.OfBoundary.{BoundaryTaken, Boundary, BoundaryOnce}
 use Rattle.promises.proofs.Alike.{alike, any}
@@ -12,6 +13,7 @@ pub boundary-taken : BoundaryTaken
 boundary-taken = record {
   tests = (any, any, any, any, any, any, any, any, any, any);
   products = (any, any, any, any);
+  texts = (any, any);
   flags = (any, any, any);
 }
 
@@ -33,6 +35,8 @@ boundary = record {
   duoprism-passes = λ k a r x p. p;
   duotegum-passes = λ k a r x p. p;
   duocomb-passes = λ k a r x p. p;
+  read-text-passes = λ k a r x p. p;
+  check-text-passes = λ k a r x p. p;
   class-passes = λ k l a c r b x y p q e. rw (p, q, e);
   sign-passes = λ k l a c r s x y p q e. rw (p, q, e);
   next-event-passes = λ at count place at′ s p. (eventAt at count place, (refl, p .1), p .0);
@@ -57,5 +61,7 @@ boundary-once = record {
   one-fd-duoprism = λ k a b c x y. same-outcome true false;
   one-fd-duotegum = λ k a b c x y. same-outcome false true;
   one-fd-duocomb = λ k a b c x y. same-outcome true true;
+  one-fd-read-text = λ k a b c x y. made-once;
+  one-fd-check-text = λ k a b c x y. alike;
   one-fd-next-event = λ at count place c d e f p q. (alike (p .0) (q .0), alike (p .1) (q .1));
 }

@@ -1,19 +1,15 @@
 -- What is promised of the four products, of whatever their contracts admit.
 -- Assumes nothing.
-use mathlib.Core.Path.{_≡_, refl}
-use mathlib.Core.Logic.{_⊎_, inl, inr}
+use mathlib.Core.Path.{_≡_}
 use mathlib.Core.Bool.{Bool, true, false, not, _||_}
 use Prim.Native.Nat.{ℕ}
 use lib.Dec.{ltb, eqb}
 use lib.ListN.{length}
-use Rattle.listing.specs.declared.Answer.{Answer}
 use Rattle.listing.specs.declared.Built.{Built}
-use Rattle.listing.specs.Answers.{plain, on, _orElse_}
 use Rattle.listing.specs.Listing.{Listing, Limits, limits}
 use Rattle.listing.specs.Shape.{elements}
 use Rattle.listing_outputs.specs.Output.{shortTest}
-use Rattle.listing.proofs.Answers.{or-fine, or-stop}
-use Rattle.listing.proofs.Broken.{zero-or}
+use Rattle.listing.proofs.Clear.{Plain, plain-on, plain-or}
 use Rattle.listing_outputs.proofs.Output.{made-answer, made-once}
 use Rattle.valid.specs.Tests as tests
 use Rattle.product_closure.specs.Result.{combCase, resultOf}
@@ -28,21 +24,6 @@ pub products-taken : ProductsTaken
 products-taken = record { products = (any, any, any, any, any) }
 
 -- ---- refusals carry nothing
-
--- an answer that carries nothing
-abbrev Plain : Answer → Type 0
-Plain a = a ≡ plain (a .no)
-
-plain-on : (t : Bool) (n : ℕ) → Plain (on t (plain n))
-plain-on true n = refl
-plain-on false n = refl
-
-plain-or : (x y : Answer) → Plain x → Plain y → Plain (x orElse y)
-plain-or x y p q = go (zero-or (x .no))
-  where
-    go : (x .no ≡ 0) ⊎ (x .no ≡ 0 → ⊥) → Plain (x orElse y)
-    go (inl z) = rw (or-fine x y z) q
-    go (inr s) = rw (or-stop x y s) p
 
 size-plain : (m : Limits) (R : Listing) (c e i : ℕ) → Plain (sizeTest m R c e i)
 unfolding sizeTest shortTest

@@ -25,11 +25,15 @@ use Rattle.product_sizes.specs.Sizing.{sizeTest}
 use Rattle.listing_outputs.specs.Output.{shortTest}
 use Rattle.product_factors.specs.Factors.{factorsTest}
 use Rattle.product.specs.Outcome.{restTest, productTest}
+use Rattle.text_theory.specs.Text.{spelled, numeral, parted, commas, lineBytes, lineOf, spot, lineAt, lineCount}
+use Rattle.text_theory.specs.Said.{afterLine, fromLine, valuesFrom, values, countLine, said, begins, numbersFit}
+use Rattle.text_theory.specs.Said.{formTest, belowIn, sizeBelow, incidencesOf, incidencesTo, boundOf, boundAt, textTest}
+use Rattle.text.specs.Texts.{readTest, checkTest}
 use Rattle.order.specs.Tests.{every}
 use Rattle.flag_change.specs.Flags.{flagAt, flagTest, startTest}
 use Rattle.flag_change.specs.Change.{common, other, between, changeAt, padded}
 use Rattle.flag.specs.Changed.{changeTest, changedOf}
-use Rattle.promises.specs.Starred.{answered, tried}
+use Rattle.promises.specs.Starred.{quoted, answered, tried}
 
 -- Computing each row of the table gives the answers that stand in it.
 pub starred : map answered tried ≡ tried
@@ -39,5 +43,7 @@ unfolding decLt has occurs choose sum partAt _orElse_ firstIn firstFor firstOf b
     elementAscent ascentTest subsOfAll thirdTest seenAfter loneTest sectionsTest dyadicTest isValid closed trimSize
     trimUnder block offset position pairOf pairAt leftSubs rightSubs upTo minSize minUnder maxSize maxUnder
     layerProduct productOf nullCase combCase resultOf shortTest sizeTest factorsTest restTest productTest every flagAt
-    flagTest startTest common other between changeAt padded changeTest changedOf answered
+    flagTest startTest common other between changeAt padded changeTest changedOf spelled numeral parted commas
+    lineBytes lineOf spot lineAt lineCount afterLine fromLine valuesFrom values countLine said begins numbersFit
+    formTest belowIn sizeBelow incidencesOf incidencesTo boundOf boundAt textTest readTest checkTest quoted answered
 starred = refl

@@ -1,13 +1,13 @@
 -- The three demands, and that no second answer fits: each a short record that collects what is promised of each family
--- of entries (OfTests, OfProducts, OfFlags, OfBoundary). A promise speaks of an entry through `Post`, the reading of
--- its contract, and so of any slices that the entry is lent. An answer that is an enum is said by the number or values
--- of its case; the events are said both ways.
+-- of entries (OfTests, OfProducts, OfTexts, OfFlags, OfBoundary). A promise speaks of an entry through `Post`, the
+-- reading of its contract, and so of any slices that the entry is lent. An answer that is an enum is said by the number
+-- or values of its case; the events are said both ways.
 --
 -- AnyTaken        every entry takes any slices and numbers: no contract asks anything of its caller
 -- RefusalsNamed   a refusal is true of what its fields name, and names the first such thing in order
 -- DemandOne       any slices are answered: which refusal comes exactly when, and what is written
--- DemandTwo       the tests accept exactly what the book asks; what counts, changes, searches and events answer; a C
---                 function answers what its entry answers
+-- DemandTwo       the tests accept exactly what the book asks; what counts, readings of texts, changes, searches and
+--                 events answer; a C function answers what its entry answers
 -- DemandThree     what the four products keep
 -- OneForEach      no second answer fits the contract of any entry
 use mathlib.Core.Path.{_≡_}
@@ -20,12 +20,14 @@ use Rattle.valid.proofs.closed.Reads as closed
 use Rattle.promises.specs.Entries.{SaysOfTwo, lent}
 use Rattle.promises.specs.OfTests.{TestsTaken, TestsRefuse, TestsNamed, TestsAnswer, TestsOnce}
 use Rattle.promises.specs.OfProducts.{ProductsTaken, ProductsRefuse, ProductsKeep, ProductsOnce}
+use Rattle.promises.specs.OfTexts.{TextsTaken, TextsRefuse, TextsAnswer, TextsOnce}
 use Rattle.promises.specs.OfFlags.{FlagsTaken, FlagsRefuse, FlagsNamed, FlagsAnswer, FlagsOnce}
 use Rattle.promises.specs.OfBoundary.{BoundaryTaken, Boundary, BoundaryOnce}
 
 pub record AnyTaken : Type 0 where
   pub tests : TestsTaken
   pub products : ProductsTaken
+  pub texts : TextsTaken
   pub flags : FlagsTaken
   pub boundary : BoundaryTaken
 
@@ -37,11 +39,13 @@ pub record DemandOne : Type 0 where
   pub any-taken : AnyTaken
   pub tests-refuse : TestsRefuse
   pub products-refuse : ProductsRefuse
+  pub texts-refuse : TextsRefuse
   pub flags-refuse : FlagsRefuse
   pub refusals-named : RefusalsNamed
 
 pub record DemandTwo : Type 0 where
   pub tests-answer : TestsAnswer
+  pub texts-answer : TextsAnswer
   pub flags-answer : FlagsAnswer
   pub boundary-passes : Boundary
 
@@ -54,5 +58,6 @@ pub record DemandThree : Type 0 where
 pub record OneForEach : Type 0 where
   pub tests : TestsOnce
   pub products : ProductsOnce
+  pub texts : TextsOnce
   pub flags : FlagsOnce
   pub boundary : BoundaryOnce

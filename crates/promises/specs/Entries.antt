@@ -6,6 +6,7 @@
 -- OneAnswer   two answers that the contract admits for the same arguments are equal
 -- OneOutcome  and so is what is left of the parameters that are lent to be written
 -- SaysOfTwo   whatever two contracts admit has a property of both calls
+-- SaysOfThree the same of three contracts and calls
 -- PassesOn    whatever one contract admits another admits too, for the same arguments
 -- Slice       a lent slice of numbers
 -- Three       three slices, and the parameters after them
@@ -15,6 +16,8 @@
 -- flag        the flag of a change or a search, in the fourth parameter
 -- asked       the number after it, which says what is asked: the rank of a change, the mask of a search
 -- tables      the table and the orientations of a search
+-- lentText    the text in the first parameter
+-- readInto    the three slices that it is read into, in the next three
 use mathlib.Core.Path.{_≡_}
 use mathlib.Core.List.{List}
 use Prim.Native.Nat.{ℕ}
@@ -39,6 +42,13 @@ module _ {K A B X : Type 0} (P : K → A → B → X → Type 0) {L C D Y : Type
   abbrev pub SaysOfTwo : (A → B → X → C → D → Y → Type 0) → Type 0
   SaysOfTwo R =
       (k : K) (l : L) (a : A) (c : C) (b : B) (d : D) (x : X) (y : Y) → P k a b x → Q l c d y → R a b x c d y
+
+module _ {K A B X : Type 0} (P : K → A → B → X → Type 0) {L C D Y : Type 0} (Q : L → C → D → Y → Type 0)
+    {M E F Z : Type 0} (R : M → E → F → Z → Type 0) where
+  abbrev pub SaysOfThree : (A → B → X → C → D → Y → E → F → Z → Type 0) → Type 0
+  SaysOfThree S =
+      (k : K) (l : L) (m : M) (a : A) (c : C) (e : E) (b : B) (d : D) (f : F) (x : X) (y : Y) (z : Z) → P k a b x
+      → Q l c d y → R m e f z → S a b x c d y e f z
 
 module _ {K A B X : Type 0} (P Q : K → A → B → X → Type 0) where
   abbrev pub PassesOn : Type 0
@@ -68,3 +78,9 @@ module _ {A : Type 0} where
 
   abbrev pub tables : Three (Slice × (ℕ × (Slice × (Slice × A)))) → List ℕ × List ℕ
   tables a = (now (a .1 .1 .1 .1 .1 .0), now (a .1 .1 .1 .1 .1 .1 .0))
+
+  abbrev pub lentText : Slice × A → List ℕ
+  lentText a = now (a .0)
+
+  abbrev pub readInto : Slice × Three A → Listing
+  readInto a = lent (a .1)

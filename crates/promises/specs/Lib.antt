@@ -3,8 +3,9 @@
 --   2. Demands: the three demands, and that no second answer fits, as short records; proofs/Demands proves them
 --   3. Entries: how a promise speaks of an entry, through the reading that the prover makes of its contract
 --   4. the families, each with what is taken, refused, named, answered and left, a field for each promise: OfTests
---      (counts, classes, tests), OfProducts, OfFlags (changes, orientations, search, events), OfBoundary (C)
---   5. the rows of refusals, which stand with the tests that refuse: Rules in listing, valid, flag, search, product
+--      (counts, classes, tests), OfProducts, OfTexts, OfFlags (changes, orientations, search, events), OfBoundary (C)
+--   5. the rows of refusals, which stand with the tests that refuse: Rules in listing, valid, flag, search, product,
+--      text
 --   6. Named: what each refusal says of the elements that it names
 --   7. Products: what is promised of one product; of one search it stands with the search, search/specs/Promised
 --   8. Starred: the listings to try, in one table
@@ -13,6 +14,7 @@ pub mod Named
 pub mod Products
 pub mod OfTests
 pub mod OfProducts
+pub mod OfTexts
 pub mod OfFlags
 pub mod OfBoundary
 pub mod Demands

@@ -1,4 +1,4 @@
--- The listings to try whose answers are known, and one table of what is said of them.
+-- The listings and texts to try whose answers are known, and one table of what is said of them.
 --
 -- square        vertices 0 to 3 with the edges {0,1}, {2,3}, {0,2}, {1,3}
 -- otherSquare   the same with the edges {0,2}, {1,2}, {0,3}, {1,3}
@@ -8,27 +8,39 @@
 -- twiceListed   an edge whose only vertex stands twice among its subs
 -- twicePyramid  the duopyramid of that with a point
 -- leakingBox    the insurer's cell: a box whose edge 0 is doubled as edge 12, each of the two in one face
+-- quoted        a text in quotes as its bytes, one for each character
+-- pointText, triangleText   the texts of the point and of the triangle
+-- missingText   that of a point whose top has a second sub, which does not exist
+-- missingSub    the listing that it says
 -- Trial         a row of the table: what is tried, and what is answered
 -- tested        a listing; what is_valid answers, what closed answers
 -- combined      a product of two listings, with just the room that it takes; what it answers, the listing that it is,
 --               and what the two tests answer of that
 -- refused       a product without any room; what it answers
 -- changed       a listing, a flag and a rank; what the change answers
+-- readAs        a text, with just the room that it takes; what reading it answers, the listing that it says, and what
+--               checking it answers
+-- unread        a text without any room; what reading it answers
 -- to            a change that is answered with a flag
 -- answered      the row with the answers that computing gives
 -- tried         the rows; beside each name of a refusal stands its number
 use mathlib.Core.Bool.{Bool, true, false}
-use mathlib.Core.List.{List, [], _∷_}
+use mathlib.Core.List.{List, [], _∷_, _++_}
 use Prim.Native.Nat.{ℕ}
+use Prim.Native.Char.{code}
+use Prim.Native.String.{String, [] as none, _∷_ as _then_}
 use lib.ListN.{length}
 use Rattle.listing.specs.declared.Answer.{Answer}
-use Rattle.listing.specs.Refusals.{noRanks, notBounded, subNotBack, thirdBetween, loneBetween, notAscending, combOfPoint}
+use Rattle.listing.specs.Refusals.{noRanks, overRanks, overElements, notBounded, subNotBack, subMissing, thirdBetween}
+use Rattle.listing.specs.Refusals.{loneBetween, notAscending, combOfPoint, outputShort, wrongKey, badLine, moreBytes}
 use Rattle.listing.specs.Answers.{refusal, plain, fine}
 use Rattle.listing.specs.Listing.{Listing, listing, limits}
 use Rattle.listing.specs.Cells.{nullitope, point, dyad, triangle, rankless, twoMinimal, threeOnTop, oneOnTop, struck}
 use Rattle.valid.specs.Tests.{isValid, closed}
 use Rattle.product_closure.specs.Result.{resultOf}
 use Rattle.product.specs.Outcome.{productTest}
+use Rattle.text_theory.specs.Said.{listingIn}
+use Rattle.text.specs.Texts.{readTest, checkTest}
 use Rattle.flag_change.specs.Change.{padded}
 use Rattle.flag.specs.declared.Changed.{Changed}
 use Rattle.flag.specs.Changed.{changedOf}
@@ -98,10 +110,30 @@ leakingBox =
     4 ∷ 6 ∷ 1 ∷ 4 ∷ 5 ∷ 7 ∷ 1 ∷ 5 ∷ 6 ∷ 7 ∷ 1 ∷ 3 ∷ 0 ∷ 1 ∷ 2 ∷ 0 ∷ 1 ∷ 3 ∷ 5 ∷ 0 ∷ 8 ∷ 9 ∷ 10 ∷ 11 ∷ 0 ∷ 2 ∷
     4 ∷ 8 ∷ 12 ∷ 0 ∷ 5 ∷ 6 ∷ 7 ∷ 11 ∷ 0 ∷ 1 ∷ 2 ∷ 6 ∷ 9 ∷ 0 ∷ 3 ∷ 4 ∷ 7 ∷ 10 ∷ 0 ∷ 0 ∷ 1 ∷ 2 ∷ 3 ∷ 4 ∷ 5 ∷ [])
 
+unfoldable pub quoted : String → List ℕ
+quoted none = []
+quoted (c then s) = code c ∷ quoted s
+
+abbrev pub pointText : List ℕ
+pointText = quoted "rank=1\ncount=1\nsubs=\ncount=1\nsubs=0\n"
+
+abbrev pub triangleText : List ℕ
+triangleText =
+    quoted "rank=3\ncount=1\nsubs=\ncount=3\nsubs=0\nsubs=0\nsubs=0\n" ++
+    quoted "count=3\nsubs=0,1\nsubs=0,2\nsubs=1,2\ncount=1\nsubs=0,1,2\n"
+
+abbrev pub missingText : List ℕ
+missingText = quoted "rank=1\ncount=1\nsubs=\ncount=1\nsubs=0,1\n"
+
+abbrev pub missingSub : Listing
+missingSub = listing (1 ∷ 1 ∷ []) (0 ∷ 1 ∷ 3 ∷ 3 ∷ []) (0 ∷ 0 ∷ 1 ∷ [])
+
 pub data Trial : Type 0 where
   tested : Listing → Answer → Answer → Trial
   combined : Bool → Bool → Listing → Listing → Answer → Listing → Answer → Answer → Trial
   refused : Bool → Bool → Listing → Listing → Answer → Trial
+  readAs : List ℕ → Answer → Listing → Answer → Trial
+  unread : List ℕ → Answer → Trial
   changed : Listing → List ℕ → ℕ → Changed → Trial
 
 unfoldable pub answered : Trial → Trial
@@ -111,6 +143,10 @@ answered (combined min max A B a R v c) =
     combined min max A B (productTest limits min max A B (length (P .counts)) (length (P .ends)) (length (P .inc)))
     P (isValid limits P) (closed limits P)
 answered (refused min max A B a) = refused min max A B (productTest limits min max A B 0 0 0)
+answered (readAs t a L c) =
+    let R = listingIn t in
+    readAs t (readTest limits t (length (R .counts)) (length (R .ends)) (length (R .inc))) R (checkTest limits t)
+answered (unread t a) = unread t (readTest limits t 0 0 0)
 answered (changed L f r c) = changed L f r (changedOf limits L f r)
 
 abbrev pub to : List ℕ → Changed
@@ -149,6 +185,19 @@ tried =
     (refusal notAscending 1 0 1 0) ∷
     -- combOfPoint is 32
     refused true true point point (plain combOfPoint) ∷
+    readAs pointText fine point fine ∷
+    readAs triangleText fine triangle fine ∷
+    -- subMissing is 15
+    readAs missingText fine missingSub (refusal subMissing 1 0 1 0) ∷
+    -- wrongKey is 40, badLine is 41
+    unread (quoted "rank=1\n") (plain wrongKey) ∷
+    unread (quoted "rank=01\n") (plain badLine) ∷
+    -- overRanks is 2, overElements is 3
+    unread (quoted "rank=16\n") (plain overRanks) ∷
+    unread (quoted "rank=1\ncount=5000\n") (plain overElements) ∷
+    -- moreBytes is 43, outputShort is 36
+    unread (quoted "rank=0\ncount=1\nsubs=\n\n") (plain moreBytes) ∷
+    unread (quoted "rank=0\ncount=1\nsubs=\n") (plain outputShort) ∷
     changed triangle (0 ∷ 0 ∷ 0 ∷ 0 ∷ []) 1 (to (0 ∷ 1 ∷ 0 ∷ 0 ∷ [])) ∷
     changed triangle (0 ∷ 0 ∷ 0 ∷ 0 ∷ []) 2 (to (0 ∷ 0 ∷ 1 ∷ 0 ∷ [])) ∷
     -- the insurer's cell: 18

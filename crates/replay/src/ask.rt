@@ -114,8 +114,16 @@ fn lists(line: &[u8]) {
     ends(line, &counts[..n]);
 }
 
-// Any question: class, sign, next_event, or one with lists.
+// Any question: read_text, check_text, class, sign, next_event, or one with lists.
 pub fn ask(line: &[u8]) {
+    if text::letter(line, 5) == b't' {
+        replay_texts::read_text(line);
+        return;
+    }
+    if text::letter(line, 6) == b't' {
+        replay_texts::check_text(line);
+        return;
+    }
     if text::letter(line, 4) == b's' {
         cell::class(line);
         return;

@@ -34,14 +34,6 @@ fn leaves_max(letter: u8) -> bool {
     }
 }
 
-// What a product answered.
-fn built(b: Built) {
-    say::answer(b.answer);
-    say::number(b.counts as u64);
-    say::number(b.ends as u64);
-    say::number(b.inc as u64);
-}
-
 // What is_valid and closed say of a listing, and its counts.
 fn tests(counts: &[Index], ends: &[Index], inc: &[Index]) {
     say::answer(valid::is_valid(counts, ends, inc));
@@ -49,19 +41,12 @@ fn tests(counts: &[Index], ends: &[Index], inc: &[Index]) {
     say::list(counts);
 }
 
-// All that the three slices hold.
-fn lists(counts: &[Index], ends: &[Index], inc: &[Index]) {
-    say::list(counts);
-    say::list(ends);
-    say::list(inc);
-}
-
 // What a product answered and left in its slices: all of it or, where it is to be tested, what the tests say of what it
 // wrote; of a refused one nothing then.
 fn left(line: &[u8], b: Built, counts: &[Index], ends: &[Index], inc: &[Index]) {
-    built(b);
+    say::built(b);
     if !is_tested(line) {
-        lists(counts, ends, inc);
+        say::lists(counts, ends, inc);
         return;
     }
     if b.answer.no == 0 {

@@ -1,9 +1,9 @@
 -- Numbers stored from a place on: past the end nothing is, two runs are one, and where they end counts a start of the
--- slice; and what is read out of a run.
+-- slice; a run that is stored part by part; and what is read out of a run.
 -- Assumes nothing.
 use mathlib.Core.Path.{_≡_, refl, sym, ap, _∙_}
 use mathlib.Core.Bool.{Bool, true, false}
-use mathlib.Core.List.{List, [], _∷_, _++_}
+use mathlib.Core.List.{List, [], _∷_, _++_, append-nil}
 use Prim.Native.Nat.{ℕ, zero, suc, _+_, _-_, _≤_, _<_, min}
 use native.Mathlib.Nat.{add-zero, add-suc, suc-add}
 use native.Mathlib.Numerals.{add-one}
@@ -64,6 +64,39 @@ pub stored-counts : {a : List ℕ} {i : ℕ} {l m : List ℕ} {j : ℕ} → Stor
 stored-counts {m = m} {j} p =
     let h : j ≤ length m = omega (arith, p .up-to, stored-length p []) in
     (h, simp length-take (omega arith))
+
+-- a run stored part by part: what is left of it, from place n of what is held by now, makes what is to be stored
+pub record Storing (new : List ℕ) (from : ℕ) (old rest : List ℕ) (n : ℕ) (held : List ℕ) : Type 0 where
+  pub inside : n ≤ length held
+  pub long : length held ≡ length old
+  pub up-to : min (n + length rest) (length old) ≡ min (from + length new) (length old)
+  pub makes : sets held n rest ≡ sets old from new
+
+module _ (new : List ℕ) (from : ℕ) (old : List ℕ) where
+  pub storing-all : from ≤ length old → Storing new from old new from old
+  storing-all h = record { inside = h; long = refl; up-to = refl; makes = refl }
+
+  pub storing-on : {rest : List ℕ} {n : ℕ} {held : List ℕ} → Storing new from old rest n held
+      → (a more : List ℕ) → rest ≡ a ++ more → {j : ℕ} {m : List ℕ} → Stored a n held m j
+      → Storing new from old more j m
+  storing-on s a more e p =
+      let l = stored-length p more in
+      record {
+        inside = omega (arith, p .up-to);
+        long = l ∙ s .long;
+        up-to = rw (s .long) at (stored-up p more) ∙ rw (← e) (s .up-to);
+        makes = stored-on p more ∙ rw (← e) (s .makes);
+      }
+
+  pub storing-end : {rest : List ℕ} {n : ℕ} {held : List ℕ} → Storing new from old rest n held → rest ≡ []
+      → Stored new from old held n
+  storing-end {n = n} {held} s e =
+      let z = rw e at (s .up-to) in
+      record { up-to = omega (arith, s .inside, s .long); holds = rw e at (s .makes) }
+
+  pub storing-last : {rest : List ℕ} {n : ℕ} {held : List ℕ} → Storing new from old rest n held → {j : ℕ} {m : List ℕ}
+      → Stored rest n held m j → Stored new from old m j
+  storing-last {rest} s p = storing-end (storing-on s rest [] (sym (append-nil rest)) p) refl
 
 module _ (n v : ℕ) (l : List ℕ) (k : ℕ) where
   pub run-in : k < n → getD (replicate n v ++ l) k 0 ≡ v

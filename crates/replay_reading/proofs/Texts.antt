@@ -1,6 +1,6 @@
 -- What stands in a text from place i on, one byte at a time: the byte decides, or the text is at its end.
 -- Assumes nothing.
-use mathlib.Core.Path.{_≡_, refl, ap, _∙_}
+use mathlib.Core.Path.{_≡_, refl, sym, ap, _∙_}
 use mathlib.Core.Bool.{Bool, true, false, cond}
 use mathlib.Core.List.{List, [], _∷_, _++_}
 use Prim.Native.Nat.{ℕ, suc, _+_, _-_, _≤_, _<_}
@@ -9,9 +9,9 @@ use native.Mathlib.Omega.{arith}
 use borrow.Author.Tests.{eq-eqb, ne-eqb}
 use lib.Dec.{eqb}
 use lib.ListN.{length, getD, take, drop, length-drop, drop-of-length-le}
-use lib.Seq.{drop-cons, take-all}
+use lib.Seq.{drop-cons, drop-drop, take-all}
 use Rattle.replay_reading.specs.declared.text.Item.{Item}
-use Rattle.replay_reading.specs.Text.{until, opened, bracketed, afterLists, goesOn, gap, withByte, pending, read}
+use Rattle.replay_reading.specs.Text.{until, opened, bracketed, closes, afterClosing, spaced, goesOn, gap, withByte, pending, read}
 
 module _ (t : List ℕ) (i : ℕ) (h : i < length t) where
   pub until-stop : (b : ℕ) → getD t i 0 ≡ b → length (until b (drop i t)) ≡ 0
@@ -35,14 +35,15 @@ module _ (t : List ℕ) (i : ℕ) (h : i < length t) where
   unfolding opened
   opened-on k e = rw (add-one, drop-cons t i 0 h, ne-eqb _ _ e)
 
-  pub after-lists-past : (l : List ℕ) → getD t i 0 ≡ 93
-      → afterLists l (drop i t) ≡ afterLists (drop (i + 1) t) (drop (i + 1) t)
-  unfolding afterLists
-  after-lists-past l e = rw (add-one, drop-cons t i 0 h, eq-eqb _ _ e)
+  pub closing-past : (l : List ℕ) → closes (getD t i 0) ≡ true
+      → afterClosing l (drop i t) ≡ afterClosing (drop (i + 1) t) (drop (i + 1) t)
+  unfolding afterClosing
+  closing-past l e = rw (add-one, drop-cons t i 0 h, e)
 
-  pub after-lists-on : (l : List ℕ) → (getD t i 0 ≡ 93 → ⊥) → afterLists l (drop i t) ≡ afterLists l (drop (i + 1) t)
-  unfolding afterLists
-  after-lists-on l e = rw (add-one, drop-cons t i 0 h, ne-eqb _ _ e)
+  pub closing-on : (l : List ℕ) → closes (getD t i 0) ≡ false
+      → afterClosing l (drop i t) ≡ afterClosing l (drop (i + 1) t)
+  unfolding afterClosing
+  closing-on l e = rw (add-one, drop-cons t i 0 h, e)
 
   pub read-on : (m : ℕ) (s : Item) → goesOn (getD t i 0) ≡ true
       → read m s (drop i t) ≡ read m (withByte s (getD t i 0)) (drop (i + 1) t)
@@ -63,9 +64,9 @@ module _ (t : List ℕ) (i : ℕ) (h : length t ≤ i) where
   unfolding opened
   opened-end k = rw (drop-of-length-le t h)
 
-  pub after-lists-end : (l : List ℕ) → afterLists l (drop i t) ≡ l
-  unfolding afterLists
-  after-lists-end l = rw (drop-of-length-le t h)
+  pub closing-end : (l : List ℕ) → afterClosing l (drop i t) ≡ l
+  unfolding afterClosing
+  closing-end l = rw (drop-of-length-le t h)
 
   pub read-end : (m : ℕ) (s : Item) → read m s (drop i t) ≡ pending m s
   unfolding read
@@ -86,9 +87,22 @@ take-until b (x ∷ t) = go (eqb x b) (take-until b t)
 pub take-rest : (n : ℕ) (t : List ℕ) → take (length t - n) (drop n t) ≡ drop n t
 take-rest n t = take-all (length t - n) (drop n t) (omega (arith, length-drop n t))
 
+-- what stands from a place up to the first b
+pub until-is : (b from to : ℕ) (t : List ℕ) → to ≡ from + length (until b (drop from t))
+    → take (to - from) (drop from t) ≡ until b (drop from t)
+until-is b from to t e =
+    let n : to - from ≡ length (until b (drop from t)) = omega arith in
+    rw n (take-until b (drop from t))
+
 -- the text of a list, between its two brackets
 pub bracketed-is : (from to k : ℕ) (t : List ℕ) → to ≡ from + length (until 93 (drop from t)) → drop from t ≡ opened k t
     → take (to - from) (drop from t) ≡ bracketed k t
-bracketed-is from to k t e o =
-    let n : to - from ≡ length (until 93 (drop from t)) = omega arith in
-    rw n (take-until 93 (drop from t)) ∙ ap (until 93) o
+bracketed-is from to k t e o = until-is 93 from to t e ∙ ap (until 93) o
+
+-- what stands outside of lists, by the place where a space follows the last of them
+pub spaced-is : (from to : ℕ) (t : List ℕ) → drop from t ≡ afterClosing t t
+    → to ≡ from + length (until 32 (drop from t)) → drop to t ≡ spaced t
+spaced-is from to t o e =
+    let n = length (until 32 (drop from t)) in
+    ap (λ (k : ℕ). drop k t) e ∙ sym (drop-drop n from t)
+    ∙ ap (λ (s : List ℕ). drop (length (until 32 s)) s) o

@@ -1,13 +1,13 @@
 // Letters, numbers and lists out of a line of text. A list is numbers in brackets, where 5*3 stands for 5 5 5. Numbers
-// outside of lists come after all lists.
+// outside of lists come after a space, after all lists and all that stands in quotes.
 use listing::Index;
 ghost use mathlib.Core.Path.{_≡_};
 ghost use Prim.Native.Nat.{_+_, _-_, _≤_, min};
 ghost use lib.ListN.{length, getD, drop, replicate};
 ghost use Rattle.io.specs.Counts.{Counts};
 ghost use Rattle.listing.specs.Listing.{width};
-ghost use Rattle.replay_reading.specs.Text.{until, opened, bracketed, afterLists, largest, withDigit, goesOn};
-ghost use Rattle.replay_reading.specs.Text.{withByte, numbersIn, Stored};
+ghost use Rattle.replay_reading.specs.Text.{until, opened, bracketed, closes, afterClosing, spaced};
+ghost use Rattle.replay_reading.specs.Text.{largest, withDigit, goesOn, withByte, numbersIn, Stored};
 
 // The largest numbers of 32 and 8 bits: any above them is taken for them, as in a listing any above its largest.
 const LARGEST: u32 = 4294967295;
@@ -94,15 +94,25 @@ fn opening(line: &[u8], k: usize) -> usize
     i
 }
 
-// The place after the last list.
+// Whether a byte closes a list, or what stands in quotes.
+fn closes(b: u8) -> bool
+    ensures { λ r. ⌜ r ≡ closes b ⌝ }
+{
+    if b == b']' {
+        return true;
+    }
+    b == b'"'
+}
+
+// The place after the last byte that closes something.
 fn tail(line: &[u8]) -> usize
     ensures { λ r. ⌜ (r ≤ length (now (line .entry))) × (drop r (now (line .entry))
-        ≡ afterLists (now (line .entry)) (now (line .entry))) ⌝ }
+        ≡ afterClosing (now (line .entry)) (now (line .entry))) ⌝ }
 {
     let mut at = 0;
     let mut i = 0;
     while i < line.len() {
-        if line[i] == b']' {
+        if closes(line[i]) {
             i += 1;
             at = i;
         } else {
@@ -220,7 +230,7 @@ pub fn list(line: &[u8], k: usize, out: &mut [Index]) -> usize
 }
 
 // A number of a text, the first being 0; 0 where there is none.
-fn number_at(text: &[u8], k: usize) -> u32
+pub fn number_at(text: &[u8], k: usize) -> u32
     ensures { λ r. ⌜ r ≡ getD (numbersIn largest (now (text .entry))) k 0 ⌝ }
 {
     let mut s = GAP;
@@ -244,10 +254,10 @@ fn number_at(text: &[u8], k: usize) -> u32
     if left < s.times as usize { s.value } else { 0 }
 }
 
-// A number of the line after its lists, the first being 0.
+// A number of the line outside of lists, the first being 0.
 pub fn plain(line: &[u8], k: usize) -> u32
-    ensures { λ r. ⌜ r ≡ getD (numbersIn largest (afterLists (now (line .entry)) (now (line .entry)))) k 0 ⌝ }
+    ensures { λ r. ⌜ r ≡ getD (numbersIn largest (spaced (now (line .entry)))) k 0 ⌝ }
 {
-    let from = tail(line);
+    let from = find(line, tail(line), b' ');
     number_at(&line[from..], k)
 }

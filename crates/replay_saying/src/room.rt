@@ -28,6 +28,8 @@ const TABLE: usize = limit::RANKS * (limit::FLAGS + SPARE);
 
 pub const BYTES: usize = limit::FLAGS + SPARE;
 
+const TEXT: usize = limit::TEXT + SPARE;
+
 // Room for counts, or for a flag.
 pub fn few() -> [Index; FEW]
     ensures { λ r. ⌜ r ≡ replicate (limits .ranks + spare) (width - 1) ⌝ }
@@ -66,6 +68,14 @@ pub fn orientations() -> [u8; BYTES]
     ensures { λ r. ⌜ limits .flags + spare ≡ length r ⌝ }
 {
     [FULL_BYTE; BYTES]
+}
+
+// Room for a text.
+pub fn text() -> [u8; TEXT]
+    ensures { λ r. ⌜ r ≡ replicate (limits .text + spare) 255 ⌝ }
+    ensures { λ r. ⌜ limits .text + spare ≡ length r ⌝ }
+{
+    [FULL_BYTE; TEXT]
 }
 
 // So many numbers of a slice, or all if it has fewer.

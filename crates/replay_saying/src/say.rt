@@ -2,6 +2,7 @@
 use crate::room::BYTES;
 use libc::STDOUT_FILENO;
 use listing::Answer;
+use listing::Built;
 use listing::Index;
 use listing::Number;
 use listing::limit;
@@ -33,6 +34,14 @@ pub fn answer(a: Answer) {
     number(a.b as u64);
     number(a.c as u64);
     number(a.d as u64);
+}
+
+// What is answered of a listing that is written: the numbers of the answer, and how long its lists are.
+pub fn built(b: Built) {
+    answer(b.answer);
+    number(b.counts as u64);
+    number(b.ends as u64);
+    number(b.inc as u64);
 }
 
 // The two numbers of a count.
@@ -109,6 +118,13 @@ pub fn list(list: &[Index]) {
         return;
     }
     whole(list);
+}
+
+// All that the three slices of a listing hold.
+pub fn lists(counts: &[Index], ends: &[Index], inc: &[Index]) {
+    list(counts);
+    list(ends);
+    list(inc);
 }
 
 // The bytes of a list as wider numbers, into the start of a slice, as far as there is room; says how many.

@@ -1,7 +1,7 @@
 //! The tests of a listing and its products.
 
 use crate::ffi::Built;
-use crate::{raw, Listing, Refusal, Slices, MAX_ELEMENTS, MAX_INCIDENCES, MAX_RANKS};
+use crate::{raw, Listing, Refusal, Slices};
 
 /// A product in [`raw`]: two factors and the three slices to write.
 type Product = fn(Slices<'_>, Slices<'_>, &mut [u16], &mut [u16], &mut [u16]) -> Built;
@@ -52,16 +52,7 @@ impl Listing {
 
     /// The product that a function of [`raw`] writes.
     fn built(product: Product, p: &Listing, q: &Listing) -> Result<Listing, Refusal> {
-        let mut counts = vec![0; MAX_RANKS];
-        let mut ends = vec![0; 2 * MAX_ELEMENTS];
-        let mut inc = vec![0; MAX_INCIDENCES];
-        let built = product(p.slices(), q.slices(), &mut counts, &mut ends, &mut inc);
-        Refusal::check(built.answer)?;
-        Ok(Listing::with_shape(
-            counts[..built.counts as usize].to_vec(),
-            ends[..built.ends as usize].to_vec(),
-            inc[..built.inc as usize].to_vec(),
-        ))
+        Listing::written(|counts, ends, inc| product(p.slices(), q.slices(), counts, ends, inc))
     }
 }
 

@@ -55,11 +55,11 @@ pub struct Searched {
     pub orientable: u8,
 }
 
-/// The lengths that a product has written; all 0 on a refusal. `fd_built` in C.
+/// The lengths that a product or a reading has written; all 0 on a refusal. `fd_built` in C.
 #[repr(C)]
 #[derive(Clone, Copy, Debug, Default, PartialEq, Eq)]
 pub struct Built {
-    /// Whether the product was refused.
+    /// Whether the product or the reading was refused.
     pub answer: Answer,
     /// How many numbers of counts were written.
     pub counts: u16,
@@ -134,6 +134,16 @@ macro_rules! functions {
                 counts: *mut u16, counts_len: usize, ends: *mut u16, ends_len: usize,
                 inc: *mut u16, inc_len: usize,
             ) -> Built;)*
+
+            /// `fd_read_text` in C: the listing in a text.
+            pub fn fd_read_text(
+                text: *const u8, text_len: usize,
+                counts: *mut u16, counts_len: usize, ends: *mut u16, ends_len: usize,
+                inc: *mut u16, inc_len: usize,
+            ) -> Built;
+
+            /// `fd_check_text` in C: the number of what refuses a text, or the listing in it as closed.
+            pub fn fd_check_text(text: *const u8, text_len: usize) -> u16;
         }
     };
 }

@@ -2,6 +2,7 @@
 
 use std::iter;
 
+use crate::ffi::Built;
 use crate::Refusal;
 
 /// The most ranks a listing has.
@@ -12,6 +13,8 @@ pub const MAX_ELEMENTS: usize = 4096;
 pub const MAX_INCIDENCES: usize = 32768;
 /// The most flags a search finds.
 pub const MAX_FLAGS: usize = 16384;
+/// The most bytes a text has.
+pub const MAX_TEXT: usize = 65536;
 
 /// Three lent slices, whether or not they are a listing.
 #[derive(Clone, Copy, Debug, PartialEq, Eq)]
@@ -63,9 +66,18 @@ impl Listing {
         }
     }
 
-    /// A listing from slices that are known to have the right shape.
-    pub(crate) fn with_shape(counts: Vec<u16>, ends: Vec<u16>, inc: Vec<u16>) -> Self {
-        Self { counts, ends, inc }
+    /// The listing that a function of [`raw`](crate::raw) writes to slices which have room for any listing.
+    pub(crate) fn written(write: impl FnOnce(&mut [u16], &mut [u16], &mut [u16]) -> Built) -> Result<Self, Refusal> {
+        let mut counts = vec![0; MAX_RANKS];
+        let mut ends = vec![0; 2 * MAX_ELEMENTS];
+        let mut inc = vec![0; MAX_INCIDENCES];
+        let built = write(&mut counts, &mut ends, &mut inc);
+        Refusal::check(built.answer)?;
+        Ok(Self {
+            counts: counts[..built.counts as usize].to_vec(),
+            ends: ends[..built.ends as usize].to_vec(),
+            inc: inc[..built.inc as usize].to_vec(),
+        })
     }
 
     /// The listing with these subs, rank by rank and element by element. Sups are derived from them: in order of the

@@ -120,3 +120,21 @@ products! {
     duotegum fd_duotegum;
     duocomb fd_duocomb;
 }
+
+/// What `fd_read_text` answers, with the listing in the last three slices.
+#[rustfmt::skip]
+pub fn read_text(text: &[u8], counts: &mut [u16], ends: &mut [u16], inc: &mut [u16]) -> Built {
+    // Safety: each slice is its pointer and its length; those lent to be written overlap no other.
+    unsafe {
+        ffi::fd_read_text(
+            text.as_ptr(), text.len(),
+            counts.as_mut_ptr(), counts.len(), ends.as_mut_ptr(), ends.len(), inc.as_mut_ptr(), inc.len(),
+        )
+    }
+}
+
+/// What `fd_check_text` answers: a number alone, which [`check_text`](crate::check_text) gives with its place.
+pub fn check_text(text: &[u8]) -> u16 {
+    // Safety: a slice is its pointer and its length.
+    unsafe { ffi::fd_check_text(text.as_ptr(), text.len()) }
+}

@@ -1,4 +1,4 @@
-//! Refusals: why a listing, a flag or a product was not taken.
+//! Refusals: why a listing, a flag, a product or a text was not taken.
 
 use std::error::Error;
 use std::fmt;
@@ -31,7 +31,7 @@ pub enum Side {
 #[non_exhaustive]
 #[derive(Clone, Copy, Debug, PartialEq, Eq, Hash)]
 pub enum Class {
-    /// None of the others: a number outside their bands.
+    /// None of the others: a number outside their bands, as those of texts.
     Other,
     /// The three slices are no listing.
     Shape,
@@ -161,8 +161,16 @@ pub enum Refusal {
     ProductElements,
     /// 35: the product has more incidences than [`MAX_INCIDENCES`](crate::MAX_INCIDENCES).
     ProductIncidences,
-    /// 36: a slice lent for the product is too short.
+    /// 36: a slice lent for the product, or for what is read, is too short.
     OutputShort,
+    /// 40: a line of a text does not begin with its key, or is not there.
+    WrongKey,
+    /// 41: a line of a text has a bad number, or does not end with a newline.
+    BadLine,
+    /// 42: a text has more bytes than [`MAX_TEXT`](crate::MAX_TEXT).
+    LongText,
+    /// 43: a text goes on after its last line.
+    MoreBytes,
     /// An answer that this package does not know: the archive is of another release.
     Unknown {
         /// The answer as it came.
@@ -202,6 +210,10 @@ impl Refusal {
             ProductElements => 34,
             ProductIncidences => 35,
             OutputShort => 36,
+            WrongKey => 40,
+            BadLine => 41,
+            LongText => 42,
+            MoreBytes => 43,
             Unknown { answer } => answer.no,
         }
     }
@@ -259,6 +271,10 @@ impl Refusal {
             34 => ProductElements,
             35 => ProductIncidences,
             36 => OutputShort,
+            40 => WrongKey,
+            41 => BadLine,
+            42 => LongText,
+            43 => MoreBytes,
             _ => Unknown { answer },
         })
     }
@@ -320,7 +336,11 @@ impl fmt::Display for Refusal {
             ProductRanks => write!(f, "the product has more than 16 ranks"),
             ProductElements => write!(f, "the product has more than 4,096 elements"),
             ProductIncidences => write!(f, "the product has more than 32,768 incidences"),
-            OutputShort => write!(f, "a slice for the product is too short"),
+            OutputShort => write!(f, "a slice to write the listing to is too short"),
+            WrongKey => write!(f, "a line of the text does not begin with its key, or is missing"),
+            BadLine => write!(f, "a line of the text has a bad number, or does not end with a newline"),
+            LongText => write!(f, "the text has more than 65,536 bytes"),
+            MoreBytes => write!(f, "the text goes on after its last line"),
             Unknown { answer: Answer { no, a, b, c, d } } => {
                 write!(f, "refusal {no}, which this release does not know, with the fields {a}, {b}, {c} and {d}")
             }
@@ -345,7 +365,7 @@ mod tests {
             assert_eq!(refusal.number(), no);
             assert_eq!(refusal.class() as u16, crate::raw::class(no));
             let known = !matches!(refusal, Unknown { .. });
-            assert_eq!(known, matches!(no, 1..=6 | 10..=22 | 30..=36));
+            assert_eq!(known, matches!(no, 1..=6 | 10..=22 | 30..=36 | 40..=43));
             if known {
                 assert!(seen.insert(refusal.to_string()), "{refusal} is said twice");
             }

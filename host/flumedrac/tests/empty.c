@@ -9,13 +9,16 @@
 #ifdef __cplusplus
 #include <vector>
 static const std::vector<uint16_t> none;
+static const std::vector<uint8_t> no_text;
 static std::vector<uint16_t> no_room;
 static std::vector<uint8_t> no_bytes;
 #define NONE none.data(), none.size()
+#define NO_TEXT no_text.data(), no_text.size()
 #define NO_ROOM no_room.data(), no_room.size()
 #define NO_BYTES no_bytes.data(), no_bytes.size()
 #else
 #define NONE NULL, 0
+#define NO_TEXT NULL, 0
 #define NO_ROOM NULL, 0
 #define NO_BYTES NULL, 0
 #endif
@@ -23,6 +26,7 @@ static std::vector<uint8_t> no_bytes;
 static const uint16_t counts[] = {1};
 static const uint16_t ends[] = {0, 0};
 static const uint16_t flag[] = {0};
+static const uint8_t text[] = {'r', 'a', 'n', 'k', '=', '0', '\n', 'c', 'o', 'u', 'n', 't', '=', '0', '\n'};
 static uint16_t new_counts[1], new_ends[2];
 
 #define NOTHING NONE, NONE, NONE
@@ -34,6 +38,7 @@ typedef fd_answer (*fd_test)(const uint16_t *, size_t, const uint16_t *, size_t,
 int main(void)
 {
     const fd_test closed = fd_closed;
+    fd_built read = fd_read_text(text, 15, new_counts, 1, NO_ROOM, NO_ROOM);
     fd_built built = fd_duoprism(NULLITOPE, NULLITOPE, new_counts, 1, new_ends, 2, NO_ROOM);
 
     printf("%d %d ", fd_rank(NONE).no, fd_el_count(NONE, 0).no);
@@ -50,6 +55,9 @@ int main(void)
     printf("%d ", fd_duotegum(NULLITOPE, NULLITOPE, NO_OUTPUT).answer.no);
     printf("%d ", fd_duocomb(NOTHING, NULLITOPE, NO_OUTPUT).answer.no);
     printf("%d %d %d %d\n", built.answer.no, built.counts, built.ends, built.inc);
+    printf("%d %d ", fd_read_text(NO_TEXT, NO_OUTPUT).answer.no, fd_read_text(text, 15, NO_OUTPUT).answer.no);
+    printf("%d %d %d %d ", read.answer.no, read.counts, read.ends, read.inc);
+    printf("%d %d\n", fd_check_text(NO_TEXT), fd_check_text(text, 15));
     printf("%d %d\n", closed(counts, 1, ends, 2, ends, 0).no, (fd_closed)(counts, 1, ends, 2, ends, 0).no);
     return 0;
 }

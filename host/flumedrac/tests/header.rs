@@ -10,7 +10,7 @@ use std::path::{Path, PathBuf};
 use std::process::Command;
 
 use flumedrac::ffi::*;
-use flumedrac::{Listing, Refusal, MAX_ELEMENTS, MAX_FLAGS, MAX_INCIDENCES, MAX_RANKS};
+use flumedrac::{Listing, Refusal, MAX_ELEMENTS, MAX_FLAGS, MAX_INCIDENCES, MAX_RANKS, MAX_TEXT};
 
 /// The languages that the header is for: the words that choose one, and the variable and usual name of its compiler.
 const C99: Language = Language { standard: "-std=c99", kind: "c", variable: "CC", usual: "cc" };
@@ -127,6 +127,7 @@ fn expected() -> Vec<(String, usize)> {
     say("FD_MAX_ELEMENTS", MAX_ELEMENTS);
     say("FD_MAX_INCIDENCES", MAX_INCIDENCES);
     say("FD_MAX_FLAGS", MAX_FLAGS);
+    say("FD_MAX_TEXT", MAX_TEXT);
     refusals().iter().for_each(|(no, name)| say(name, (*no).into()));
     lines
 }
@@ -217,20 +218,40 @@ fn empty_slices_from_c_and_cpp() {
     for language in [C99, C11, CPP11, CPP17] {
         let (calls, stubs) = (own("tests/empty.c"), own("tests/stubs.c"));
         let said = language.prints(&calls, archive());
-        assert_eq!(said, "1 1 1 1\n1 0 1 0 1 0 1 0 1 0\n1 20 1 22\n36 36 30 0 1 2 0\n0 0\n", "{}", language.standard);
+        let numbers = "1 1 1 1\n1 0 1 0 1 0 1 0 1 0\n1 20 1 22\n36 36 30 0 1 2 0\n40 36 0 1 0 0 40 10\n0 0\n";
+        assert_eq!(said, numbers, "{}", language.standard);
         let given = language.prints(&calls, &stubs);
         assert!(given.split_whitespace().all(|number| number == "0"), "{}: {given}", language.standard);
     }
 }
 
-/// The C example says what is wrong with its cell.
+/// The cells that the header and host/README.md write as texts are the point and the triangle.
 #[test]
-fn example_in_c() {
+fn texts_in_the_papers() {
+    let written = |file: PathBuf, head: &str, margin: &str| {
+        let paper = read(file);
+        let (_, rest) = paper.split_once(head).expect("a text after these words");
+        let lines = rest.lines().map_while(|line| line.strip_prefix(margin));
+        Listing::read_text(lines.map(|line| format!("{line}\n")).collect::<String>().as_bytes())
+    };
+    assert_eq!(written(project("include/flumedrac.h"), "The point:\n *\n", " *   "), Ok(Listing::point()));
+    assert_eq!(written(own("../README.md"), "The triangle:\n\n", "    "), Listing::polygon(3));
+}
+
+/// The C examples say what is wrong with their cell.
+#[test]
+fn examples_in_c() {
     assert_eq!(
         C99.prints(&own("examples/cell.c"), archive()),
         "a cell with 3 faces\n\
          is_valid: nothing is refused\n\
          closed: only one element lies between two that are two ranks apart (18: 2, 3, 4, 0)\n\
          edge 3 lies in only one face: the cell leaks there\n"
+    );
+    assert_eq!(
+        C99.prints(&own("examples/text.c"), archive()),
+        "check_text: 18, only one element lies between two that are two ranks apart\n\
+         read_text: 5 ranks, 15 elements, 56 incidences\n\
+         closed: edge 3 lies in only one face\n"
     );
 }

@@ -6,6 +6,7 @@
 
 #define SLICE(type, p) type *p, size_t p##_len
 #define LISTING(p) SLICE(const uint16_t, p##counts), SLICE(const uint16_t, p##ends), SLICE(const uint16_t, p##inc)
+#define OUTPUT SLICE(uint16_t, counts), SLICE(uint16_t, ends), SLICE(uint16_t, inc)
 #define NO_POINTER(p) ((void)p##_len, (p) == NULL)
 #define NO_LISTING(p) (NO_POINTER(p##counts) || NO_POINTER(p##ends) || NO_POINTER(p##inc))
 
@@ -23,17 +24,22 @@ static fd_number counted(int null)
     return number;
 }
 
+static fd_built wrote(int null)
+{
+    fd_built built = {{0, 0, 0, 0, 0}, 0, 0, 0};
+    built.answer = said(null);
+    return built;
+}
+
 /* A name in parentheses is the function's, not the header's macro. */
 #define COUNT(name) \
     fd_number(name)(SLICE(const uint16_t, counts)) { return counted(NO_POINTER(counts)); }
 #define TEST(name) \
     fd_answer(name)(LISTING()) { return said(NO_LISTING()); }
 #define PRODUCT(name) \
-    fd_built(name)(LISTING(p_), LISTING(q_), SLICE(uint16_t, counts), SLICE(uint16_t, ends), SLICE(uint16_t, inc)) \
+    fd_built(name)(LISTING(p_), LISTING(q_), OUTPUT) \
     { \
-        fd_built built = {{0, 0, 0, 0, 0}, 0, 0, 0}; \
-        built.answer = said(NO_LISTING(p_) || NO_LISTING(q_) || NO_LISTING()); \
-        return built; \
+        return wrote(NO_LISTING(p_) || NO_LISTING(q_) || NO_LISTING()); \
     }
 
 COUNT(fd_rank)
@@ -68,4 +74,14 @@ fd_searched(fd_search)(LISTING(), SLICE(const uint16_t, first), uint16_t mask, S
     searched.answer = said(NO_LISTING() || NO_POINTER(first) || NO_POINTER(table) || NO_POINTER(orientations));
     searched.count = mask;
     return searched;
+}
+
+fd_built(fd_read_text)(SLICE(const uint8_t, text), OUTPUT)
+{
+    return wrote(NO_POINTER(text) || NO_LISTING());
+}
+
+uint16_t(fd_check_text)(SLICE(const uint8_t, text))
+{
+    return said(NO_POINTER(text)).no;
 }

@@ -1,12 +1,13 @@
 //! A plain reading of what the library is to answer, in Rust and unproved.
 //!
 //! It is there to try the harness: without faults it must agree with the Rust files everywhere, and with any one of the
-//! faults in [`Break`] it must be caught. Here are the model, its faults, the counts and the classes; `tests`, `flags`
-//! and `products` have the rest.
+//! faults in [`Break`] it must be caught. Here are the model, its faults, the counts and the classes; `tests`, `flags`,
+//! `products` and `texts` have the rest.
 
 mod flags;
 mod products;
 mod tests;
+mod texts;
 
 use flumedrac::ffi::{Answer, Built, Changed, Cursor, Event, Number, Searched};
 use flumedrac::Slices;
@@ -150,6 +151,66 @@ breaks! {
     SupsOnce "sups-once",
     /// The first end is one more.
     FirstEndMoved "first-end-moved",
+    /// 42 comes after what else is refused of a text.
+    LongTextLast "42-last",
+    /// A text of 65,536 bytes is refused.
+    BytesOneLess "42-one-less",
+    /// A wrong key is 41.
+    KeyAsLine "key-as-41",
+    /// A line that is not there is 41.
+    EndAsLine "end-as-41",
+    /// A key may stand in capital letters.
+    KeyInCapitals "key-in-capitals",
+    /// A number may begin with a 0.
+    ZeroInFront "zero-in-front",
+    /// A number over 65,535 is taken in 16 bits.
+    NumberWraps "number-wraps",
+    /// A number over 65,535 is 65,535.
+    NumberSaturates "number-saturates",
+    /// A rank or a count that is not there is 0.
+    NoNumber "no-number",
+    /// Of several ranks or counts in a line the first is taken.
+    MoreNumbers "more-numbers",
+    /// A list may end with a comma.
+    CommaAtEnd "comma-at-end",
+    /// Blanks in a line are passed over.
+    Blanks "blanks",
+    /// A newline may be a carriage return and a newline.
+    CarriageReturn "carriage-return",
+    /// The last line may end with the text.
+    NewlineFree "newline-free",
+    /// A rank that is too high is 2 before its newline is looked for.
+    RanksEarly "2-before-newline",
+    /// The limits are looked at after the whole text.
+    LimitsLast "limits-last",
+    /// A text with 16 ranks is refused.
+    TextRanksOneLess "2-one-less",
+    /// A text with 4,096 elements is refused.
+    TextElementsOneLess "3-one-less",
+    /// 3 looks at each count alone.
+    CountAlone "3-by-one-count",
+    /// A text with 32,768 incidences is refused.
+    TextIncidencesOneLess "5-one-less",
+    /// 5 does not count sups.
+    SupsNotCounted "5-without-sups",
+    /// 5 counts sups for subs that do not exist.
+    MissingCounted "5-with-missing",
+    /// 5 is looked at after the last line of a rank.
+    IncidencesLate "5-after-rank",
+    /// Bytes after the last line are passed over.
+    LeftTaken "43-not-asked",
+    /// 36 before 43.
+    ShortBeforeLeft "36-before-43",
+    /// 43 leaves what was read in the slices.
+    LeftWrites "43-writes",
+    /// The last element gets the sups of subs that do not exist.
+    MissingToLast "missing-to-last",
+    /// The subs of the elements of rank 0 are passed over.
+    LowestSubsDropped "lowest-subs-dropped",
+    /// A text is tested by is_valid.
+    CheckByValid "check-by-is-valid",
+    /// A text that can be read is closed.
+    CheckReadsOnly "check-reads-only",
 }
 
 /// The model, right or with one fault.
@@ -269,5 +330,13 @@ impl Library for Model {
 
     fn product(&self, kind: Kind, p: Slices<'_>, q: Slices<'_>, outputs: Outputs<'_>) -> Built {
         self.answer_product(kind, p, q, outputs)
+    }
+
+    fn read_text(&self, text: &[u8], outputs: Outputs<'_>) -> Built {
+        self.answer_reading(text, outputs)
+    }
+
+    fn check_text(&self, text: &[u8]) -> u16 {
+        self.answer_check(text)
     }
 }

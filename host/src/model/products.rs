@@ -100,8 +100,8 @@ impl Model {
         subs
     }
 
-    /// The slices with these subs, sups gathered from them.
-    fn written(&self, subs: &[Vec<Vec<u16>>]) -> [Vec<u16>; 3] {
+    /// The slices with these subs, sups gathered from them. A sub that does not exist gets none.
+    pub(super) fn written(&self, subs: &[Vec<Vec<u16>>]) -> [Vec<u16>; 3] {
         let counts = subs.iter().map(|rank| rank.len() as u16).collect();
         let mut ends = vec![];
         let mut inc = vec![];
@@ -109,7 +109,9 @@ impl Model {
             let mut sups = vec![vec![]; rank.len()];
             for (index, above) in subs.get(r + 1).into_iter().flatten().enumerate() {
                 for &sub in above {
-                    let list = &mut sups[sub as usize];
+                    let missing_to_last = self.has(Break::MissingToLast) && sub as usize >= rank.len();
+                    let sub = if missing_to_last { rank.len() - 1 } else { sub as usize };
+                    let Some(list) = sups.get_mut(sub) else { continue };
                     if !self.has(Break::SupsOnce) || list.last() != Some(&(index as u16)) {
                         list.push(index as u16);
                     }
@@ -166,7 +168,7 @@ impl Model {
         }
     }
 
-    pub(super) fn answer_product(&self, kind: Kind, p: Slices<'_>, q: Slices<'_>, mut lent: Outputs<'_>) -> Built {
+    pub(super) fn answer_product(&self, kind: Kind, p: Slices<'_>, q: Slices<'_>, lent: Outputs<'_>) -> Built {
         let slices = match self.product_slices(kind, p, q) {
             Ok(slices) => slices,
             Err(answer) => {
@@ -175,6 +177,11 @@ impl Model {
                 return Built { answer, ..Built::default() };
             }
         };
+        self.lend(slices, lent)
+    }
+
+    /// What is answered and written where these slices are to stand in front of those lent: 36 if one does not fit.
+    pub(super) fn lend(&self, slices: [Vec<u16>; 3], mut lent: Outputs<'_>) -> Built {
         let lengths = [slices[0].len(), slices[1].len(), slices[2].len()];
         let short = (0..3).any(|i| lent[i].len() < lengths[i] && !(i == 2 && self.has(Break::ShortInc)));
         if short {

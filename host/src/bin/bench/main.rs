@@ -6,7 +6,11 @@
 //! processor's time for this thread: waiting for a processor that is busy elsewhere does not count. --brief prints one
 //! table, with the ratios and our time alone and without the cells that grow. --model measures the unproved model
 //! instead of the archive, only to try this program.
+//!
+//! The Rust files have no texts: reading one is measured beside a plain parser in Rust. Where the program `cellcheck`
+//! was made, whole processes are measured too, by the clock on the wall.
 
+mod processes;
 mod rows;
 mod rust;
 mod times;
@@ -57,7 +61,10 @@ fn head(columns: &[&str]) {
 
 /// The ratios of the Rust's time to ours, of the medians and of the least.
 fn ratios(ours: Summary, rust: Option<Summary>) -> [String; 2] {
-    let ratio = |rust: f64, ours: f64| format!("{:.1}", rust / ours);
+    let ratio = |rust: f64, ours: f64| match rust / ours {
+        slower if slower < 1.0 => format!("{slower:.2}"),
+        faster => format!("{faster:.1}"),
+    };
     rust.map_or_else(Default::default, |rust| [ratio(rust.median, ours.median), ratio(rust.least, ours.least)])
 }
 
@@ -88,14 +95,20 @@ fn full_lines(name: &str, measured: &Measured) {
 /// One table, with what counts most.
 fn brief_table(rows: Rows<'_>, runs: usize) {
     head(&["ratio of medians", "ratio of least", "ours, median"]);
-    for group in [rows.usual(), rows.largest()] {
+    for group in [rows.usual(), rows.largest(), rows.texts()] {
         measured(group, runs).iter().for_each(|(name, measured)| brief_line(name, measured));
     }
 }
 
 /// A table for each group, with all that was measured.
 fn full_tables(rows: Rows<'_>, runs: usize) {
-    for (title, group) in [("Usual cells", rows.usual()), ("Largest", rows.largest()), ("Growth", rows.growth())] {
+    let groups = [
+        ("Usual cells", rows.usual()),
+        ("Largest", rows.largest()),
+        ("Growth", rows.growth()),
+        ("Texts, the Rust being a plain parser (host/parser)", rows.texts()),
+    ];
+    for (title, group) in groups {
         println!("{title}:\n");
         head(&["ours, median", "ours, least", "Rust, median", "Rust, least", "ratio of medians", "ratio of least"]);
         measured(group, runs).iter().for_each(|(name, measured)| full_lines(name, measured));
@@ -103,9 +116,26 @@ fn full_tables(rows: Rows<'_>, runs: usize) {
     }
 }
 
+/// A table for whole processes, if there is a program that runs.
+fn process_table(runs: usize) {
+    match processes::measured(runs) {
+        Ok(processes) => {
+            println!("Processes, from start to end:\n");
+            head(&["median", "least"]);
+            for (name, Summary { median, least }) in processes {
+                println!("| {name} | {} | {} |", written(median), written(least));
+            }
+        }
+        Err(trouble) => println!("{trouble}; no process is measured."),
+    }
+}
+
 fn tables(library: &dyn Library, options: &Options) {
-    let print = if options.brief { brief_table } else { full_tables };
-    print(Rows(library), options.runs);
+    if options.brief {
+        return brief_table(Rows(library), options.runs);
+    }
+    full_tables(Rows(library), options.runs);
+    process_table(options.runs);
 }
 
 fn bench(options: &Options) -> ExitCode {

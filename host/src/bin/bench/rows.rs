@@ -1,9 +1,9 @@
-//! What is measured: a row for each piece of work, in three groups.
+//! What is measured: a row for each piece of work, in four groups.
 
 use std::hint::black_box;
 
-use flumedrac::{Listing, MAX_ELEMENTS, MAX_FLAGS, MAX_INCIDENCES, MAX_RANKS};
-use flumedrac_trial::{cells, Kind, Library, Test};
+use flumedrac::{Listing, MAX_FLAGS};
+use flumedrac_trial::{cell_texts, cells, Kind, Library, Test, ALL_ROOM};
 
 use crate::rust;
 use crate::times::{Summary, Times, Work};
@@ -49,7 +49,7 @@ pub struct Rows<'a>(pub &'a dyn Library);
 impl<'a> Rows<'a> {
     fn build(self, name: &str, kind: Kind, p: Listing, q: Listing) -> Row<'a> {
         let rust = rust::product(kind, &p, &q).map(Times::new);
-        let mut slices = [vec![0; MAX_RANKS], vec![0; 2 * MAX_ELEMENTS], vec![0; MAX_INCIDENCES]];
+        let mut slices = ALL_ROOM.map(|length| vec![0; length]);
         let ours: Work<'a> = Box::new(move |_| {
             let outputs = slices.each_mut().map(Vec::as_mut_slice);
             assert_eq!(self.0.product(kind, p.slices(), q.slices(), outputs).answer.no, 0);
@@ -79,6 +79,41 @@ impl<'a> Rows<'a> {
             assert_eq!((searched.answer.no, usize::from(searched.count), searched.orientable), (0, flags, 1));
         });
         Row { name: format!("search of {name}, {flags} flags"), ours: Times::new(ours), closed, rust }
+    }
+
+    /// The text of a cell read: by the library, and by the plain parser.
+    fn read(self, name: &str, cell: Listing) -> Row<'a> {
+        let text = cell_texts::text(cell.slices());
+        let name = format!("read {name}, {} bytes", text.len());
+        let rust_read = |text: &[u8]| plain_parser::read(text).expect("a text that can be read");
+        assert_eq!(rust_read(&text), <[Vec<u16>; 3]>::from(cell.into_slices()));
+        let mut slices = ALL_ROOM.map(|length| vec![0; length]);
+        let bytes = text.clone();
+        let ours: Work<'a> = Box::new(move |_| {
+            let outputs = slices.each_mut().map(Vec::as_mut_slice);
+            assert_eq!(self.0.read_text(black_box(&text), outputs).answer.no, 0);
+        });
+        let rust: Work<'a> = Box::new(move |bin| bin.push(Box::new(rust_read(black_box(&bytes)))));
+        Row { name, ours: Times::new(ours), closed: None, rust: Some(Times::new(rust)) }
+    }
+
+    /// The text of a closed cell tested.
+    fn check(self, name: &str, cell: Listing) -> Row<'a> {
+        let text = cell_texts::text(cell.slices());
+        let ours: Work<'a> = Box::new(move |_| assert_eq!(self.0.check_text(black_box(&text)), 0));
+        let closed = Some(self.test(Test::Closed, cell));
+        Row { name: format!("check_text of {name}"), ours: Times::new(ours), closed, rust: None }
+    }
+
+    /// Texts: of a usual cell, and of cells of the same kind that become larger, up to about as long as a text can be.
+    pub fn texts(self) -> Vec<Row<'a>> {
+        let cube = || cells::product(Kind::Duoprism, &cells::polygon(4), &Listing::dyad());
+        let prism = |n| {
+            let cell = cells::product(Kind::Duoprism, &cells::polygon(n), &cells::polygon(n));
+            self.read(&format!("duoprism({n}-gon, {n}-gon)"), cell)
+        };
+        let usual = [self.read("the box", cube()), self.check("the box", cube())];
+        usual.into_iter().chain([11, 15, 21, 29].map(prism)).collect()
     }
 
     /// Cells at the limits of the library.

@@ -62,13 +62,17 @@ impl<'a> Times<'a> {
     }
 
     pub fn summary(&self) -> Summary {
-        let mut seconds = self.seconds.clone();
-        seconds.sort_unstable_by(f64::total_cmp);
-        Summary { median: seconds[seconds.len() / 2], least: seconds[0] }
+        Summary::of(self.seconds.clone())
     }
 }
 
 impl Summary {
+    /// The summary of at least one time.
+    pub fn of(mut seconds: Vec<f64>) -> Self {
+        seconds.sort_unstable_by(f64::total_cmp);
+        Self { median: seconds[seconds.len() / 2], least: seconds[0] }
+    }
+
     /// What is left of this time without another.
     pub fn without(self, part: Summary) -> Self {
         Self { median: self.median - part.median, least: self.least - part.least }

@@ -2,10 +2,11 @@
 
 use flumedrac::{MAX_ELEMENTS, MAX_FLAGS, MAX_INCIDENCES, MAX_RANKS};
 use flumedrac_trial::question::{answer_numbers, BYTE_FILL, FILL};
-use flumedrac_trial::{Kind, Question, Reply};
+use flumedrac_trial::{Kind, Question, Raw, Reply, Test};
 
 use crate::oracle::{self, Cell, Event, Product};
 use crate::plain;
+use crate::reading::reading;
 use crate::subject::{refusal, said, By, Doubt, Judged, Subject};
 
 /// What a library has to reply to a question.
@@ -45,6 +46,8 @@ pub fn judge(question: &Question<&Subject>) -> Judged<Reply> {
         }
         Question::Events { cell, first, mask } => events(cell, first, *mask),
         Question::Product { kind, p, q, room } => product(*kind, p, q, *room),
+        Question::ReadText { text, room } => Ok((read_text(text, *room), By::Plain)),
+        Question::CheckText(text) => Ok((Reply::of(vec![check_text(text)?.into()]), By::Plain)),
     }
 }
 
@@ -139,12 +142,38 @@ fn events(cell: &Subject, first: &[u16], mask: u16) -> Judged<Reply> {
     Ok((Reply { numbers: answer_numbers(answer), slices, spilled: false }, by))
 }
 
-fn product(kind: Kind, p: &Subject, q: &Subject, room: [usize; 3]) -> Judged<Reply> {
+/// What is left in slices of these lengths: a listing in front where there is room for it, which is else refused; or
+/// nothing but the number of another refusal.
+fn left(built: Result<[Vec<u16>; 3], u16>, room: [usize; 3]) -> Reply {
+    let fits = |slices: &[Vec<u16>; 3]| slices.iter().zip(room).all(|(slice, length)| slice.len() <= length);
     let mut lent = room.map(|length| vec![FILL; length]);
-    let refused = |no: u16| {
-        let numbers = [answer_numbers(refusal(no)), vec![0; 3]].concat();
-        Ok((Reply { numbers, slices: room.map(|length| vec![FILL; length]).to_vec(), spilled: false }, By::Plain))
+    let (no, slices) = match built {
+        Ok(slices) if fits(&slices) => (0, slices),
+        Ok(_) => (36, Default::default()),
+        Err(no) => (no, Default::default()),
     };
+    for (slice, lent) in slices.iter().zip(&mut lent) {
+        lent[..slice.len()].copy_from_slice(slice);
+    }
+    let lengths = slices.map(|slice| slice.len() as i64);
+    let numbers = [answer_numbers(refusal(no)), lengths.to_vec()].concat();
+    Reply { numbers, slices: lent.to_vec(), spilled: false }
+}
+
+fn read_text(text: &[u8], room: [usize; 3]) -> Reply {
+    left(reading(text).map(|Raw { counts, ends, inc }| [counts, ends, inc]), room)
+}
+
+/// The number of what refuses the reading of a text, or of what the closed test answers for the listing in it.
+fn check_text(text: &[u8]) -> Result<u16, Doubt> {
+    match reading(text) {
+        Ok(read) => Ok(Subject::from(read).test(Test::Closed)?.0.no),
+        Err(no) => Ok(no),
+    }
+}
+
+fn product(kind: Kind, p: &Subject, q: &Subject, room: [usize; 3]) -> Judged<Reply> {
+    let refused = |no: u16| Ok((left(Err(no), room), By::Plain));
     if !p.is_valid()?.0 {
         return refused(30);
     }
@@ -180,13 +209,7 @@ fn product(kind: Kind, p: &Subject, q: &Subject, room: [usize; 3]) -> Judged<Rep
     {
         return Err(Doubt::Oracle("the Rust's product has another size than its factors say"));
     }
-    if built.iter().zip(room).any(|(slice, length)| slice.len() > length) {
-        return refused(36);
-    }
-    for (slice, lent) in built.iter().zip(&mut lent) {
-        lent[..slice.len()].copy_from_slice(slice);
-    }
-    let lengths = built.map(|slice| slice.len() as i64);
-    let numbers = [answer_numbers(refusal(0)), lengths.to_vec()].concat();
-    Ok((Reply { numbers, slices: lent.to_vec(), spilled: false }, By::Rust))
+    let reply = left(Ok(built), room);
+    let by = if reply.numbers[0] == 0 { By::Rust } else { By::Plain };
+    Ok((reply, by))
 }

@@ -5,8 +5,8 @@
 //! Without more, the archive is asked. --guarded asks it with every slice beside memory that must not be touched: an
 //! access outside a slice then ends the program by a signal. --model asks the unproved model instead, to try this
 //! program; --break gives the model one fault; --breaks tries every fault in turn and fails if one is not caught.
-//! --rounds sets how many damaged and random listings are tried, --small asks less of everything. --write-replay
-//! writes the replay list.
+//! --rounds sets how many damaged and random listings and texts are tried, --small asks less of everything.
+//! --write-replay writes the replay list.
 //!
 //! Status 0: no differences. 1: some. 2: no Rust files to compare with, or an option that is not known.
 
@@ -15,11 +15,13 @@ mod inputs;
 mod judge;
 mod oracle;
 mod plain;
+mod reading;
 mod replay;
 mod run;
 mod subject;
 mod supply;
 mod tally;
+mod text_damage;
 
 use std::process::ExitCode;
 

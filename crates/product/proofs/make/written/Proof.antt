@@ -1,24 +1,22 @@
--- `written`: the sizes are the lengths that are answered.
+-- `written`: the sizes are what it takes.
 -- Assumes nothing.
+use mathlib.Core.Path.{_∙_}
+use native.Mathlib.Omega.{arith}
 use borrow.Author.Needs.{needs}
-use Rattle.product.proofs.Made.{built-written}
+use Rattle.product.proofs.Made.{need-is}
 use Rattle.product.proofs.make.written.Statement.{statement}
 use Rattle.product.proofs.make.written.Tie as tie
 
-cast-t3 : tie.Need-cast-t3
-cast-t3 c = search needs
+need-of-requires : tie.Need-need-of-requires
+need-of-requires c κs = search needs
 
-mul-t4 : tie.Need-mul-t4
-mul-t4 c = search needs
-
-cast-t5 : tie.Need-cast-t5
-cast-t5 c = search needs
-
-cast-t6 : tie.Need-cast-t6
-cast-t6 c = search needs
+written-requires : tie.Need-written-requires
+written-requires c κs =
+    let p = c .before .pre in
+    rw (c .need-of .ensures) (omega (arith, p), omega (arith, p), omega (arith, p))
 
 returns : tie.Need-returns
-returns c = λ R m z. built-written _ R z _ m
+returns c = λ R m z. c .written .ensures R (c .before .need-of .ensures ∙ need-is R _ m) z
 
 pub written-spec : {M : Type 1} → statement M
-written-spec = tie.close (tie.spec cast-t3 mul-t4 cast-t5 cast-t6 returns)
+written-spec = tie.close (tie.spec need-of-requires written-requires returns)

@@ -5,9 +5,11 @@ use mathlib.Core.Path.{sym}
 use native.Mathlib.Omega.{arith}
 use lib.Seq.{length-take-le}
 use borrow.Author.Needs.{needs}
+use Rattle.order.proofs.Lists.{zeros}
 use Rattle.listing.specs.Listing.{Listing, listing, limits}
-use Rattle.product_building.proofs.Built.{zeros, counted-from, Buildable, counts-room, BeforeFill}
-use Rattle.product_building.proofs.Built.{fill-asked, built-all}
+use Rattle.listing_sups.proofs.Unfilled.{fill-asked, filled-all}
+use Rattle.product_building.proofs.Built.{counted-from, Buildable, counts-room, BeforeFill}
+use Rattle.product_building.proofs.Built.{product-unfilled}
 use Rattle.product_building.proofs.build.build.Statement.{statement}
 use Rattle.product_building.proofs.build.build.Tie as tie
 
@@ -138,7 +140,7 @@ slice-aggregate-fill-2 c =
     sym (length-take-le _ _ (omega (arith, w .n-is, w .elements .ends-length, w .ready .plan .room-for-ends)))
 
 fill-requires : tie.Need-fill-requires
-fill-requires c κs = fill-asked (written (filled c))
+fill-requires c κs = fill-asked (product-unfilled (written (filled c)))
 
 same-length : tie.Need-same-length
 same-length c = search needs
@@ -150,7 +152,9 @@ same-length-3 : tie.Need-same-length-3
 same-length-3 c = search needs
 
 returns : tie.Need-returns
-returns c = built-all (written (filled (c .before .before .before))) _ (c .before .before .fill .ensures)
+returns c =
+    let u = product-unfilled (written (filled (c .before .before .before))) in
+    filled-all u _ (c .before .before .fill .ensures)
 
 pub build-spec : {M : Type 1} → statement M
 build-spec =

@@ -25,14 +25,16 @@ plain-requires-3 c κs = search needs
 returns-3 : tie.Need-returns-3
 returns-3 c = c .plain3 .ensures ∙ sym (over-incidences _ _ _ (omega arith) (omega arith) (omega arith))
 
-mul-two-each : tie.Need-mul-two-each
-mul-two-each c = search needs
+need-of-requires : tie.Need-need-of-requires
+need-of-requires c κs = search needs
 
 check-room-requires : tie.Need-check-room-requires
 check-room-requires c κs = search needs
 
 returns-4 : tie.Need-returns-4
-returns-4 c = c .check-room .ensures ∙ sym (room-decides _ _ _ (omega arith) (omega arith) (omega arith))
+returns-4 c =
+    let n = c .before .need-of .ensures in
+    rw n at (c .check-room .ensures) ∙ sym (room-decides _ _ _ (omega arith) (omega arith) (omega arith))
 
 pub check-sizes-spec : {M : Type 1} → statement M
 check-sizes-spec =
@@ -44,6 +46,6 @@ check-sizes-spec =
     returns-2
     plain-requires-3
     returns-3
-    mul-two-each
+    need-of-requires
     check-room-requires
     returns-4)

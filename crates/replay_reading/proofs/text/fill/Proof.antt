@@ -1,32 +1,27 @@
--- `fill`. Invariant: what is read from i on, stored from n on, makes what is to be stored. Measure: what is left of the
--- text. Assumes nothing.
-use Rattle.replay_reading.proofs.Stores.{stored-length, stored-on, stored-up}
+-- `fill`. Invariant: what is read from i on is left to store from n on. Measure: what is left of the text.
+-- Assumes nothing.
+use Rattle.replay_reading.proofs.Stores.{Storing, storing-all, storing-on, storing-last}
 use Rattle.replay_reading.proofs.Texts.{read-on, read-off, read-end}
-use Rattle.replay_reading.specs.Text.{read, numbersIn, gap}
+use Rattle.replay_reading.specs.Text.{pending, read, numbersIn}
 use Rattle.listing.specs.Listing.{width}
-use lib.Seq.{sets}
 use lib.ListN.{length, drop}
-use Prim.Native.Nat.{min, _+_, _-_, _≤_}
+use Prim.Native.Nat.{_-_, _≤_}
 use borrow.Author.Needs.{needs}
 use native.Mathlib.Omega.{arith}
-use mathlib.Core.Path.{_≡_, refl, sym, ap, _∙_}
+use mathlib.Core.Path.{sym, _∙_}
 use Rattle.replay_reading.proofs.text.fill.Statement.{statement}
 use Rattle.replay_reading.proofs.text.fill.Tie as tie
 
 abbrev Inv-loop : tie.InvT-loop
 Inv-loop text out₀ s₀ n₀ i₀ out s n i =
     (i ≤ length text)
-    × (n ≤ length out)
-    × (length out ≡ length out₀)
-    × (min (n + length (read (width - 1) s (drop i text))) (length out₀)
-    ≡ min (length (numbersIn (width - 1) text)) (length out₀))
-    × (sets out n (read (width - 1) s (drop i text)) ≡ sets out₀ 0 (numbersIn (width - 1) text))
+    × Storing (numbersIn (width - 1) text) 0 out₀ (read (width - 1) s (drop i text)) n out
 
 abbrev μ-loop : tie.MeasureT-loop
 μ-loop text out₀ s₀ n₀ i₀ out s n i = length text - i
 
 loop-holds : tie.Need-loop-holds Inv-loop μ-loop
-loop-holds c = (search needs, search needs, search needs, search needs, refl)
+loop-holds c = (search needs, storing-all _ _ _ (omega arith))
 
 shared-slice-read-b : tie.Need-shared-slice-read-b Inv-loop μ-loop
 shared-slice-read-b c = search needs
@@ -51,7 +46,7 @@ loop-again c =
     let e = sym (c .before .before .goes-on .ensures) ∙ c .before .if1 .taken in
     let o = read-on t (b .i) (c .before .before .before .before .loop-test .taken) (width - 1) (b .s) e in
     let w = c .with-byte .ensures in
-    (omega arith, b .inv .1, b .inv .2, rw (w, ← o) (b .inv .3), rw (w, ← o) (b .inv .4))
+    (omega arith, rw (w, ← o) (b .inv .1))
 
 narrow-requires : tie.Need-narrow-requires Inv-loop μ-loop
 narrow-requires c κs = search needs
@@ -74,15 +69,7 @@ loop-again-2 c =
     let p = rw (d .narrow .ensures) at (c .before .before .put .ensures) in
     let e = sym (d .before .before .before .goes-on .ensures) ∙ d .before .before .if1 .left in
     let o = read-off t (b .i) (d .before .before .before .before .before .loop-test .taken) (width - 1) (b .s) e in
-    let r = read (width - 1) gap (drop (b .i + 1) t) in
-    let k = stored-length p r in
-    let u = rw (b .inv .2) at (stored-up p r) in (
-      omega arith,
-      omega (arith, p .up-to),
-      omega arith,
-      u ∙ rw (← o) (b .inv .3),
-      stored-on p r ∙ ap (sets (b .out) (b .n)) (sym o) ∙ b .inv .4,
-    )
+    (omega arith, storing-on _ _ _ (b .inv .1) (pending (width - 1) (b .s)) _ o p)
 
 narrow-requires-2 : tie.Need-narrow-requires-2 Inv-loop μ-loop
 narrow-requires-2 c κs = search needs
@@ -100,10 +87,7 @@ returns c =
     let t = d .before .before .before .before .before .before .args .text .now in
     let p = rw (d .narrow2 .ensures) at (c .before .before .put2 .ensures) in
     let o = read-end t (b .i) (d .before .before .loop-test .left) (width - 1) (b .s) in
-    record {
-      up-to = omega (arith, p .up-to, ap length o, b .inv .3);
-      holds = p .holds ∙ ap (sets (b .out) (b .n)) (sym o) ∙ b .inv .4;
-    }
+    storing-last _ _ _ (rw o at (b .inv .1)) p
 
 pub fill-spec : {M : Type 1} → statement M
 fill-spec =

@@ -1,5 +1,5 @@
--- `plain`. By the number of what follows the last list. Assumes nothing.
-use Rattle.replay_reading.proofs.Texts.{take-rest}
+-- `plain`. By the number of what follows the last list, from a space on. Assumes nothing.
+use Rattle.replay_reading.proofs.Texts.{take-rest, spaced-is}
 use Rattle.replay_reading.specs.Text.{largest, numbersIn}
 use mathlib.Core.Path.{ap, _∙_}
 use lib.ListN.{getD}
@@ -9,6 +9,9 @@ use Rattle.replay_reading.proofs.text.plain.Tie as tie
 
 tail-requires : tie.Need-tail-requires
 tail-requires c κs = search needs
+
+find-requires : tie.Need-find-requires
+find-requires c κs = search needs
 
 sub-number-at : tie.Need-sub-number-at
 sub-number-at c = search needs
@@ -24,15 +27,17 @@ number-at-requires c κs = search needs
 
 returns : tie.Need-returns
 returns c =
-    let a = c .before .before .before .before .args in
-    let e = take-rest _ (a .line .now) ∙ c .before .before .tail .ensures .1 in
-    c .number-at .ensures ∙ ap (λ l. getD (numbersIn largest l) (a .k) 0) e
+    let d = c .before .before .before in
+    let a = d .before .before .args in
+    let e = spaced-is _ _ (a .line .now) (d .tail .ensures .1) (c .before .before .find .ensures .0) in
+    c .number-at .ensures ∙ ap (λ l. getD (numbersIn largest l) (a .k) 0) (take-rest _ (a .line .now) ∙ e)
 
 pub plain-spec : {M : Type 1} → statement M
 plain-spec =
     tie.close
     (tie.spec
     tail-requires
+    find-requires
     sub-number-at
     part-number-at-start
     part-number-at-end

@@ -1,7 +1,7 @@
--- `tail`. Invariant: what follows the last closing bracket up to i begins at `at`. Measure: what is left of the line.
--- Assumes nothing.
-use Rattle.replay_reading.proofs.Texts.{after-lists-past, after-lists-on, after-lists-end}
-use Rattle.replay_reading.specs.Text.{afterLists}
+-- `tail`. Invariant: what follows the last byte up to i that closes something begins at `at`. Measure: what is left of
+-- the line. Assumes nothing.
+use Rattle.replay_reading.proofs.Texts.{closing-past, closing-on, closing-end}
+use Rattle.replay_reading.specs.Text.{afterClosing}
 use borrow.Author.Needs.{needs}
 use mathlib.Core.Path.{_≡_, refl, sym, _∙_}
 use Prim.Native.Nat.{_-_, _≤_}
@@ -11,7 +11,7 @@ use Rattle.replay_reading.proofs.text.tail.Tie as tie
 
 abbrev Inv-loop : tie.InvT-loop
 Inv-loop line at₀ i₀ at i =
-    (at ≤ i) × (i ≤ length line) × (afterLists (drop at line) (drop i line) ≡ afterLists line line)
+    (at ≤ i) × (i ≤ length line) × (afterClosing (drop at line) (drop i line) ≡ afterClosing line line)
 
 abbrev μ-loop : tie.MeasureT-loop
 μ-loop line at₀ i₀ at i = length line - i
@@ -19,8 +19,11 @@ abbrev μ-loop : tie.MeasureT-loop
 loop-holds : tie.Need-loop-holds Inv-loop μ-loop
 loop-holds c = (search needs, search needs, refl)
 
-shared-slice-read-if1 : tie.Need-shared-slice-read-if1 Inv-loop μ-loop
-shared-slice-read-if1 c = search needs
+shared-slice-read-closes : tie.Need-shared-slice-read-closes Inv-loop μ-loop
+shared-slice-read-closes c = search needs
+
+closes-requires : tie.Need-closes-requires Inv-loop μ-loop
+closes-requires c κs = search needs
 
 add-i : tie.Need-add-i Inv-loop μ-loop
 add-i c = search needs
@@ -30,8 +33,9 @@ loop-less c = search needs
 
 loop-again : tie.Need-loop-again Inv-loop μ-loop
 loop-again c =
-    let o = after-lists-past _ _ (c .before .before .loop-test .taken) _ (c .if1 .taken) in
-    (search needs, search needs, sym o ∙ c .before .before .before .loop .inv .2)
+    let e = sym (c .before .closes .ensures) ∙ c .if1 .taken in
+    let o = closing-past _ _ (c .before .before .before .loop-test .taken) _ e in
+    (search needs, search needs, sym o ∙ c .before .before .before .before .loop .inv .2)
 
 add-i-2 : tie.Need-add-i-2 Inv-loop μ-loop
 add-i-2 c = search needs
@@ -41,11 +45,12 @@ loop-less-2 c = search needs
 
 loop-again-2 : tie.Need-loop-again-2 Inv-loop μ-loop
 loop-again-2 c =
-    let o = after-lists-on _ _ (c .before .before .loop-test .taken) _ (c .if1 .left) in
-    (search needs, search needs, sym o ∙ c .before .before .before .loop .inv .2)
+    let e = sym (c .before .closes .ensures) ∙ c .if1 .left in
+    let o = closing-on _ _ (c .before .before .before .loop-test .taken) _ e in
+    (search needs, search needs, sym o ∙ c .before .before .before .before .loop .inv .2)
 
 returns : tie.Need-returns Inv-loop μ-loop
-returns c = (search needs, sym (after-lists-end _ _ (c .loop-test .left) _) ∙ c .before .loop .inv .2)
+returns c = (search needs, sym (closing-end _ _ (c .loop-test .left) _) ∙ c .before .loop .inv .2)
 
 pub tail-spec : {M : Type 1} → statement M
 tail-spec =
@@ -54,7 +59,8 @@ tail-spec =
     Inv-loop
     μ-loop
     loop-holds
-    shared-slice-read-if1
+    shared-slice-read-closes
+    closes-requires
     add-i
     loop-less
     loop-again

@@ -1,14 +1,14 @@
 //! Listings chosen by hand: those to try of the request, and those at the limits or past them.
 
 use flumedrac::{Listing, MAX_FLAGS};
-use flumedrac_trial::{cells, Kind, Question, Raw};
+use flumedrac_trial::{cells, Kind, Question, Raw, ALL_ROOM};
 
 use crate::damage::{written, Lists};
 use crate::run::{Go, Run};
 use crate::subject::Subject;
 use crate::supply::{first_flag, padded, special};
 
-use super::{reached, room_for_product, tests, ALL_ROOM};
+use super::{reached, room_for_product, tests};
 
 /// The listings to try of the request.
 pub(super) fn listings_to_try(run: &mut Run<'_>) -> Go {

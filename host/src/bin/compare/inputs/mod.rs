@@ -4,9 +4,9 @@ mod closed;
 mod damaged;
 mod fixed;
 mod small;
+mod texts;
 
-use flumedrac::{MAX_ELEMENTS, MAX_INCIDENCES, MAX_RANKS};
-use flumedrac_trial::{Kind, Question, Random, Raw, Reply, Test};
+use flumedrac_trial::{Kind, Question, Random, Raw, Reply, Test, ALL_ROOM};
 
 use crate::judge::judge;
 use crate::run::{Caught, Go, Run};
@@ -16,6 +16,7 @@ use closed::{closed_cells, products};
 use damaged::{damaged_cells, random_limits, random_products, random_slices};
 use fixed::{limits, listings_to_try, shapes};
 use small::{counts, numbers, small_listings, small_relations, small_slices};
+use texts::{cell_texts, damaged_texts, text_limits, texts_to_try};
 
 /// How much is asked.
 #[derive(Clone, Copy)]
@@ -24,7 +25,7 @@ pub struct Scale {
     pub incidences: usize,
     /// Elements in each rank of the small relations that are tried exhaustively.
     pub elements: usize,
-    /// Damaged cells, and random slices.
+    /// Damaged cells and texts, and random slices and texts.
     pub rounds: usize,
 }
 
@@ -48,14 +49,17 @@ pub fn all(run: &mut Run<'_>, scale: Scale, seed: u64) -> Go {
     run.part("all small relations", |run| small_relations(run, scale.elements))?;
     run.part("damaged cells", |run| damaged_cells(run, random, scale.rounds))?;
     run.part("random slices", |run| random_slices(run, random, scale.rounds))?;
+    // Texts are drawn by numbers of their own, so that the listings are those that they were without them.
+    let drawn = &mut Random::new(seed);
+    run.part("texts to try, changed in every place", texts_to_try)?;
+    run.part("texts of cells and of products", |run| cell_texts(run, drawn))?;
+    run.part("texts at the limits", text_limits)?;
+    run.part("damaged and random texts", |run| damaged_texts(run, drawn, scale.rounds / 4))?;
     run.part("closed cells: tests, changes, searches", |run| closed_cells(run, random))?;
     run.part("products of cells", |run| products(run, random))?;
     run.part("products of random valid listings", |run| random_products(run, random, scale.rounds / 4))?;
     run.part("products and searches at the limits", limits)
 }
-
-/// Enough room for any product.
-const ALL_ROOM: [usize; 3] = [MAX_RANKS, 2 * MAX_ELEMENTS, MAX_INCIDENCES];
 
 fn tests(run: &mut Run<'_>, cell: &Subject) -> Go {
     Test::ALL.iter().try_for_each(|&test| run.ask(Question::Test(test, cell)))
@@ -66,6 +70,19 @@ fn reached(cell: &Subject, first: &[u16], mask: u16) -> usize {
     let question = Question::Events { cell, first: first.to_vec(), mask };
     let flags = |reply: Reply| reply.slices.iter().filter(|event| !event.is_empty()).count();
     judge(&question).map_or(0, |(reply, _)| flags(reply)).max(1)
+}
+
+/// Room for slices of these lengths: exactly, one number more, none, and one number less or none in each of them.
+fn rooms(size: [usize; 3]) -> Vec<[usize; 3]> {
+    let mut rooms = vec![size, size.map(|length| length + 1), [0, 0, 0]];
+    for at in 0..3 {
+        for less in [size[at].saturating_sub(1), 0] {
+            let mut room = size;
+            room[at] = less;
+            rooms.push(room);
+        }
+    }
+    rooms
 }
 
 /// A product with all room, and if it is answered with exactly its room, one number less of each, none, and one more.
@@ -80,16 +97,7 @@ fn room_for_product(run: &mut Run<'_>, kind: Kind, p: &Subject, q: &Subject) -> 
         return Ok(None);
     }
     let size = [5, 6, 7].map(|at| reply.numbers[at] as usize);
-    run.ask(ask(size))?;
-    run.ask(ask(size.map(|n| n + 1)))?;
-    run.ask(ask([0, 0, 0]))?;
-    for at in 0..3 {
-        for less in [size[at].saturating_sub(1), 0] {
-            let mut room = size;
-            room[at] = less;
-            run.ask(ask(room))?;
-        }
-    }
+    rooms(size).into_iter().try_for_each(|room| run.ask(ask(room)))?;
     let [counts, ends, inc] = [0, 1, 2].map(|at| reply.slices[at][..size[at]].to_vec());
     Ok(Some(Raw { counts, ends, inc }))
 }

@@ -1,0 +1,2 @@
+// Writing layers that have been noted down as a listing, into lent slices.
+pub mod build;

@@ -1,0 +1,2 @@
+// Lines of a text: their keys, their numbers.
+pub mod lines;

@@ -1,0 +1,16 @@
+pub mod Digits
+pub mod Numerals
+pub mod Lines
+pub mod Marks
+pub mod Reading
+pub mod Spots
+pub mod Incidences
+pub mod Alike
+pub mod Runs
+pub mod Forms
+pub mod Good
+pub mod TextTest
+pub mod Within
+pub mod Cuts
+pub mod Accepted
+pub mod FirstPlaces

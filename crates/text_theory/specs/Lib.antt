@@ -1,0 +1,5 @@
+pub mod Text
+pub mod Said
+pub mod Digits
+pub mod Notes
+pub mod Places
