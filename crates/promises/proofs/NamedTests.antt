@@ -110,10 +110,10 @@ module _ (h : ℕ) (L : Listing) where
             (omega (arith, occurs-nil y)),
         occurs-nil y,
       ))
-      (sym (all-seen L r i x) ∙ eqb-true _ _ e)
+      (sym (all-seen x (walk L r i)) ∙ eqb-true _ _ e)
       (λ y m q. eqb-false (occurs y seen) 1
       (on-no (eqb (occurs y seen) 1) (lone r i y) (λ e. omega arith) (early y (omega arith) m))
-      (all-seen L r i y ∙ q)))))
+      (all-seen y (walk L r i) ∙ q)))))
     where
       seen : List ℕ
       seen = seenAfter [] (walk L r i)

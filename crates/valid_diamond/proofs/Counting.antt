@@ -24,6 +24,10 @@ unfolding seenAfter
 seen-occurs x s [] = omega (arith, occurs-nil x)
 seen-occurs x s (y ∷ l) = omega (arith, seen-occurs x (y ∷ s) l, occurs-cons x y s, occurs-cons x y l)
 
+-- what has been seen at the end of a walk
+pub all-seen : (x : ℕ) (w : List ℕ) → occurs x (seenAfter [] w) ≡ occurs x w
+all-seen x w = omega (arith, seen-occurs x [] w, occurs-nil x)
+
 -- one number more, which had not been met twice
 pub still : (x y : ℕ) (s : List ℕ) → occurs y s < 2 → occurs x s ≤ 2 → occurs x (y ∷ s) ≤ 2
 still x y s h k = go (eqb y x) refl
@@ -68,17 +72,13 @@ module _ (f : ℕ → Answer) (bad : (x : ℕ) → f x .no ≡ 0 → ⊥) where
 -- ---- one element
 
 module _ (L : Listing) (r i : ℕ) where
-  -- what has been seen at the end of the walk
-  pub all-seen : (x : ℕ) → occurs x (seenAfter [] (walk L r i)) ≡ occurs x (walk L r i)
-  all-seen x = omega (arith, seen-occurs x [] (walk L r i), occurs-nil x)
-
   met-all : sectionsTest L r i .no ≡ 0 → ((x : ℕ) → In x (walk L r i) → x < count L (r - 2)) → MetTwiceAt L r i
   unfolding sectionsTest
   met-all e there x m =
       let p = or-no _ _ e in
       let a = third-each (third r i) (λ y z. omega arith) [] (walk L r i) (p .0) x (omega (arith, occurs-nil x)) in
       let b = lone-each (lone r i) (λ y z. omega arith) _ (count L (r - 2)) (p .1) x (there x m) in
-      let c : occurs x (walk L r i) ≡ 1 → ⊥ = λ q. b (all-seen x ∙ q) in
+      let c : occurs x (walk L r i) ≡ 1 → ⊥ = λ q. b (all-seen x (walk L r i) ∙ q) in
       omega (arith, occurs-some x (walk L r i) .1 m, occurs-nil x)
 
   none-or-two : MetTwiceAt L r i → (x : ℕ) → (occurs x (walk L r i) ≡ 0) ⊎ (occurs x (walk L r i) ≡ 2)
@@ -98,7 +98,9 @@ module _ (L : Listing) (r i : ℕ) where
       few x = ⊎-elim (λ e. omega (arith, occurs-nil x)) (λ e. omega (arith, occurs-nil x)) (none-or-two a x)
 
       no-one : (x : ℕ) → occurs x (seenAfter [] (walk L r i)) ≡ 1 → ⊥
-      no-one x q = ⊎-elim (λ e. omega (arith, all-seen x)) (λ e. omega (arith, all-seen x)) (none-or-two a x)
+      no-one x q =
+          let s = all-seen x (walk L r i) in
+          ⊎-elim (λ e. omega arith) (λ e. omega arith) (none-or-two a x)
 
   -- the premise: what the walk meets is there
   pub sections-exact : ((x : ℕ) → In x (walk L r i) → x < count L (r - 2))

@@ -1,5 +1,6 @@
 pub mod Walks
-pub mod Ones
+pub mod Totals
 pub mod Counting
+pub mod Undoing
 pub mod Twos
 pub mod DyadicExact

@@ -167,7 +167,8 @@ module _ (ends inc : List ℕ) (b : ℕ) where
   unfolding subsOfAll
   walk-one s = append-nil (subsOf s)
 
-  walk-next : (l : List ℕ) (j : ℕ) → j < length l → walkOf (take (j + 1) l) ≡ walkOf (take j l) ++ subsOf (getD l j 0)
+  pub walk-next : (l : List ℕ) (j : ℕ) → j < length l
+      → walkOf (take (j + 1) l) ≡ walkOf (take j l) ++ subsOf (getD l j 0)
   walk-next l j h = rw (add-one, take-suc l j 0 h, walk-append, walk-one)
 
   walk-split : (l : List ℕ) (j : ℕ) → j < length l
@@ -191,11 +192,12 @@ module _ (ends inc : List ℕ) (b : ℕ) where
     walk-all h e = rw (take-all j l h) at (walked-all f seen w e)
 
 -- where test 2 passes, the subs of an element's subs can be walked
-pub walkable : {m : Limits} (L : Listing) → Shaped m L → Incident L → (r i : ℕ) → i < count L r
-    → Walkable (L .ends) (L .inc) (before (L .counts) (r - 1)) (m .elements) (subs L r i)
+pub walkable : {m : Limits} (L : Listing) → Shaped m L → Incident L → (r i : ℕ) → i < count L r → {b : ℕ} {l : List ℕ}
+    → b ≡ before (L .counts) (r - 1) → l ≡ subs L r i → Walkable (L .ends) (L .inc) b (m .elements) l
 unfolding Incident
-walkable L S I r i h =
+walkable L S I r i h p q =
     let sub : (s : ℕ) → In s (subs L r i) → s < count L (r - 1) = λ s k. I r i h .lower .each s k .1 in
+    rw (p, q)
     record {
       there = λ s k. side-fits L S (r - 1) s 0 (sub s k) (omega arith);
       inside = λ s x k g.

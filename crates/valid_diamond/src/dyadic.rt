@@ -1,4 +1,5 @@
-// Test 3, on a listing that is known to be shaped and incident.
+// Test 3, on a listing that is known to be shaped and incident. One tally serves all elements: it counts what the walk
+// under an element meets, and where the element passes, only the counts that the walk has touched are set back.
 use listing::Answer;
 use listing::Element;
 use listing::Index;
@@ -6,42 +7,63 @@ use listing::inner;
 use listing::limit;
 use listing::refusal;
 ghost use mathlib.Core.Path.{_≡_};
-ghost use mathlib.Core.List.{List};
-ghost use Prim.Native.Nat.{ℕ, _+_, _-_, _*_, _≤_, _<_};
-ghost use lib.ListN.{length, getD};
+ghost use mathlib.Core.List.{List, []};
+ghost use Prim.Native.Nat.{ℕ, _+_, _-_, _≤_, _<_};
+ghost use lib.ListN.{length, getD, set};
 ghost use Rattle.order.specs.Lists.{In};
 ghost use Rattle.listing.specs.Answers.{firstOf};
 ghost use Rattle.listing.specs.Listing.{width, held, limits, before, Ends};
 ghost use Rattle.listing.specs.Shape.{Shaped};
 ghost use Rattle.valid_incidence.specs.Incidence.{Incident};
-ghost use Rattle.valid_diamond.specs.Dyadic.{subsOfAll, third, lone, sectionsTest, dyadicTest};
-ghost use Rattle.valid_diamond.specs.Tally.{LoneCount, Tally, Tallied, loneIn, Walkable};
+ghost use Rattle.valid_diamond.specs.Dyadic.{subsOfAll, seenAfter, third, lone, sectionsTest, dyadicTest};
+ghost use Rattle.valid_diamond.specs.Tally.{MetIn, TotalsIn, Tally, Tallied, loneIn, undone, Walkable};
 
-// What a walk leaves: its answer, and how many indices it has met exactly once.
-struct Met {
+// How many indices a walk has met, and how many of them twice.
+struct Totals {
+    met: Index,
+    twice: Index,
+}
+
+// What a walk leaves: its answer, and its totals.
+struct Counted {
     answer: Answer,
-    once: Index,
+    totals: Totals,
 }
 
-// How many indices have been met once, when one more is met that had been met `before` times.
-fn once_after(once: Index, before: u8) -> Index
-    requires { ⌜ (before < 2) × (before ≤ once) × (once + 1 < width) ⌝ }
-    ensures { λ n. ⌜ n + 2 * before ≡ once + 1 ⌝ }
+// The totals, when one more index is met that had been met `before` times.
+fn totals_after(totals: Totals, before: u8) -> Totals
+    requires { ⌜ (before < 2) × (totals .met + 1 < width) × (totals .twice + 1 < width) ⌝ }
+    ensures { λ t. ⌜ (t .met + before ≡ totals .met + 1) × (t .twice ≡ totals .twice + before) ⌝ }
 {
-    if before == 0 { once + 1 } else { once - 1 }
+    if before == 0 {
+        Totals {
+            met: totals.met + 1,
+            twice: totals.twice,
+        }
+    } else {
+        Totals {
+            met: totals.met,
+            twice: totals.twice + 1,
+        }
+    }
 }
 
-// Counts the subs of one of an element's subs, and refuses the first that is met a third time. Before, `once` indices
-// have been met once.
-fn tally_list(tally: &mut [u8; limit::ELEMENTS], subs: &[Index], once: Index, of: Element) -> Met
+// Counts the subs of one of an element's subs, and refuses the first that is met a third time. `totals` are those of
+// what was met before.
+fn tally_list(
+    tally: &mut [u8; limit::ELEMENTS],
+    subs: &[Index],
+    totals: Totals,
+    of: Element,
+) -> Counted
     requires { ⌜ ((x : ℕ) → In x (now subs) → x < limits .elements) ⌝ }
-    requires { ⌜ (2 ≤ of .rank) × LoneCount (limits .elements) (now tally) once ⌝ }
-    ensures { λ m. ⌜ ((seen : List ℕ) → Tally (limits .elements) (now (tally .entry)) seen
+    requires { ⌜ (2 ≤ of .rank) × TotalsIn (limits .elements) (now tally) (totals .met) (totals .twice) ⌝ }
+    ensures { λ c. ⌜ ((seen : List ℕ) → Tally (limits .elements) (now (tally .entry)) seen
         → Tallied (limits .elements) (now (tally .exit)) (third (of .rank) (of .index)) seen
-        (now (subs .entry)) (m .answer)) ⌝ }
-    ensures { λ m. ⌜ LoneCount (limits .elements) (now (tally .exit)) (m .once) ⌝ }
+        (now (subs .entry)) (c .answer)) ⌝ }
+    ensures { λ c. ⌜ TotalsIn (limits .elements) (now (tally .exit)) (c .totals .met) (c .totals .twice) ⌝ }
 {
-    let mut n = once;
+    let mut so_far = totals;
     let mut j: usize = 0;
     while j < subs.len() {
         let sub_sub = subs[j];
@@ -55,20 +77,23 @@ fn tally_list(tally: &mut [u8; limit::ELEMENTS], subs: &[Index], once: Index, of
                 c: of.rank,
                 d: of.index,
             };
-            return Met { answer, once: n };
+            return Counted {
+                answer,
+                totals: so_far,
+            };
         }
-        n = once_after(n, tally[at]);
+        so_far = totals_after(so_far, tally[at]);
         tally[at] += 1;
         j += 1;
     }
-    Met {
+    Counted {
         answer: inner::plain(0),
-        once: n,
+        totals: so_far,
     }
 }
 
-// Counts the subs of an element's subs, in walking order, in a tally in which nothing has been met once. The lists of
-// those subs begin at place b.
+// Counts the subs of an element's subs, in walking order, in the tally of nothing. The lists of those subs begin at
+// place b.
 fn tally_all(
     tally: &mut [u8; limit::ELEMENTS],
     ends: &[Index],
@@ -76,33 +101,32 @@ fn tally_all(
     b: usize,
     subs: &[Index],
     of: Element,
-) -> Met
+) -> Counted
     requires { ⌜ Ends (now ends) (now inc) ⌝ }
     requires { ⌜ Walkable (now ends) (now inc) b (limits .elements) (now subs) ⌝ }
-    requires { ⌜ (2 ≤ of .rank) × LoneCount (limits .elements) (now tally) 0 ⌝ }
-    ensures { λ m. ⌜ ((seen : List ℕ) → Tally (limits .elements) (now (tally .entry)) seen
-        → Tallied (limits .elements) (now (tally .exit)) (third (of .rank) (of .index)) seen
-        (subsOfAll (now (ends .entry)) (now (inc .entry)) b (now (subs .entry))) (m .answer)) ⌝ }
-    ensures { λ m. ⌜ LoneCount (limits .elements) (now (tally .exit)) (m .once) ⌝ }
+    requires { ⌜ (2 ≤ of .rank) × Tally (limits .elements) (now tally) [] ⌝ }
+    ensures { λ c. ⌜ Tallied (limits .elements) (now (tally .exit)) (third (of .rank) (of .index)) []
+        (subsOfAll (now (ends .entry)) (now (inc .entry)) b (now (subs .entry))) (c .answer) ⌝ }
+    ensures { λ c. ⌜ TotalsIn (limits .elements) (now (tally .exit)) (c .totals .met) (c .totals .twice) ⌝ }
 {
-    let mut once: Index = 0;
+    let mut totals = Totals { met: 0, twice: 0 };
     let mut j: usize = 0;
     while j < subs.len() {
-        let m = tally_list(
+        let c = tally_list(
             &mut *tally,
             inner::side_of(ends, inc, b, subs[j], 0),
-            once,
+            totals,
             of,
         );
-        if m.answer.no != 0 {
-            return m;
+        if c.answer.no != 0 {
+            return c;
         }
-        once = m.once;
+        totals = c.totals;
         j += 1;
     }
-    Met {
+    Counted {
         answer: inner::plain(0),
-        once,
+        totals,
     }
 }
 
@@ -129,58 +153,140 @@ fn check_once(tally: &[u8; limit::ELEMENTS], n: Index, of: Element) -> Answer
     inner::plain(0)
 }
 
-// The smallest index below n that was met once, where `once` of the whole tally were: it is looked for only if some
-// were.
-fn check_lone(tally: &[u8; limit::ELEMENTS], once: Index, n: Index, of: Element) -> Answer
+// The smallest index below n that was met once: it is looked for only if not all that were met were met twice.
+fn check_lone(tally: &[u8; limit::ELEMENTS], totals: Totals, n: Index, of: Element) -> Answer
     requires { ⌜ n ≤ limits .elements ⌝ }
-    requires { ⌜ (2 ≤ of .rank) × LoneCount (limits .elements) (now tally) once ⌝ }
+    requires { ⌜ (2 ≤ of .rank) × TotalsIn (limits .elements) (now tally) (totals .met) (totals .twice) ⌝ }
     ensures { λ a. ⌜ a ≡ loneIn (lone (of .rank) (of .index)) (now (tally .entry)) n ⌝ }
 {
-    if once == 0 {
+    if totals.met == totals.twice {
         return inner::plain(0);
     }
     check_once(tally, n, of)
 }
 
-// The sections under element i of rank r, in a tally of its own. The rank below begins at place b.
+// Sets a count back to 0. Before, `left` counts are not 0; the answer is how many are not after. A count that is 0
+// already is not written: the memory may lie behind a slow bus.
+fn undo_count(tally: &mut [u8; limit::ELEMENTS], at: usize, left: Index) -> Index
+    requires { ⌜ (at < limits .elements) × MetIn (limits .elements) (now tally) left ⌝ }
+    ensures { λ n. ⌜ now (tally .exit) ≡ set (now (tally .entry)) at 0 ⌝ }
+    ensures { λ n. ⌜ MetIn (limits .elements) (now (tally .exit)) n ⌝ }
+{
+    if tally[at] == 0 {
+        return left;
+    }
+    tally[at] = 0;
+    left - 1
+}
+
+// Sets the counts of some indices back to 0, the last first. Before, `met` counts are not 0; the answer is how many are
+// not after.
+fn undo_list(tally: &mut [u8; limit::ELEMENTS], subs: &[Index], met: Index) -> Index
+    requires { ⌜ ((x : ℕ) → In x (now subs) → x < limits .elements) ⌝ }
+    requires { ⌜ MetIn (limits .elements) (now tally) met ⌝ }
+    ensures { λ n. ⌜ now (tally .exit) ≡ undone (now (subs .entry)) (now (tally .entry)) ⌝ }
+    ensures { λ n. ⌜ MetIn (limits .elements) (now (tally .exit)) n ⌝ }
+{
+    let mut left = met;
+    let mut k = subs.len();
+    while 0 < k {
+        left = undo_count(&mut *tally, inner::wide(subs[k - 1]), left);
+        k -= 1;
+    }
+    left
+}
+
+// Undoes what tally_all has counted: the same lists are walked again, the last first, until none is left of the `met`
+// indices that were met.
+fn undo_all(
+    tally: &mut [u8; limit::ELEMENTS],
+    ends: &[Index],
+    inc: &[Index],
+    b: usize,
+    subs: &[Index],
+    met: Index,
+)
+    requires { ⌜ Ends (now ends) (now inc) ⌝ }
+    requires { ⌜ Walkable (now ends) (now inc) b (limits .elements) (now subs) ⌝ }
+    requires { ⌜ Tally (limits .elements) (now tally) (seenAfter [] (subsOfAll (now ends) (now inc) b (now subs))) ⌝ }
+    requires { ⌜ MetIn (limits .elements) (now tally) met ⌝ }
+    ensures { λ r. ⌜ Tally (limits .elements) (now (tally .exit)) [] ⌝ }
+{
+    let mut left = met;
+    let mut j = subs.len();
+    while 0 < left {
+        left = undo_list(
+            &mut *tally,
+            inner::side_of(ends, inc, b, subs[j - 1], 0),
+            left,
+        );
+        j -= 1;
+    }
+}
+
+// The sections under an element. The tally comes in as that of nothing, and is so again where they pass. The rank below
+// begins at place b.
 fn check_sections(
+    tally: &mut [u8; limit::ELEMENTS],
+    counts: &[Index],
+    ends: &[Index],
+    inc: &[Index],
+    b: usize,
+    of: Element,
+) -> Answer
+    requires { ⌜ Shaped limits (held counts ends inc) ⌝ }
+    requires { ⌜ Incident (held counts ends inc) ⌝ }
+    requires { ⌜ (b ≡ before (now counts) (of .rank - 1)) × (2 ≤ of .rank) ⌝ }
+    requires { ⌜ (of .index < getD (now counts) (of .rank) 0) × Tally (limits .elements) (now tally) [] ⌝ }
+    ensures { λ a. ⌜ a ≡ sectionsTest (held (counts .entry) (ends .entry) (inc .entry)) (of .rank) (of .index) ⌝ }
+    ensures { λ a. ⌜ (a .no ≡ 0 → Tally (limits .elements) (now (tally .exit)) []) ⌝ }
+{
+    let r = inner::wide(of.rank);
+    let here = b + inner::wide(counts[r - 1]);
+    let subs = inner::side_of(ends, inc, here, of.index, 0);
+    let c = tally_all(&mut *tally, ends, inc, b, subs, of);
+    if c.answer.no != 0 {
+        return c.answer;
+    }
+    let a = check_lone(&*tally, c.totals, counts[r - 2], of);
+    if a.no != 0 {
+        return a;
+    }
+    undo_all(&mut *tally, ends, inc, b, subs, c.totals.met);
+    a
+}
+
+// The elements of rank r. The tally comes in as that of nothing, and is so again where they pass. The rank below begins
+// at place b.
+fn check_rank(
+    tally: &mut [u8; limit::ELEMENTS],
     counts: &[Index],
     ends: &[Index],
     inc: &[Index],
     b: usize,
     r: usize,
-    i: Index,
 ) -> Answer
     requires { ⌜ Shaped limits (held counts ends inc) ⌝ }
     requires { ⌜ Incident (held counts ends inc) ⌝ }
-    requires { ⌜ (b ≡ before (now counts) (r - 1)) × (2 ≤ r) × (i < getD (now counts) r 0) ⌝ }
-    ensures { λ a. ⌜ a ≡ sectionsTest (held (counts .entry) (ends .entry) (inc .entry)) r i ⌝ }
-{
-    let here = b + inner::wide(inner::count_at(counts, r - 1));
-    let subs = inner::side_of(ends, inc, here, i, 0);
-    let rank = r as Index;
-    let of = Element { rank, index: i };
-    let mut tally = [0u8; limit::ELEMENTS];
-    let m = tally_all(&mut tally, ends, inc, b, subs, of);
-    if m.answer.no != 0 {
-        return m.answer;
-    }
-    check_lone(&tally, m.once, inner::count_at(counts, r - 2), of)
-}
-
-// The elements of rank r. The rank below begins at place b.
-fn check_rank(counts: &[Index], ends: &[Index], inc: &[Index], b: usize, r: usize) -> Answer
-    requires { ⌜ Shaped limits (held counts ends inc) ⌝ }
-    requires { ⌜ Incident (held counts ends inc) ⌝ }
     requires { ⌜ (b ≡ before (now counts) (r - 1)) × (2 ≤ r) × (r < length (now counts)) ⌝ }
+    requires { ⌜ Tally (limits .elements) (now tally) [] ⌝ }
     ensures { λ a. ⌜ a ≡ firstOf
         (sectionsTest (held (counts .entry) (ends .entry) (inc .entry)) r) 0
         (getD (now (counts .entry)) r 0) ⌝ }
+    ensures { λ a. ⌜ (a .no ≡ 0 → Tally (limits .elements) (now (tally .exit)) []) ⌝ }
 {
+    let rank = r as Index;
     let n = counts[r];
     let mut i: Index = 0;
     while i < n {
-        let a = check_sections(counts, ends, inc, b, r, i);
+        let a = check_sections(
+            &mut *tally,
+            counts,
+            ends,
+            inc,
+            b,
+            Element { rank, index: i },
+        );
         if a.no != 0 {
             return a;
         }
@@ -196,10 +302,15 @@ pub fn check_up_to(counts: &[Index], ends: &[Index], inc: &[Index], high: usize)
     requires { ⌜ high < length (now counts) ⌝ }
     ensures { λ a. ⌜ a ≡ dyadicTest (held (counts .entry) (ends .entry) (inc .entry)) high ⌝ }
 {
+    // Below rank 2 there is nothing to walk, so there is no tally to clear.
+    if high < 2 {
+        return inner::plain(0);
+    }
+    let mut tally = [0u8; limit::ELEMENTS];
     let mut b = inner::wide(counts[0]);
     let mut r: usize = 2;
     while r <= high {
-        let a = check_rank(counts, ends, inc, b, r);
+        let a = check_rank(&mut tally, counts, ends, inc, b, r);
         if a.no != 0 {
             return a;
         }

@@ -63,6 +63,8 @@ breaks! {
     DyadicBounded "dyadic-bounded",
     /// The diamond counts an index once for each sub.
     OccurrencesOnce "occurrences-once",
+    /// The diamond counts for an element an index that the element before it met: of its tally one count stays.
+    OneNotUndone "one-not-undone",
     /// 18 names the largest index.
     LoneLargest "lone-largest",
     /// Of one element 18 is answered before 17.

@@ -82,9 +82,13 @@ impl Model {
 
     /// The diamond with the higher element at ranks 2 to `last`.
     fn diamond(&self, cell: &Layers<'_>, last: usize) -> Refused {
+        let mut stays = None;
         for r in 2..=last {
             for (i, element) in cell[r].iter().enumerate() {
                 let mut tally = vec![0; cell[r - 2].len()];
+                if let Some(met) = stays.and_then(|x: usize| tally.get_mut(x)) {
+                    *met = 2;
+                }
                 let mut third = None;
                 for &sub in element.subs {
                     let mut seen = vec![];
@@ -109,6 +113,9 @@ impl Model {
                 let found = if self.has(Break::LoneBeforeThird) { lone.or(third) } else { third.or(lone) };
                 if found.is_some() {
                     return found;
+                }
+                if self.has(Break::OneNotUndone) {
+                    stays = tally.iter().rposition(|&met| met == 2);
                 }
             }
         }

@@ -1,15 +1,23 @@
 //! Measures the library beside the Rust files and prints Markdown tables.
 //!
-//!   bench [--brief] [--runs N] [--model]
+//!   bench [--brief] [--runs N] [--model | --before PROGRAM]
+//!   bench --serve
 //!
 //! Both sides are measured in turn, run after run, so that what else the machine does touches both. The time is the
 //! processor's time for this thread: waiting for a processor that is busy elsewhere does not count. --brief prints one
 //! table, with the ratios and our time alone and without the cells that grow. --model measures the unproved model
 //! instead of the archive, only to try this program.
 //!
+//! --before measures an earlier archive too, in turn with the others, and the tables say how its time is to ours.
+//! PROGRAM is a `bench` that was built with that archive: by FLUMEDRAC_LIB, which names the archive's folder, and by
+//! CARGO_TARGET_DIR, which names another folder to build in. It is started with --serve and then is a partner: it
+//! prints no tables, but reads the names of rows, a line each, and says how many seconds its own archive takes for
+//! that row, or a dash if it has none of that name.
+//!
 //! The Rust files have no texts: reading one is measured beside a plain parser in Rust. Where the program `cellcheck`
 //! was made, whole processes are measured too, by the clock on the wall.
 
+mod partner;
 mod processes;
 mod rows;
 mod rust;
@@ -19,6 +27,7 @@ use std::process::ExitCode;
 
 use flumedrac_trial::{limit_memory, misused, Archive, Library, Model};
 
+use partner::Partner;
 use rows::{Measured, Row, Rows};
 use times::{written, Summary};
 
@@ -26,15 +35,19 @@ struct Options {
     brief: bool,
     runs: usize,
     model: bool,
+    before: Option<String>,
+    serve: bool,
 }
 
 fn options() -> Result<Options, String> {
-    let mut options = Options { brief: false, runs: 31, model: false };
+    let mut options = Options { brief: false, runs: 31, model: false, before: None, serve: false };
     let mut words = std::env::args().skip(1);
     while let Some(word) = words.next() {
         match word.as_str() {
             "--brief" => options.brief = true,
             "--model" => options.model = true,
+            "--serve" => options.serve = true,
+            "--before" => options.before = Some(words.next().ok_or("--before wants a program")?),
             "--runs" => {
                 let runs = words.next().and_then(|number| number.parse().ok()).filter(|&runs| runs > 0);
                 options.runs = runs.ok_or("--runs wants a number from 1")?;
@@ -42,15 +55,31 @@ fn options() -> Result<Options, String> {
             _ => return Err(format!("{word} is not known")),
         }
     }
+    if options.serve && std::env::args().len() > 2 {
+        return Err("--serve goes with no other word".into());
+    }
+    if options.model && options.before.is_some() {
+        return Err("--before does not go with --model".into());
+    }
     Ok(options)
 }
 
 /// The rows of a group, measured in turn as often as there are runs; who comes first changes from run to run.
-fn measured(mut rows: Vec<Row<'_>>, runs: usize) -> Vec<(String, Measured)> {
+fn measured(
+    mut rows: Vec<Row<'_>>,
+    runs: usize,
+    partner: &mut Option<Partner>,
+) -> Result<Vec<(String, Measured)>, String> {
     for run in 0..runs {
-        rows.iter_mut().for_each(|row| row.measure(run % 2 == 0));
+        rows.iter_mut().try_for_each(|row| row.measure(run % 2 == 0, partner))?;
     }
-    rows.into_iter().map(|row| (row.name.clone(), row.measured())).collect()
+    Ok(rows.into_iter().map(|row| (row.name.clone(), row.measured())).collect())
+}
+
+/// The columns of a table: those about the partner come last, and only if there is one.
+fn columns<'a>(always: &[&'a str], about_partner: &[&'a str], partner: &Option<Partner>) -> Vec<&'a str> {
+    let more = if partner.is_some() { about_partner } else { &[] };
+    [always, more].concat()
 }
 
 /// The first lines of a table: what each column holds, and that all but the first hold numbers.
@@ -59,61 +88,75 @@ fn head(columns: &[&str]) {
     println!("|---|{}", "---:|".repeat(columns.len()));
 }
 
-/// The ratios of the Rust's time to ours, of the medians and of the least.
-fn ratios(ours: Summary, rust: Option<Summary>) -> [String; 2] {
-    let ratio = |rust: f64, ours: f64| match rust / ours {
+/// A line of a table: of its cells, as many as the table has columns.
+fn line(name: &str, cells: &[String], columns: &[&str]) {
+    println!("| {name} | {} |", cells[..columns.len()].join(" | "));
+}
+
+/// The ratios of another time to ours, of the medians and of the least: from 1 on, with so many digits after the point.
+fn ratios(ours: Summary, other: Option<Summary>, digits: usize) -> [String; 2] {
+    let ratio = |other: f64, ours: f64| match other / ours {
         slower if slower < 1.0 => format!("{slower:.2}"),
-        faster => format!("{faster:.1}"),
+        faster => format!("{faster:.digits$}"),
     };
-    rust.map_or_else(Default::default, |rust| [ratio(rust.median, ours.median), ratio(rust.least, ours.least)])
+    other.map_or_else(Default::default, |other| [ratio(other.median, ours.median), ratio(other.least, ours.least)])
 }
 
-/// A row of the brief table.
-fn brief_line(name: &str, measured: &Measured) {
-    let [medians, least] = ratios(measured.ours, measured.rust);
-    println!("| {name} | {medians} | {least} | {} |", written(measured.ours.median));
+/// The cells of a row of the brief table.
+fn brief_cells(measured: &Measured) -> [String; 5] {
+    let [medians, least] = ratios(measured.ours, measured.rust, 1);
+    let [before_medians, before_least] = ratios(measured.ours, measured.before, 2);
+    [medians, least, written(measured.ours.median), before_medians, before_least]
 }
 
-/// A line of a full table.
-fn line(name: &str, ours: Summary, rust: Option<Summary>) {
+/// The cells of a line of a full table.
+fn full_cells(ours: Summary, rust: Option<Summary>, before: Option<Summary>) -> Vec<String> {
     let both = |times: Summary| [written(times.median), written(times.least)];
-    let [rust_median, rust_least] = rust.map(both).unwrap_or_default();
-    let [median, least] = both(ours);
-    let [medians, leasts] = ratios(ours, rust);
-    println!("| {name} | {median} | {least} | {rust_median} | {rust_least} | {medians} | {leasts} |");
+    let [rust_times, before_times] = [rust, before].map(|times| times.map(both).unwrap_or_default());
+    [both(ours), rust_times, ratios(ours, rust, 1), before_times, ratios(ours, before, 2)].concat()
 }
 
 /// A row of a full table: a search also without the closed test that it begins with, which the Rust's has not.
-fn full_lines(name: &str, measured: &Measured) {
-    line(name, measured.ours, measured.rust);
-    if let Some(closed) = measured.closed {
-        line("- of that, the closed test", closed, None);
-        line("- without the closed test", measured.ours.without(closed), measured.rust);
+fn full_lines(name: &str, measured: &Measured, columns: &[&str]) {
+    let Measured { ours, closed, rust, before } = *measured;
+    line(name, &full_cells(ours, rust, before), columns);
+    if let Some(closed) = closed {
+        line("- of that, the closed test", &full_cells(closed, None, None), columns);
+        line("- without the closed test", &full_cells(ours.without(closed), rust, None), columns);
     }
 }
 
 /// One table, with what counts most.
-fn brief_table(rows: Rows<'_>, runs: usize) {
-    head(&["ratio of medians", "ratio of least", "ours, median"]);
+fn brief_table(rows: Rows<'_>, runs: usize, partner: &mut Option<Partner>) -> Result<(), String> {
+    let always = ["ratio of medians", "ratio of least", "ours, median"];
+    let columns = columns(&always, &["before / ours", "before / ours, least"], partner);
+    head(&columns);
     for group in [rows.usual(), rows.largest(), rows.texts()] {
-        measured(group, runs).iter().for_each(|(name, measured)| brief_line(name, measured));
+        let measured = measured(group, runs, partner)?;
+        measured.iter().for_each(|(name, measured)| line(name, &brief_cells(measured), &columns));
     }
+    Ok(())
 }
 
 /// A table for each group, with all that was measured.
-fn full_tables(rows: Rows<'_>, runs: usize) {
+fn full_tables(rows: Rows<'_>, runs: usize, partner: &mut Option<Partner>) -> Result<(), String> {
     let groups = [
         ("Usual cells", rows.usual()),
         ("Largest", rows.largest()),
         ("Growth", rows.growth()),
         ("Texts, the Rust being a plain parser (host/parser)", rows.texts()),
     ];
+    let always = ["ours, median", "ours, least", "Rust, median", "Rust, least", "ratio of medians", "ratio of least"];
+    let about_partner = ["before, median", "before, least", "before / ours", "before / ours, least"];
+    let columns = columns(&always, &about_partner, partner);
     for (title, group) in groups {
         println!("{title}:\n");
-        head(&["ours, median", "ours, least", "Rust, median", "Rust, least", "ratio of medians", "ratio of least"]);
-        measured(group, runs).iter().for_each(|(name, measured)| full_lines(name, measured));
+        head(&columns);
+        let measured = measured(group, runs, partner)?;
+        measured.iter().for_each(|(name, measured)| full_lines(name, measured, &columns));
         println!();
     }
+    Ok(())
 }
 
 /// A table for whole processes, if there is a program that runs.
@@ -130,29 +173,35 @@ fn process_table(runs: usize) {
     }
 }
 
-fn tables(library: &dyn Library, options: &Options) {
+fn tables(library: &dyn Library, options: &Options, partner: &mut Option<Partner>) -> Result<(), String> {
     if options.brief {
-        return brief_table(Rows(library), options.runs);
+        return brief_table(Rows(library), options.runs, partner);
     }
-    full_tables(Rows(library), options.runs);
+    full_tables(Rows(library), options.runs, partner)?;
     process_table(options.runs);
+    Ok(())
 }
 
-fn bench(options: &Options) -> ExitCode {
+fn bench(options: &Options) -> Result<(), String> {
+    let mut partner = options.before.as_deref().map(Partner::start).transpose()?;
     if !rust::PRESENT {
         println!("The Rust files are not built (host/oracle/build.sh FOLDER); only the library is measured.\n");
     }
     if options.model {
         println!("The unproved model, {} runs: these are not the library's times.\n", options.runs);
-        tables(&Model::default(), options);
+        tables(&Model::default(), options, &mut partner)
     } else {
-        println!("{} runs of each, ours and the Rust's in turn.\n", options.runs);
-        tables(&Archive, options);
+        let before = if partner.is_some() { ", and the earlier archive's between them" } else { "" };
+        println!("{} runs of each, ours and the Rust's in turn{before}.\n", options.runs);
+        tables(&Archive, options, &mut partner)
     }
-    ExitCode::SUCCESS
 }
 
 fn main() -> ExitCode {
     limit_memory(2000);
-    options().map_or_else(misused, |options| bench(&options))
+    let done = options().and_then(|options| match options.serve {
+        true => partner::serve(Rows(&Archive).all()),
+        false => bench(&options),
+    });
+    done.map_or_else(misused, |()| ExitCode::SUCCESS)
 }

@@ -5,15 +5,17 @@ use std::hint::black_box;
 use flumedrac::{Listing, MAX_FLAGS};
 use flumedrac_trial::{cell_texts, cells, Kind, Library, Test, ALL_ROOM};
 
+use crate::partner::Partner;
 use crate::rust;
 use crate::times::{Summary, Times, Work};
 
-/// Some work: ours, the closed test alone if the work includes it, and the Rust's.
+/// Some work: ours, the closed test alone if the work includes it, the Rust's, and the seconds that the partner said.
 pub struct Row<'a> {
     pub name: String,
     ours: Times<'a>,
     closed: Option<Times<'a>>,
     rust: Option<Times<'a>>,
+    before: Vec<f64>,
 }
 
 /// What was measured of a row.
@@ -21,24 +23,45 @@ pub struct Measured {
     pub ours: Summary,
     pub closed: Option<Summary>,
     pub rust: Option<Summary>,
+    pub before: Option<Summary>,
 }
 
 impl Row<'_> {
-    /// Each side once; who comes first is for the caller to change from run to run.
-    pub fn measure(&mut self, ours_first: bool) {
+    /// Each side once, the partner next to ours; who comes first is for the caller to change from run to run.
+    pub fn measure(&mut self, ours_first: bool, partner: &mut Option<Partner>) -> Result<(), String> {
         if ours_first {
             self.ours.measure();
+            self.ask(partner)?;
         }
         self.rust.iter_mut().for_each(Times::measure);
         self.closed.iter_mut().for_each(Times::measure);
         if !ours_first {
+            self.ask(partner)?;
             self.ours.measure();
         }
+        Ok(())
+    }
+
+    /// The partner once, if there is one and it has this row.
+    fn ask(&mut self, partner: &mut Option<Partner>) -> Result<(), String> {
+        if let Some(partner) = partner {
+            self.before.extend(partner.measure(&self.name)?);
+        }
+        Ok(())
+    }
+
+    /// One measurement of ours, in seconds, that is not kept.
+    pub fn ours_once(&mut self) -> f64 {
+        self.ours.once()
     }
 
     pub fn measured(&self) -> Measured {
-        let (closed, rust) = (self.closed.as_ref(), self.rust.as_ref());
-        Measured { ours: self.ours.summary(), closed: closed.map(Times::summary), rust: rust.map(Times::summary) }
+        Measured {
+            ours: self.ours.summary(),
+            closed: self.closed.as_ref().map(Times::summary),
+            rust: self.rust.as_ref().map(Times::summary),
+            before: (!self.before.is_empty()).then(|| Summary::of(self.before.clone())),
+        }
     }
 }
 
@@ -54,7 +77,7 @@ impl<'a> Rows<'a> {
             let outputs = slices.each_mut().map(Vec::as_mut_slice);
             assert_eq!(self.0.product(kind, p.slices(), q.slices(), outputs).answer.no, 0);
         });
-        Row { name: format!("build {name}"), ours: Times::new(ours), closed: None, rust }
+        Row { name: format!("build {name}"), ours: Times::new(ours), closed: None, rust, before: vec![] }
     }
 
     fn test(self, test: Test, cell: Listing) -> Times<'a> {
@@ -63,7 +86,8 @@ impl<'a> Rows<'a> {
 
     fn valid(self, name: &str, cell: Listing) -> Row<'a> {
         let rust = rust::valid(&cell).map(Times::new);
-        Row { name: format!("is_valid of {name}"), ours: self.test(Test::IsValid, cell), closed: None, rust }
+        let ours = self.test(Test::IsValid, cell);
+        Row { name: format!("is_valid of {name}"), ours, closed: None, rust, before: vec![] }
     }
 
     /// A search by all changes of a cell that is orientable and has so many flags.
@@ -78,7 +102,7 @@ impl<'a> Rows<'a> {
             let searched = self.0.search(cell.slices(), &first, mask, &mut table, &mut orientations);
             assert_eq!((searched.answer.no, usize::from(searched.count), searched.orientable), (0, flags, 1));
         });
-        Row { name: format!("search of {name}, {flags} flags"), ours: Times::new(ours), closed, rust }
+        Row { name: format!("search of {name}, {flags} flags"), ours: Times::new(ours), closed, rust, before: vec![] }
     }
 
     /// The text of a cell read: by the library, and by the plain parser.
@@ -94,7 +118,7 @@ impl<'a> Rows<'a> {
             assert_eq!(self.0.read_text(black_box(&text), outputs).answer.no, 0);
         });
         let rust: Work<'a> = Box::new(move |bin| bin.push(Box::new(rust_read(black_box(&bytes)))));
-        Row { name, ours: Times::new(ours), closed: None, rust: Some(Times::new(rust)) }
+        Row { name, ours: Times::new(ours), closed: None, rust: Some(Times::new(rust)), before: vec![] }
     }
 
     /// The text of a closed cell tested.
@@ -102,7 +126,7 @@ impl<'a> Rows<'a> {
         let text = cell_texts::text(cell.slices());
         let ours: Work<'a> = Box::new(move |_| assert_eq!(self.0.check_text(black_box(&text)), 0));
         let closed = Some(self.test(Test::Closed, cell));
-        Row { name: format!("check_text of {name}"), ours: Times::new(ours), closed, rust: None }
+        Row { name: format!("check_text of {name}"), ours: Times::new(ours), closed, rust: None, before: vec![] }
     }
 
     /// Texts: of a usual cell, and of cells of the same kind that become larger, up to about as long as a text can be.
@@ -162,5 +186,10 @@ impl<'a> Rows<'a> {
         };
         let grown = [3, 6, 13, 26].map(prism).into_iter().chain([255, 511, 1023, 2047].map(ring));
         grown.flat_map(rows).collect()
+    }
+
+    /// The rows of all groups.
+    pub fn all(self) -> Vec<Row<'a>> {
+        [self.usual(), self.largest(), self.growth(), self.texts()].into_iter().flatten().collect()
     }
 }

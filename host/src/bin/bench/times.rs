@@ -52,13 +52,19 @@ impl<'a> Times<'a> {
         Self { work, repeats: (LEAST_SECONDS / once).ceil() as usize, seconds: vec![] }
     }
 
-    pub fn measure(&mut self) {
+    /// One measurement, in seconds, that is not kept.
+    pub fn once(&mut self) -> f64 {
         let mut bin = Bin::with_capacity(self.repeats);
         let start = now();
         for _ in 0..self.repeats {
             (self.work)(&mut bin);
         }
-        self.seconds.push((now() - start) / self.repeats as f64);
+        (now() - start) / self.repeats as f64
+    }
+
+    pub fn measure(&mut self) {
+        let seconds = self.once();
+        self.seconds.push(seconds);
     }
 
     pub fn summary(&self) -> Summary {

@@ -1,8 +1,8 @@
--- Where no count is 1, none of the indices was met once.
+-- Where as many were met twice as were met, none was met once.
 -- Assumes nothing.
 use mathlib.Core.Path.{sym, _∙_}
 use borrow.Author.Needs.{needs}
-use Rattle.valid_diamond.proofs.Ones.{lone-none}
+use Rattle.valid_diamond.proofs.Totals.{lone-none}
 use Rattle.valid_diamond.proofs.dyadic.check_lone.Statement.{statement}
 use Rattle.valid_diamond.proofs.dyadic.check_lone.Tie as tie
 
@@ -10,7 +10,9 @@ plain-requires : tie.Need-plain-requires
 plain-requires c κs = search needs
 
 returns : tie.Need-returns
-returns c = c .plain .ensures ∙ sym (lone-none _ _ _ (rw (c .before .if1 .taken) at (c .before .before .pre .1 .1)))
+returns c =
+    let s = c .before .before .before in
+    c .plain .ensures ∙ sym (lone-none _ _ _ (s .pre .1 .1) _ (s .args .n) (c .before .if1 .taken))
 
 check-once-requires : tie.Need-check-once-requires
 check-once-requires c κs = search needs

@@ -1,33 +1,47 @@
--- Invariant: r is at least 2, the rank below r begins at place b, and the answer to the whole is the answer from rank r
--- on. Measure: the ranks left.
+-- Invariant: r is at least 2, the rank below r begins at place b, the answer to the whole is the answer from rank r on,
+-- and the tally is that of nothing. Measure: the ranks left.
 -- Assumes nothing.
-use mathlib.Core.Path.{_≡_, refl}
+use mathlib.Core.Path.{_≡_, refl, sym, _∙_}
+use mathlib.Core.List.{[]}
 use Prim.Native.Nat.{_+_, _-_, _≤_}
 use native.Mathlib.Omega.{arith}
 use borrow.Author.Needs.{needs}
 use lib.ListN.{getD}
 use Rattle.listing.specs.Answers.{firstOf}
-use Rattle.listing.specs.Listing.{listing, before}
+use Rattle.listing.specs.Listing.{listing, limits, before}
 use Rattle.listing.proofs.Answers.{of-return, of-turn, of-done}
 use Rattle.listing.proofs.Listing.{before-zero, before-next, before-step}
 use Rattle.listing.proofs.Places.{few-before}
 use Rattle.valid_diamond.specs.Dyadic.{sectionsTest, dyadicTest}
+use Rattle.valid_diamond.specs.Tally.{Tally}
+use Rattle.valid_diamond.proofs.Walks.{tally-zero, dyadic-low}
 use Rattle.valid_diamond.proofs.dyadic.check_up_to.Statement.{statement}
 use Rattle.valid_diamond.proofs.dyadic.check_up_to.Tie as tie
 
 abbrev Inv-loop : tie.InvT-loop
-Inv-loop counts ends inc high b₀ r₀ b r =
+Inv-loop counts ends inc high tally₀ b₀ r₀ tally b r =
     (2 ≤ r)
     × (b ≡ before counts (r - 1))
     × (dyadicTest (listing counts ends inc) high
     ≡ firstOf (λ q. firstOf (sectionsTest (listing counts ends inc) q) 0 (getD counts q 0)) r (high + 1))
+    × Tally (limits .elements) tally []
 
 abbrev μ-loop : tie.MeasureT-loop
-μ-loop counts ends inc high b₀ r₀ b r = high + 1 - r
+μ-loop counts ends inc high tally₀ b₀ r₀ tally b r = high + 1 - r
 
 -- where the function began, seen from the loop
 abbrev begun : tie.At-loop Inv-loop μ-loop → tie.Start Inv-loop μ-loop
-begun l = l .before .before .before .before .before .before
+begun l = l .before .before .before .before .before .before .before
+
+-- the loop, seen from where a rank has passed
+abbrev passed : tie.Else2 Inv-loop μ-loop → tie.At-loop Inv-loop μ-loop
+passed c = c .before .before .before .before .before
+
+plain-requires : tie.Need-plain-requires Inv-loop μ-loop
+plain-requires c κs = search needs
+
+returns : tie.Need-returns Inv-loop μ-loop
+returns c = c .plain .ensures ∙ sym (dyadic-low _ _ (c .before .if1 .taken))
 
 shared-slice-read-wide : tie.Need-shared-slice-read-wide Inv-loop μ-loop
 shared-slice-read-wide c = search needs
@@ -38,19 +52,21 @@ wide-requires c κs = search needs
 loop-holds : tie.Need-loop-holds Inv-loop μ-loop
 unfolding dyadicTest
 loop-holds c =
-    let l = c .before .before .before .before .before .args .counts .now in
-    (omega arith, omega (arith, before-next l 0, before-zero l), refl)
+    let l = c .before .before .before .before .before .before .args .counts .now in
+    (omega arith, omega (arith, before-next l 0, before-zero l), refl, tally-zero (limits .elements))
 
 check-rank-requires : tie.Need-check-rank-requires Inv-loop μ-loop
 check-rank-requires c κs =
-    let s = begun (c .before) in
-    let v = c .before .loop .inv in
-    (s .pre .0, (s .pre .1 .0, (v .1, v .0, omega arith)))
+    let o = c .before .before in
+    let s = begun o in
+    let v = o .loop .inv in
+    (s .pre .0, (s .pre .1 .0, ((v .1, v .0, omega (arith, s .pre .1 .1)), v .3)))
 
-returns : tie.Need-returns Inv-loop μ-loop
-returns c =
+returns-2 : tie.Need-returns-2 Inv-loop μ-loop
+returns-2 c =
     let d = c .before .before in
-    of-return _ _ _ _ _ (d .before .before .loop .inv .2) (d .check-rank .ensures) (omega arith) (c .if1 .taken)
+    let v = d .before .before .before .loop .inv in
+    of-return _ _ _ _ _ (v .2) (d .check-rank .ensures .0) (omega arith) (c .if2 .taken)
 
 sub-wide : tie.Need-sub-wide Inv-loop μ-loop
 sub-wide c = search needs
@@ -66,7 +82,7 @@ wide-requires-2 c κs = search needs
 
 add-b : tie.Need-add-b Inv-loop μ-loop
 add-b c =
-    let o = c .before .before .before .before .before .before in
+    let o = passed (c .before .before) in
     let s = begun o in
     let l = s .args .counts .now in
     let r = o .loop .r in
@@ -81,19 +97,20 @@ loop-less c = search needs
 
 loop-again : tie.Need-loop-again Inv-loop μ-loop
 loop-again c =
+    let z = c .before .before .if2 .left in
     let d = c .before .before .before .before in
-    let o = d .before .before in
+    let o = passed (c .before .before) in
     let l = begun o .args .counts .now in
     let r = o .loop .r in
     let e : r + 1 - 1 ≡ r = omega arith in
-    let t = of-turn _ _ _ _ _ (o .loop .inv .2) (d .check-rank .ensures) in
-    (omega arith, rw e (omega (arith, before-step l r (omega arith))), t (omega arith) (c .before .before .if1 .left))
+    let t = of-turn _ _ _ _ _ (o .loop .inv .2) (d .check-rank .ensures .0) in
+    (omega arith, rw e (omega (arith, before-step l r (omega arith))), t (omega arith) z, d .check-rank .ensures .1 z)
 
-plain-requires : tie.Need-plain-requires Inv-loop μ-loop
-plain-requires c κs = search needs
+plain-requires-2 : tie.Need-plain-requires-2 Inv-loop μ-loop
+plain-requires-2 c κs = search needs
 
-returns-2 : tie.Need-returns-2 Inv-loop μ-loop
-returns-2 c = of-done _ _ _ _ _ (c .before .before .loop .inv .2) (c .plain .ensures) (omega arith)
+returns-3 : tie.Need-returns-3 Inv-loop μ-loop
+returns-3 c = of-done _ _ _ _ _ (c .before .before .loop .inv .2) (c .plain2 .ensures) (omega arith)
 
 pub check-up-to-spec : {M : Type 1} → statement M
 check-up-to-spec =
@@ -101,11 +118,13 @@ check-up-to-spec =
     (tie.spec
     Inv-loop
     μ-loop
+    plain-requires
+    returns
     shared-slice-read-wide
     wide-requires
     loop-holds
     check-rank-requires
-    returns
+    returns-2
     sub-wide
     mul-wide
     shared-slice-read-wide-2
@@ -114,5 +133,5 @@ check-up-to-spec =
     add-r
     loop-less
     loop-again
-    plain-requires
-    returns-2)
+    plain-requires-2
+    returns-3)

@@ -1,40 +1,46 @@
--- Invariant: `once` counts of the tally are 1; and whatever the tally counted before, the subs of the first j have been
--- walked without refusal and are counted on top of it. Measure: what is left of the list.
+-- Invariant: the totals are those of the tally, and the subs of the first j have been walked without refusal: the tally
+-- counts them and nothing else. Measure: what is left of the list.
 -- Assumes nothing.
-use mathlib.Core.List.{List}
+use mathlib.Core.List.{List, []}
 use Prim.Native.Nat.{ℕ, _-_}
+use native.Mathlib.Omega.{arith}
 use borrow.Author.Needs.{needs}
 use lib.ListN.{length, getD, take}
 use Rattle.listing.specs.Listing.{limits}
+use Rattle.order.specs.Lists.{In}
 use Rattle.order.proofs.Positions.{in-at}
 use Rattle.valid_diamond.specs.Dyadic.{subsOfAll, seenAfter, third}
-use Rattle.valid_diamond.specs.Tally.{LoneCount, Tally, Tallied}
+use Rattle.valid_diamond.specs.Tally.{TotalsIn, Tallied}
+use Rattle.valid_diamond.proofs.Totals.{totals-none}
 use Rattle.valid_diamond.proofs.Walks.{subsOf, Walked, walked-none, walk-more, walk-stop, walk-all}
 use Rattle.valid_diamond.proofs.Walks.{tallied-walked}
 use Rattle.valid_diamond.proofs.dyadic.tally_all.Statement.{statement}
 use Rattle.valid_diamond.proofs.dyadic.tally_all.Tie as tie
 
 abbrev Inv-loop : tie.InvT-loop
-Inv-loop tally₀ ends inc b subs of once₀ j₀ tally once j =
-    LoneCount (limits .elements) tally once
-    × ((seen : List ℕ) → Tally (limits .elements) tally₀ seen
-    → Walked (limits .elements) (third (of .rank) (of .index)) tally seen (subsOfAll ends inc b (take j subs)))
+Inv-loop tally₀ ends inc b subs of totals₀ j₀ tally totals j =
+    TotalsIn (limits .elements) tally (totals .met) (totals .twice)
+    × Walked (limits .elements) (third (of .rank) (of .index)) tally [] (subsOfAll ends inc b (take j subs))
 
 abbrev μ-loop : tie.MeasureT-loop
-μ-loop tally₀ ends inc b subs of once₀ j₀ tally once j = length subs - j
+μ-loop tally₀ ends inc b subs of totals₀ j₀ tally totals j = length subs - j
 
 abbrev Here : Type 0
 Here = tie.After-tally-list Inv-loop μ-loop
 
--- where the function began, seen from the list at hand
-abbrev begun : tie.After-side-of Inv-loop μ-loop → tie.Start Inv-loop μ-loop
-begun d = d .before .before .before .before .before .before .before .before
+-- the turn of the loop, seen from the list at hand
+abbrev turn : Here → tie.In-loop Inv-loop μ-loop
+turn c = c .before .before .before .before
+
+-- where the function began, seen from the turn and from the list
+abbrev begun : tie.In-loop Inv-loop μ-loop → tie.Start Inv-loop μ-loop
+begun d = d .before .before .before .before .before
 
 abbrev start : Here → tie.Start Inv-loop μ-loop
-start c = begun (c .before)
+start c = begun (turn c)
 
 abbrev at : Here → ℕ
-at c = c .before .before .before .before .before .loop .j
+at c = turn c .before .loop .j
 
 -- the walk before the list at hand, and that list
 abbrev done : Here → List ℕ
@@ -48,16 +54,22 @@ list c =
     subsOf (s .ends .now) (s .inc .now) (s .b) (getD (s .subs .now) (at c) 0)
 
 -- what was tallied for the list at hand
-one : (c : Here) (seen : List ℕ) → Tally (limits .elements) (start c .args .tally .now) seen
+one : (c : Here)
     → Tallied (limits .elements) (c .tally-list .last .0) (third (start c .args .of .rank) (start c .args .of .index))
-    (seenAfter seen (done c)) (list c) (c .tally-list .result .answer)
-one c seen T =
-    let w = c .before .before .before .before .before .loop .inv .1 seen T in
+    (seenAfter [] (done c)) (list c) (c .tally-list .result .answer)
+one c =
+    let w = c .before .before .before .before .before .loop .inv .1 in
     rw (c .before .side-of .ensures) at (c .tally-list .ensures .0 _ (w .tally))
+
+-- the element whose list is at hand is one of the subs
+among : (d : tie.In-loop Inv-loop μ-loop) → let l = begun d .args .subs .now in In (getD l (d .before .loop .j) 0) l
+among d = in-at (begun d .args .subs .now) (d .before .loop .j) (d .loop-test .taken)
 
 loop-holds : tie.Need-loop-holds Inv-loop μ-loop
 unfolding subsOfAll
-loop-holds c = (c .before .before .before .pre .1 .1 .1, λ seen T. walked-none _ seen T)
+loop-holds c =
+    let T = c .before .before .before .pre .1 .1 .1 in
+    (totals-none _ T, walked-none _ [] T)
 
 mul-side-of : tie.Need-mul-side-of Inv-loop μ-loop
 mul-side-of c = search needs
@@ -67,46 +79,45 @@ shared-slice-read-side-of c = search needs
 
 side-of-requires : tie.Need-side-of-requires Inv-loop μ-loop
 side-of-requires c κs =
-    let s = c .before .before .before .before .before .before .before in
-    let m = in-at (s .args .subs .now) (c .before .before .before .loop .j) (c .before .before .loop-test .taken) in
-    (s .pre .0, s .pre .1 .0 .there _ m)
+    let d = c .before .before in
+    let s = begun d in
+    (s .pre .0, s .pre .1 .0 .there _ (among d))
 
 tally-list-requires : tie.Need-tally-list-requires Inv-loop μ-loop
 tally-list-requires c κs =
     let d = c .before .before .before in
-    let s = d .before .before .before .before .before in
-    let m = in-at (s .args .subs .now) (d .before .loop .j) (d .loop-test .taken) in
+    let s = begun d in
     let C = d .before .loop .inv .0 in
-    (λ x k. s .pre .1 .0 .inside _ x m (rw (c .side-of .ensures) at k), (s .pre .1 .1 .0, C))
+    (λ x k. s .pre .1 .0 .inside _ x (among d) (rw (c .side-of .ensures) at k), (s .pre .1 .1 .0, C))
 
 returns : tie.Need-returns Inv-loop μ-loop
 returns c =
     let o = c .before .before in
-    let d = o .before .before .before .before in
-    let s = d .before .before .before .before .before .args in
+    let d = turn o in
+    let s = begun d .args in
     let w = d .before .loop .inv .1 in (
-      λ seen T.
-          walk-stop (s .ends .now) (s .inc .now) (s .b) _ seen (s .subs .now) _ (w seen T) (d .loop-test .taken)
-          (one o seen T .answer) (c .if1 .taken),
+      walk-stop (s .ends .now) (s .inc .now) (s .b) _ [] (s .subs .now) _ w (d .loop-test .taken) (one o .answer)
+          (c .if1 .taken),
       o .tally-list .ensures .1,
     )
 
 add-j : tie.Need-add-j Inv-loop μ-loop
-add-j c = search needs
+add-j c =
+    let d = turn (c .before .before .before) in
+    omega (arith, d .loop-test .taken, begun d .good)
 
 loop-less : tie.Need-loop-less Inv-loop μ-loop
 loop-less c = search needs
 
 loop-again : tie.Need-loop-again Inv-loop μ-loop
 loop-again c =
-    let o = c .before .before in
-    let d = o .before .before .before .before in
-    let s = d .before .before .before .before .before .args in
+    let o = c .before .before .before in
+    let d = turn o in
+    let s = begun d .args in
     let w = d .before .loop .inv .1 in (
       o .tally-list .ensures .1,
-      λ seen T.
-          walk-more (s .ends .now) (s .inc .now) (s .b) _ seen (s .subs .now) _ (w seen T) (d .loop-test .taken)
-          (tallied-walked (one o seen T) (c .if1 .left)),
+      walk-more (s .ends .now) (s .inc .now) (s .b) _ [] (s .subs .now) _ w (d .loop-test .taken)
+          (tallied-walked (one o) (c .before .if1 .left)),
     )
 
 plain-requires : tie.Need-plain-requires Inv-loop μ-loop
@@ -116,9 +127,8 @@ returns-2 : tie.Need-returns-2 Inv-loop μ-loop
 returns-2 c =
     let s = c .before .before .before .before .before .before .args in
     let v = c .before .before .loop .inv in (
-      λ seen T.
-          walk-all (s .ends .now) (s .inc .now) (s .b) _ seen (s .subs .now) _ (v .1 seen T)
-          (c .before .loop-test .left) (c .plain .ensures),
+      walk-all (s .ends .now) (s .inc .now) (s .b) _ [] (s .subs .now) _ (v .1) (c .before .loop-test .left)
+          (c .plain .ensures),
       v .0,
     )
 

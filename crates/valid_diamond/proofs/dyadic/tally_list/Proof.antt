@@ -1,5 +1,5 @@
--- Invariant: n counts of the tally are 1; and whatever the tally counted before, the first j indices have been walked
--- without refusal and are counted on top of it. Measure: what is left of the list.
+-- Invariant: the totals so far are those of the tally; and whatever the tally counted before, the first j
+-- indices have been walked without refusal and are counted on top of it. Measure: what is left of the list.
 -- Assumes nothing.
 use mathlib.Core.List.{List}
 use Prim.Native.Nat.{ℕ, _-_, _≤_, _<_}
@@ -9,20 +9,20 @@ use lib.ListN.{length, getD, take}
 use Rattle.listing.specs.Listing.{limits}
 use Rattle.order.proofs.Positions.{in-at}
 use Rattle.valid_diamond.specs.Dyadic.{third}
-use Rattle.valid_diamond.specs.Tally.{LoneCount, Tally}
-use Rattle.valid_diamond.proofs.Ones.{lone-le, lone-at, lone-more}
+use Rattle.valid_diamond.specs.Tally.{TotalsIn, Tally}
+use Rattle.valid_diamond.proofs.Totals.{totals-few, totals-more}
 use Rattle.valid_diamond.proofs.Walks.{Walked, walked-none, list-more, list-stop, list-all}
 use Rattle.valid_diamond.proofs.dyadic.tally_list.Statement.{statement}
 use Rattle.valid_diamond.proofs.dyadic.tally_list.Tie as tie
 
 abbrev Inv-loop : tie.InvT-loop
-Inv-loop tally₀ subs once of n₀ j₀ tally n j =
-    LoneCount (limits .elements) tally n
+Inv-loop tally₀ subs of so-far₀ j₀ tally so-far j =
+    TotalsIn (limits .elements) tally (so-far .met) (so-far .twice)
     × ((seen : List ℕ) → Tally (limits .elements) tally₀ seen
     → Walked (limits .elements) (third (of .rank) (of .index)) tally seen (take j subs))
 
 abbrev μ-loop : tie.MeasureT-loop
-μ-loop tally₀ subs once of n₀ j₀ tally n j = length subs - j
+μ-loop tally₀ subs of so-far₀ j₀ tally so-far j = length subs - j
 
 -- the index has a place in the tally
 inside : (c : tie.After-wide Inv-loop μ-loop) → c .wide .result < limits .elements
@@ -67,15 +67,14 @@ returns c =
       v .0,
     )
 
-element-copy-out-once-after : tie.Need-element-copy-out-once-after Inv-loop μ-loop
-element-copy-out-once-after c = inside (c .before .before)
+element-copy-out-totals-after : tie.Need-element-copy-out-totals-after Inv-loop μ-loop
+element-copy-out-totals-after c = inside (c .before .before)
 
-once-after-requires : tie.Need-once-after-requires Inv-loop μ-loop
-once-after-requires c κs =
-    let d = c .before .before .before in
-    let l = d .before .before .before .loop in
-    let C = l .inv .0 in
-    (few (c .before), lone-at _ _ C _ (inside d) (few (c .before)), omega (arith, lone-le (l .tally) (l .n) C))
+totals-after-requires : tie.Need-totals-after-requires Inv-loop μ-loop
+totals-after-requires c κs =
+    let l = c .before .before .before .before .before .before .loop in
+    let f = totals-few (l .tally) (l .so-far .met) (l .so-far .twice) (l .inv .0) in
+    (few (c .before), omega (arith, f), omega (arith, f))
 
 element-copy-out-tally : tie.Need-element-copy-out-tally Inv-loop μ-loop
 element-copy-out-tally c = inside (c .before .before .before .before)
@@ -98,8 +97,9 @@ loop-again c =
     let f = few (o .before .before) in
     let d = o .before .before .before .before in
     let v = d .before .before .before .loop .inv in
-    let x = d .wide .ensures .0 in (
-      lone-more _ _ (v .0) _ (inside d) f _ (o .once-after .ensures),
+    let x = d .wide .ensures .0 in
+    let e = o .totals-after .ensures in (
+      totals-more _ _ _ (v .0) _ (inside d) f _ _ (e .0) (e .1),
       λ seen T. list-more _ seen _ _ (v .1 seen T) (d .before .before .loop-test .taken) _ x (inside d) f,
     )
 
@@ -124,8 +124,8 @@ tally-list-spec =
     element-copy-out-if1
     sub-low
     returns
-    element-copy-out-once-after
-    once-after-requires
+    element-copy-out-totals-after
+    totals-after-requires
     element-copy-out-tally
     add-tally
     element-write-tally
