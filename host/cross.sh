@@ -57,7 +57,7 @@ test) cargo test --release "$@" ;;
 examples)
     cargo run --release --example prism
     printf 'rank=1\ncount=1\nsubs=\ncount=1\nsubs=0\n' | cargo run --release --example check
-    for example in cell text; do
+    for example in cell text body; do
         "$CC" -std=c99 -Wall -Wextra -pedantic -Werror -I../include flumedrac/examples/$example.c \
             "${FLUMEDRAC_LIB:-../target/staticlib}/libflumedrac.a" -o target/$target/$example
         $FLUMEDRAC_RUN target/$target/$example

@@ -37,15 +37,15 @@
  * tested here.
  *
  * WRITING: on success the prefix of each slice that the returned lengths name is written and nothing else. A refusal
- * writes nothing at all, with one exception, FD_MORE_FLAGS: see fd_search.
+ * writes nothing at all, with two exceptions, FD_MORE_FLAGS and FD_SEVERAL_PARTS: see fd_search and fd_one_body.
  *
  * What follows is no part of what is proved; it is so by the language and by the code as it stands. The language has
  * no heap and no global state: no function allocates, keeps a pointer or touches anything but its slices, and all may
  * run in several threads at once, as long as no slice that one writes is lent to another. On the stack fd_search takes
- * about 70 KB, of which 64 KB are two arrays, its index of the flags; a product about 25 KB, of which 24 KB are three
- * arrays; fd_is_dyadic, fd_is_valid, fd_closed and fd_change about 4 KB, the tally of the diamond; fd_read_text about
- * 88 KB, what it notes of the text, and fd_check_text about 170 KB, the listing that it reads besides; the others next to
- * nothing.
+ * about 70 KB, of which 64 KB are two arrays, its index of the flags; fd_one_body takes 8 KB more, to count flags; a
+ * product about 25 KB, of which 24 KB are three arrays; fd_is_dyadic, fd_is_valid, fd_closed and fd_change about 4 KB,
+ * the tally of the diamond; fd_read_text about 88 KB, what it notes of the text, and fd_check_text about 170 KB, the
+ * listing that it reads besides; the others next to nothing.
  */
 #ifndef FLUMEDRAC_H
 #define FLUMEDRAC_H
@@ -103,7 +103,8 @@ enum {
     /* Flags. */
     FD_NOT_A_FLAG = 20,    /* the numbers given are no flag of the listing: see fd_change */
     FD_OUTSIDE_RANKS = 21, /* a change or a bit of the mask outside 1 to rank - 1 */
-    FD_MORE_FLAGS = 22,    /* more flags can be reached than there is room for */
+    FD_MORE_FLAGS = 22,    /* more flags than there is room for: see fd_search and fd_one_body */
+    FD_SEVERAL_PARTS = 25, /* the flags are in several parts: see fd_one_body */
 
     /* Products. */
     FD_LEFT_INVALID = 30,       /* fd_is_valid refuses the left factor */
@@ -241,6 +242,21 @@ fd_changed fd_change(FD_LISTING(), const uint16_t *flag, size_t flag_len, uint16
 fd_searched fd_search(FD_LISTING(), const uint16_t *first, size_t first_len, uint16_t mask, uint16_t *table,
                       size_t table_len, uint8_t *orientations, size_t orientations_len);
 
+/*
+ * Whether a closed cell is one body: whether single changes lead from any of its flags to every other. Two separate
+ * triangles under one top are closed, and are two bodies.
+ *
+ * What fd_closed accepts is searched by every change, bits 1 to rank - 1 of the mask, from the flag of first sups:
+ * index 0 at rank 0, and at each rank above the first sup of the element below. Room, and what stands in table and
+ * orientations afterwards, are those of fd_search; so are count, place and orientable, if nothing is refused.
+ *
+ * Refusals: those of fd_closed, which write nothing; then FD_MORE_FLAGS exactly if the listing has more flags in all,
+ * reached or not, than there is room for; then FD_SEVERAL_PARTS. After these two the slices hold what the search left,
+ * as they do on success: flags of one part, as far as there was room.
+ */
+fd_searched fd_one_body(FD_LISTING(), uint16_t *table, size_t table_len, uint8_t *orientations,
+                        size_t orientations_len);
+
 /* The sign of an orientation byte: 1.0 for FD_EVEN, -1.0 for any other byte. */
 double fd_sign(uint8_t orientation);
 
@@ -341,7 +357,8 @@ FD_INLINE const char *fd_refusal_text(uint16_t no)
     case FD_NOT_ASCENDING: return "the subs or the sups of an element do not strictly ascend";
     case FD_NOT_A_FLAG: return "the numbers given are not a flag of the listing";
     case FD_OUTSIDE_RANKS: return "a change lies outside the ranks 1 to one less than the rank";
-    case FD_MORE_FLAGS: return "more flags can be reached than there is room for";
+    case FD_MORE_FLAGS: return "there are more flags than there is room for";
+    case FD_SEVERAL_PARTS: return "the flags are in several parts: the cell is not one body";
     case FD_LEFT_INVALID: return "the left factor is not valid";
     case FD_RIGHT_INVALID: return "the right factor is not valid";
     case FD_COMB_OF_POINT: return "there is no duocomb with a point";
@@ -444,6 +461,13 @@ FD_INLINE fd_searched fd_search_guarded(FD_LISTING(), const uint16_t *first, siz
                      orientations_len);
 }
 
+FD_INLINE fd_searched fd_one_body_guarded(FD_LISTING(), uint16_t *table, size_t table_len, uint8_t *orientations,
+                                          size_t orientations_len)
+{
+    return fd_one_body(FD_LENT_LISTING(), fd_lent_room(table, table_len), table_len,
+                       fd_lent_bytes(orientations, orientations_len), orientations_len);
+}
+
 FD_INLINE fd_built fd_read_text_guarded(const uint8_t *text, size_t text_len, FD_OUTPUT)
 {
     return fd_read_text(fd_lent_text(text, text_len), text_len, FD_LENT_OUTPUT);
@@ -465,6 +489,7 @@ FD_INLINE uint16_t fd_check_text_guarded(const uint8_t *text, size_t text_len)
 #define fd_closed(...) fd_closed_guarded(__VA_ARGS__)
 #define fd_change(...) fd_change_guarded(__VA_ARGS__)
 #define fd_search(...) fd_search_guarded(__VA_ARGS__)
+#define fd_one_body(...) fd_one_body_guarded(__VA_ARGS__)
 #define fd_duopyramid(...) fd_duopyramid_guarded(__VA_ARGS__)
 #define fd_duoprism(...) fd_duoprism_guarded(__VA_ARGS__)
 #define fd_duotegum(...) fd_duotegum_guarded(__VA_ARGS__)

@@ -2,11 +2,16 @@
 
 use flumedrac::Listing;
 
-use crate::{build, Kind, Library, Model, Raw};
+use crate::{build, Kind, Library, Model, Random, Raw};
 
 /// The listing with these subs: for each rank, for each element.
 pub fn listing(subs: Vec<Vec<Vec<u16>>>) -> Listing {
     Listing::from_subs(&subs).expect("a cell within the limits")
+}
+
+/// The subs of each element of a rank.
+fn elements(cell: &Listing, r: usize) -> Vec<Vec<u16>> {
+    (0..cell.el_count(r)).map(|i| cell.subs(r, i).collect()).collect()
 }
 
 pub fn polygon(n: u16) -> Listing {
@@ -54,14 +59,14 @@ pub fn hemicube() -> Listing {
 /// A cube with two opposite faces merged into one.
 pub fn merged_cube() -> Listing {
     let cube = cuboid(3);
-    let faces: Vec<Vec<u16>> = (0..6).map(|i| cube.subs(3, i).collect()).collect();
+    let faces = elements(&cube, 3);
     let opposite = (1..6).find(|&i| faces[i].iter().all(|edge| !shares_vertex(&cube, &faces[0], *edge)));
     let opposite = opposite.expect("a cube has opposite faces");
     let mut merged = faces.clone();
     let other = merged.remove(opposite);
     merged[0].extend(other);
     merged[0].sort_unstable();
-    let kept = |r: usize| (0..cube.el_count(r)).map(|i| cube.subs(r, i).collect()).collect();
+    let kept = |r: usize| elements(&cube, r);
     listing(vec![kept(0), kept(1), kept(2), merged, vec![(0..5).collect()]])
 }
 
@@ -96,6 +101,61 @@ pub fn grid(n: u16, m: u16, klein: bool) -> Listing {
         places().map(square).collect(),
         vec![(0..n * m).collect()],
     ])
+}
+
+/// Polygons one upon another: each vertex of one lies over all edges of the one before. There are as many flags as the
+/// polygons' numbers multiplied, and each polygon has two for each side.
+pub fn stacked(sides: &[u16]) -> Listing {
+    let mut subs = vec![vec![vec![]]];
+    for &n in sides {
+        let all: Vec<u16> = (0..subs[subs.len() - 1].len() as u16).collect();
+        let edges = polygon(n);
+        subs.push(vec![all; n.into()]);
+        subs.push((0..n.into()).map(|i| edges.subs(2, i).collect()).collect());
+    }
+    subs.push(vec![(0..subs[subs.len() - 1].len() as u16).collect()]);
+    listing(subs)
+}
+
+/// Two cells of the same rank under one top, as one listing: the second one's elements come after the first one's. They
+/// share the ends and, if asked, vertex 0 of both.
+pub fn side_by_side(p: &Listing, q: &Listing, share_vertex: bool) -> Listing {
+    let rank = p.rank();
+    assert!(rank > 1 && rank == q.rank(), "cells of the same rank that have vertices");
+    // How many elements of a rank are shared: the first ones of both cells.
+    let shared = |r: usize| if r == 0 { 1 } else { usize::from(r == 1 && share_vertex) };
+    // The number that an element of the second cell has in both together.
+    let number = |r: usize, i: u16| match usize::from(i) {
+        i if i < shared(r) => i as u16,
+        i => (p.el_count(r) + i - shared(r)) as u16,
+    };
+    let mut subs = vec![elements(p, 0)];
+    for r in 1..rank {
+        let moved = |list: Vec<u16>| list.into_iter().map(|sub| number(r - 1, sub)).collect();
+        let second = elements(q, r).into_iter().skip(shared(r)).map(moved).collect();
+        subs.push([elements(p, r), second].concat());
+    }
+    subs.push(vec![(0..subs[rank - 1].len() as u16).collect()]);
+    listing(subs)
+}
+
+/// A cell with its elements in another order in each rank, by lot.
+pub fn reordered(cell: &Listing, random: &mut Random) -> Listing {
+    let mut place: Vec<u16> = vec![0];
+    let mut subs = vec![];
+    for r in 0..=cell.rank() {
+        let mut order: Vec<usize> = (0..cell.el_count(r)).collect();
+        (1..order.len()).for_each(|i| order.swap(i, random.below(i + 1)));
+        let moved = |i: &usize| {
+            let mut list: Vec<u16> = cell.subs(r, *i).map(|sub| place[usize::from(sub)]).collect();
+            list.sort_unstable();
+            list
+        };
+        subs.push(order.iter().map(moved).collect());
+        place = vec![0; order.len()];
+        (0..).zip(&order).for_each(|(new, &old)| place[old] = new);
+    }
+    listing(subs)
 }
 
 /// A product as the model builds it.

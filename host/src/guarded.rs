@@ -87,6 +87,24 @@ impl Guarded {
         [0, 1, 2].map(|i| self.lend(AREAS - 3 + i, place, outputs[i]))
     }
 
+    /// What a search answers at either place, with its table and its orientations in areas behind those of a listing
+    /// and a flag; they get what stands in the copies afterwards.
+    fn searched(
+        &self,
+        table: &mut [u16],
+        orientations: &mut [u8],
+        search: impl Fn(Place, &mut [u16], &mut [u8]) -> Searched,
+    ) -> Searched {
+        let (searched, new_table, new_orientations) = both(|at| {
+            let (table, orientations) = (self.lend(4, at, table), self.lend(5, at, orientations));
+            let searched = search(at, table, orientations);
+            (searched, table.to_vec(), orientations.to_vec())
+        });
+        table.copy_from_slice(&new_table);
+        orientations.copy_from_slice(&new_orientations);
+        searched
+    }
+
     /// A listing, in three areas from the first one named.
     fn listing(&self, first: usize, place: Place, l: Slices<'_>) -> Slices<'_> {
         Slices {
@@ -154,16 +172,21 @@ impl Library for Guarded {
     }
 
     fn search(&self, l: Slices<'_>, first: &[u16], mask: u16, table: &mut [u16], orientations: &mut [u8]) -> Searched {
-        let (searched, new_table, new_orientations) = both(|at| {
+        self.searched(table, orientations, |at, table, orientations| {
             let lent = (self.listing(0, at, l), self.read(3, at, first));
-            let (table, orientations) = (self.lend(4, at, table), self.lend(5, at, orientations));
             let searched = Archive.search(lent.0, lent.1, mask, table, orientations);
             unchanged(lent, (l, first));
-            (searched, table.to_vec(), orientations.to_vec())
-        });
-        table.copy_from_slice(&new_table);
-        orientations.copy_from_slice(&new_orientations);
-        searched
+            searched
+        })
+    }
+
+    fn one_body(&self, l: Slices<'_>, table: &mut [u16], orientations: &mut [u8]) -> Searched {
+        self.searched(table, orientations, |at, table, orientations| {
+            let lent = self.listing(0, at, l);
+            let searched = Archive.one_body(lent, table, orientations);
+            unchanged(lent, l);
+            searched
+        })
     }
 
     fn sign(&self, orientation: u8) -> f64 {

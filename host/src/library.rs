@@ -74,6 +74,7 @@ pub trait Library {
     fn test(&self, test: Test, l: Slices<'_>) -> Answer;
     fn change(&self, l: Slices<'_>, flag: &[u16], r: u16) -> Changed;
     fn search(&self, l: Slices<'_>, first: &[u16], mask: u16, table: &mut [u16], orientations: &mut [u8]) -> Searched;
+    fn one_body(&self, l: Slices<'_>, table: &mut [u16], orientations: &mut [u8]) -> Searched;
     fn sign(&self, orientation: u8) -> f64;
     fn next_event(&self, cursor: &mut Cursor, count: u16, place: u16) -> Event;
     fn product(&self, kind: Kind, p: Slices<'_>, q: Slices<'_>, outputs: Outputs<'_>) -> Built;
@@ -140,6 +141,10 @@ impl Library for Archive {
 
     fn search(&self, l: Slices<'_>, first: &[u16], mask: u16, table: &mut [u16], orientations: &mut [u8]) -> Searched {
         raw::search(l, first, mask, table, orientations)
+    }
+
+    fn one_body(&self, l: Slices<'_>, table: &mut [u16], orientations: &mut [u8]) -> Searched {
+        raw::one_body(l, table, orientations)
     }
 
     fn sign(&self, orientation: u8) -> f64 {

@@ -1,6 +1,6 @@
 //! One question to a library, and its reply.
 
-use flumedrac::ffi::{Answer, Built, Cursor, Number};
+use flumedrac::ffi::{Answer, Built, Cursor, Number, Searched};
 use flumedrac::{MAX_FLAGS, MAX_RANKS};
 
 use crate::library::{Kind, Library, Outputs, Test};
@@ -29,6 +29,12 @@ pub enum Question<L> {
         cell: L,
         first: Vec<u16>,
         mask: u16,
+        table: usize,
+        orientations: usize,
+    },
+    /// Whether a cell is one body, with the lengths of the table and of the orientations.
+    OneBody {
+        cell: L,
         table: usize,
         orientations: usize,
     },
@@ -115,6 +121,17 @@ impl Reply {
         Self::of(vec![number.no.into(), number.value as i64])
     }
 
+    /// What a search found, and the slices of these lengths that it was lent: the table and the orientations.
+    fn searched(table: usize, orientations: usize, search: impl FnOnce(&mut [u16], &mut [u8]) -> Searched) -> Self {
+        let (mut table, mut orientations) = (words(table), bytes(orientations));
+        let searched = search(table.slice(), orientations.slice());
+        let mut numbers = answer_numbers(searched.answer);
+        numbers.extend([searched.count, searched.place, searched.orientable.into()].map(i64::from));
+        let spilled = table.spilled() || orientations.spilled();
+        let wide = orientations.slice().iter().map(|&byte| byte.into()).collect();
+        Reply { numbers, slices: vec![table.slice().to_vec(), wide], spilled }
+    }
+
     /// The lengths and the slices of a listing that is built in slices of these lengths.
     fn built(room: [usize; 3], build: impl FnOnce(Outputs<'_>) -> Built) -> Self {
         let mut lent = room.map(words);
@@ -140,6 +157,7 @@ impl<L: AsRef<Raw>> Question<L> {
             Question::Test(test, _) => test.name(),
             Question::Change { .. } => "change",
             Question::Search { .. } => "search",
+            Question::OneBody { .. } => "one_body",
             Question::Events { .. } => "events",
             Question::Product { kind, .. } => kind.name(),
             Question::ReadText { .. } => "read_text",
@@ -167,14 +185,12 @@ impl<L: AsRef<Raw>> Question<L> {
                 Reply { numbers: answer_numbers(changed.answer), slices: vec![changed.flag.to_vec()], spilled: false }
             }
             Question::Search { cell, first, mask, table, orientations } => {
-                let (mut table, mut orientations) = (words(*table), bytes(*orientations));
-                let (lent, lent_bytes) = (table.slice(), orientations.slice());
-                let searched = library.search(cell.as_ref().slices(), first, *mask, lent, lent_bytes);
-                let mut numbers = answer_numbers(searched.answer);
-                numbers.extend([searched.count, searched.place, searched.orientable.into()].map(i64::from));
-                let spilled = table.spilled() || orientations.spilled();
-                let wide = orientations.slice().iter().map(|&byte| byte.into()).collect();
-                Reply { numbers, slices: vec![table.slice().to_vec(), wide], spilled }
+                let cell = cell.as_ref().slices();
+                Reply::searched(*table, *orientations, |table, odd| library.search(cell, first, *mask, table, odd))
+            }
+            Question::OneBody { cell, table, orientations } => {
+                let cell = cell.as_ref().slices();
+                Reply::searched(*table, *orientations, |table, odd| library.one_body(cell, table, odd))
             }
             Question::Events { cell, first, mask } => events(library, cell.as_ref(), first, *mask),
             Question::Product { kind, p, q, room } => {

@@ -71,6 +71,7 @@ impl<L: AsRef<Raw>> Display for Question<L> {
             Question::Search { cell, first, mask, table, orientations } => {
                 write!(f, "{} {} {mask} {table} {orientations}", cell.as_ref(), List(first))
             }
+            Question::OneBody { cell, table, orientations } => write!(f, "{} {table} {orientations}", cell.as_ref()),
             Question::Events { cell, first, mask } => write!(f, "{} {} {mask}", cell.as_ref(), List(first)),
             Question::Product { p, q, room: [counts, ends, inc], .. } => {
                 write!(f, "{} {} {counts} {ends} {inc}", p.as_ref(), q.as_ref())
@@ -217,6 +218,9 @@ impl Question<Raw> {
                 table: words.number()?,
                 orientations: words.number()?,
             },
+            "one_body" => {
+                Question::OneBody { cell: words.raw()?, table: words.number()?, orientations: words.number()? }
+            }
             "events" => Question::Events { cell: words.raw()?, first: words.list()?, mask: words.number()? },
             "read_text" => Question::ReadText { text: words.bytes()?, room: words.room()? },
             "check_text" => Question::CheckText(words.bytes()?),
@@ -263,6 +267,7 @@ mod tests {
             Question::Test(Test::Closed, cell()),
             Question::Change { cell: cell(), flag: vec![0; 4], r: 1 },
             Question::Search { cell: cell(), first: vec![0; 4], mask: 6, table: 25, orientations: 7 },
+            Question::OneBody { cell: cell(), table: 25, orientations: 7 },
             Question::Events { cell: cell(), first: vec![0; 4], mask: 6 },
             Question::Product { kind: Kind::Duoprism, p: cell(), q: Raw::default(), room: [0, 1, 2] },
             Question::ReadText { text: b"rank=0\ncount=1\nsubs=\n".to_vec(), room: [1, 2, 0] },

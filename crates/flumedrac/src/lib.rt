@@ -23,6 +23,7 @@ ghost use Rattle.flag.specs.Changed.{changedOf};
 ghost use Rattle.search_events.specs.Events.{SaidStep};
 ghost use Rattle.flag.specs.Orientations.{ofByte, signOf};
 ghost use Rattle.search.specs.SearchedBy.{searchedBy, tableAfter, bytesAfter};
+ghost use Rattle.body.specs.Body.{bodyBy, bodyTableAfter, bodyBytesAfter};
 
 #[no_mangle]
 pub extern "C" fn fd_rank(counts: &[Index]) -> Number
@@ -132,6 +133,25 @@ pub extern "C" fn fd_search(
         (now (table .entry)) (now (orientations .entry)) ⌝ }
 {
     search::search(counts, ends, inc, first, mask, table, orientations)
+}
+
+// Writes the table and the orientations, which overlap no other slice that is lent here.
+#[no_mangle]
+pub extern "C" fn fd_one_body(
+    counts: &[Index],
+    ends: &[Index],
+    inc: &[Index],
+    table: &mut [Index],
+    orientations: &mut [u8],
+) -> Searched
+    ensures { λ a. ⌜ a ≡ bodyBy limits (held (counts .entry) (ends .entry) (inc .entry)) (now (table .entry))
+        (now (orientations .entry)) ⌝ }
+    ensures { λ a. ⌜ now (table .exit) ≡ bodyTableAfter limits (held (counts .entry) (ends .entry) (inc .entry))
+        (now (table .entry)) (now (orientations .entry)) ⌝ }
+    ensures { λ a. ⌜ now (orientations .exit) ≡ bodyBytesAfter limits (held (counts .entry) (ends .entry) (inc .entry))
+        (now (table .entry)) (now (orientations .entry)) ⌝ }
+{
+    body::one_body(counts, ends, inc, table, orientations)
 }
 
 // The sign of an orientation byte: 1.0 for 0, -1.0 for any other.

@@ -49,6 +49,11 @@ before-step counts r h =
     let e : r - 1 + 1 ≡ r = omega arith in
     rw e at (before-next counts (r - 1))
 
+-- where a rank begins, from where the one below it begins and how many that one has
+pub before-on : (counts : List ℕ) (r b n : ℕ) → 0 < r → b ≡ before counts (r - 1) → n ≡ getD counts (r - 1) 0
+    → b + n ≡ before counts r
+before-on counts r b n h e k = omega (arith, before-step counts r h)
+
 -- a rank has no more elements than all have
 pub count-le : (counts : List ℕ) (r : ℕ) → getD counts r 0 ≤ before counts (length counts)
 count-le counts r = omega (arith, before-next counts r, before-all counts (r + 1))

@@ -14,6 +14,7 @@
 -- notAscending                           a list that does not strictly ascend
 -- notAFlag                               the numbers are no flag
 -- outsideRanks, moreFlags                a change, or a bit of a mask, outside 1 to rank - 1; more flags than room
+-- severalParts                           closed, but its flags are in several parts
 -- leftInvalid, rightInvalid              is_valid refuses the left, the right factor
 -- combOfPoint                            duocomb with a factor of rank 1, where none has rank 0
 -- productRanks, productElements          a product with too many ranks, elements
@@ -89,6 +90,9 @@ outsideRanks = 21
 
 abbrev pub moreFlags : ℕ
 moreFlags = 22
+
+abbrev pub severalParts : ℕ
+severalParts = 25
 
 -- products
 abbrev pub leftInvalid : ℕ

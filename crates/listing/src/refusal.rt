@@ -41,6 +41,8 @@ pub const OUTSIDE_RANKS: u16 = 21;
 
 pub const MORE_FLAGS: u16 = 22;
 
+pub const SEVERAL_PARTS: u16 = 25;
+
 // Products.
 pub const LEFT_INVALID: u16 = 30;
 

@@ -12,3 +12,7 @@ pub mod Struck
 pub mod Trim
 pub mod Product
 pub mod Earlier
+pub mod Steps
+pub mod Flags
+pub mod Shuffles
+pub mod Connected

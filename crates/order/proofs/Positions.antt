@@ -1,6 +1,6 @@
 -- Where numbers stand in a list: looking one place at a time, what a place holds, and places in an ascending list.
 -- Assumes nothing.
-use mathlib.Core.Path.{_≡_, refl, sym, ap}
+use mathlib.Core.Path.{_≡_, refl, sym, ap, _∙_}
 use mathlib.Core.Logic.{inl, inr}
 use mathlib.Core.Bool.{true, false, cond}
 use mathlib.Core.List.{List, [], _∷_}
@@ -10,8 +10,8 @@ use native.Mathlib.Decide.{ℕ-discrete, decLt}
 use native.Mathlib.Numerals.{add-one}
 use native.Mathlib.Omega.{arith}
 use lib.Dec.{eqb}
-use lib.ListN.{length, getD, drop, drop-of-length-le}
-use lib.Seq.{drop-cons}
+use lib.ListN.{length, getD, set, drop, drop-of-length-le}
+use lib.Seq.{drop-cons, getD-set-same, getD-set-other}
 use Rattle.order.specs.Lists.{In, has, Ascending}
 use Rattle.order.proofs.Lists.{has-yes, has-no}
 
@@ -55,6 +55,15 @@ pub in-some : (l : List ℕ) (x : ℕ) → In x l → length l ≡ 0 → ⊥
 unfolding In
 in-some [] x m e = m
 in-some (y ∷ l) x m e = absurd (omega arith)
+
+-- where the first r numbers are those of a function, and its next is written after them, the first r + 1 are
+pub set-next : (f : ℕ → ℕ) (l : List ℕ) (r x : ℕ) → r < length l → x ≡ f r → ((k : ℕ) → k < r → getD l k 0 ≡ f k)
+    → (k : ℕ) → k < r + 1 → getD (set l r x) k 0 ≡ f k
+set-next f l r x h e p k i = go (ℕ-discrete k r)
+  where
+    go : Dec (k ≡ r) → getD (set l r x) k 0 ≡ f k
+    go (yes d) = rw d (getD-set-same l r x 0 h ∙ e)
+    go (no d) = getD-set-other l r k x 0 d ∙ p k (omega arith)
 
 -- ---- an ascending list
 

@@ -51,7 +51,7 @@ module _ {W : Order} (rW : Ranked W) where
       (d x y z (r .0) (s .0))
 
   -- whatever has rank 1 lies directly over the least element
-  over-least : Rooted W → (s : OneLowest W) (x : W .Elem) → W .Exists x → W .rank x ≡ 1 → W .Under (s .least) x
+  pub over-least : Rooted W → (s : OneLowest W) (x : W .Elem) → W .Exists x → W .rank x ≡ 1 → W .Under (s .least) x
   unfolding Rooted
   over-least d s x e h =
       let t = d x e (omega arith) in

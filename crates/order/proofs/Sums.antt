@@ -2,12 +2,16 @@
 -- Assumes nothing.
 use mathlib.Core.Path.{_≡_, refl, sym, ap}
 use mathlib.Core.Logic.{_⊎_, inl, inr}
+use mathlib.Core.List.{List, [], _∷_}
 use Prim.Native.Nat.{ℕ, zero, suc, _+_, _-_, _*_, _≤_, _<_}
 use native.Mathlib.Nat.{not-suc-le-zero, eq-or-lt-of-le}
 use native.Mathlib.Decide.{decLt}
 use native.Mathlib.Numerals.{add-one}
 use native.Mathlib.Omega.{arith}
-use Rattle.order.specs.Sums.{choose, sum, partAt, Placed}
+use lib.ListN.{length, getD, drop, drop-of-length-le}
+use lib.Seq.{drop-cons}
+use Rattle.order.specs.Lists.{In}
+use Rattle.order.specs.Sums.{choose, sum, sumOver, partAt, Placed}
 
 pub choose-yes {ℓ} : {P : Type 0} {A : Type ℓ} (d : Dec P) (a b : A) → P → choose d a b ≡ a
 unfolding choose
@@ -105,3 +109,19 @@ part-at f n i m hi hm =
 pub part-pos : (m n c : ℕ) → m < n * c → 0 < c
 part-pos m n zero h = absurd (omega (arith, h))
 part-pos m n (suc c) h = omega arith
+
+-- ---- a function of each number of a list, added up
+
+pub sum-over-end : (f : ℕ → ℕ) (l : List ℕ) (j : ℕ) → length l ≤ j → sumOver f (drop j l) ≡ 0
+unfolding sumOver
+sum-over-end f l j h = rw (drop-of-length-le l h)
+
+pub sum-over-next : (f : ℕ → ℕ) (l : List ℕ) (j : ℕ) → j < length l
+    → sumOver f (drop j l) ≡ f (getD l j 0) + sumOver f (drop (j + 1) l)
+unfolding sumOver
+sum-over-next f l j h = rw (drop-cons l j 0 h, add-one)
+
+pub sum-over-same : (f g : ℕ → ℕ) (l : List ℕ) → ((x : ℕ) → In x l → f x ≡ g x) → sumOver f l ≡ sumOver g l
+unfolding sumOver In
+sum-over-same f g [] e = refl
+sum-over-same f g (x ∷ l) e = omega (arith, e x (inl refl), sum-over-same f g l (λ y m. e y (inr m)))

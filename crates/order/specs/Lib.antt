@@ -6,3 +6,4 @@ pub mod Diamond
 pub mod Pairs
 pub mod Ends
 pub mod Steps
+pub mod Flags

@@ -3,9 +3,11 @@
 --
 -- choose   the first of two where something holds, else the second
 -- sum      f 0 + .. + f (n - 1)
+-- sumOver  f of each number of a list, added up
 -- partAt   the part, among n, that a number falls into, and its place there
 -- Placed   what `place` finds: the part is there, the place lies in it, and both lead back to the number
 use mathlib.Core.Path.{_≡_}
+use mathlib.Core.List.{List, [], _∷_}
 use Prim.Native.Nat.{ℕ, zero, suc, _+_, _-_, _<_}
 use native.Mathlib.Decide.{decLt}
 
@@ -16,6 +18,10 @@ choose (no p) a b = b
 unfoldable pub sum : (ℕ → ℕ) → ℕ → ℕ
 sum f zero = zero
 sum f (suc n) = sum f n + f n
+
+unfoldable pub sumOver : (ℕ → ℕ) → List ℕ → ℕ
+sumOver f [] = zero
+sumOver f (x ∷ l) = f x + sumOver f l
 
 unfoldable pub partAt : (ℕ → ℕ) → ℕ → ℕ → ℕ × ℕ
 partAt f zero k = (zero, k)

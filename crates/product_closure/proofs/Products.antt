@@ -38,7 +38,7 @@ product-closed min max m A B cA cB p q t h =
     (rw (both-ranks min A B) t) (rw e at h))
 
 -- The ranks from which that holds, as the table of HighEnough has them.
-high-enough : (min max : Bool) (p q : ℕ) → HighEnough min max p q
+pub high-enough : (min max : Bool) (p q : ℕ) → HighEnough min max p q
     → (need min max ≤ p) × (need min max ≤ q) × (together min max ≤ p + q)
 unfolding HighEnough
 high-enough true true p q h = h

@@ -1,4 +1,5 @@
--- The product of two listings says what the product of their layers says. Its rank; and it is closed where they are.
+-- The product of two listings says what the product of their layers says. Its rank; and it is closed, or connected,
+-- where they are.
 -- Assumes nothing.
 use mathlib.Core.Path.{_≡_, refl, _∙_}
 use mathlib.Core.List.{List}
@@ -8,7 +9,9 @@ use Rattle.order.specs.Sums.{sum}
 use Rattle.order.specs.Structure.{Renumbering}
 use Rattle.order.specs.Diamond.{Frame, Cell}
 use Rattle.order.specs.Ends.{need, together}
+use Rattle.order.specs.Flags.{Connected, needThick}
 use Rattle.order.proofs.Renumbering.{Renumbering·frame, Renumbering·cell}
+use Rattle.order.proofs.Flags.{Renumbering·connected}
 use Rattle.listing.specs.Listing.{Listing, Limits, rank, count, subs, sups}
 use Rattle.listing.specs.Shape.{Shaped}
 use Rattle.listing.specs.Layers.{Layers, Topped, layers, order, derived}
@@ -19,7 +22,7 @@ use Rattle.product_pairs.specs.Sound.{Sound, Sorted}
 use Rattle.product_pairs.specs.Trimmed.{bit}
 use Rattle.product_pairs.specs.Product.{layerProduct, productOf}
 use Rattle.product_pairs.proofs.Product.{product-topped, product-top, product-sound, product-sorted}
-use Rattle.product_pairs.proofs.Product.{product-frame, product-cell}
+use Rattle.product_pairs.proofs.Product.{product-frame, product-cell, product-connected}
 
 -- ---- layers written out
 
@@ -130,3 +133,11 @@ module _ (min max : Bool) (A B : Listing) (sA : Sound (layers A)) (sB : Sound (l
       Renumbering·cell (order-ranked _ (topped min max A B))
       (order-ranked _ (layers-topped (productOf min max A B))) (productOf-order min max A B)
       (product-cell min max (layers A) (layers B) (layers-topped A) (layers-topped B) sA sB p q h gA gB)
+
+  pub productOf-connected : needThick min max ≤ rank A → needThick min max ≤ rank B
+      → Frame false false (order (layers A)) → Frame false false (order (layers B)) → Connected (order (layers A))
+      → Connected (order (layers B)) → Connected (order (layers (productOf min max A B)))
+  productOf-connected p q gA gB cA cB =
+      Renumbering·connected (order-ranked _ (topped min max A B))
+      (order-ranked _ (layers-topped (productOf min max A B))) (productOf-order min max A B)
+      (product-connected min max (layers A) (layers B) (layers-topped A) (layers-topped B) sA sB p q gA gB cA cB)

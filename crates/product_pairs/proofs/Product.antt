@@ -1,5 +1,5 @@
 -- The product of two layers, once over the two flags: its lists are sound and sorted, its order is the product of the
--- orders, and it is closed where they are.
+-- orders, and it is closed, or connected, where they are.
 -- Assumes nothing.
 use mathlib.Core.Path.{_≡_, refl, ap, _∙_}
 use mathlib.Core.Bool.{Bool, true, false}
@@ -8,10 +8,13 @@ use native.Mathlib.Omega.{arith}
 use Rattle.order.specs.Structure.{Ranked, Renumbering}
 use Rattle.order.specs.Diamond.{Frame, Cell}
 use Rattle.order.specs.Ends.{InUse, Product, need, together, asTrimmed, asGrown, addedMin, addedMax}
+use Rattle.order.specs.Flags.{Connected, needThick}
 use Rattle.order.proofs.Renumbering.{Renumbering·then, Renumbering·frame, Renumbering·cell}
 use Rattle.order.proofs.Pairs.{pair-path, Pairs·renumbered}
 use Rattle.order.proofs.Trim.{grow·renumbered, grow·inside, grow·addedMin, grow·addedMax}
 use Rattle.order.proofs.Product.{Product·ranked, Product·frame, Product·cell}
+use Rattle.order.proofs.Flags.{Renumbering·connected}
+use Rattle.order.proofs.Connected.{Product·connected}
 use Rattle.listing.specs.Layers.{Layers, Topped, order}
 use Rattle.listing.proofs.Layers.{order-ranked}
 use Rattle.product_pairs.specs.Sound.{Sound, Sorted}
@@ -128,3 +131,11 @@ module _ (min max : Bool) (A B : Layers) (tA : Topped A) (tB : Topped B) (sA : S
   product-cell p q h gA gB =
       Renumbering·cell (Product·ranked min max rA rB) (order-ranked _ (product-topped min max A B))
       (product-order min max A B tA tB sA sB) (Product·cell min max rA rB p q h gA gB)
+
+  -- products of connected frames are connected, from the ranks on at which the factors are thick without their ends
+  pub product-connected : needThick min max ≤ A .top → needThick min max ≤ B .top → Frame false false (order A)
+      → Frame false false (order B) → Connected (order A) → Connected (order B)
+      → Connected (order (layerProduct min max A B))
+  product-connected p q gA gB cA cB =
+      Renumbering·connected (Product·ranked min max rA rB) (order-ranked _ (product-topped min max A B))
+      (product-order min max A B tA tB sA sB) (Product·connected min max rA rB p q gA gB cA cB)

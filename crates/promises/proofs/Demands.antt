@@ -3,8 +3,8 @@
 -- Demand 1. Every entry takes any slices and comes to an end: no contract asks anything of its caller, and each is met
 -- in the end. Which refusal comes exactly when, and what is written.
 -- Demand 2, the part that is proved: the tests accept exactly what the book asks; what the counts, a reading, a change,
--- a search, an orientation and the events are; and a C function answers what its entry answers. That the answers equal
--- those of the Rust is shown by running both (docs/COMPARISON.md).
+-- a search, an orientation, the events and the test for one body are; and a C function answers what its entry answers.
+-- That the answers equal those of the Rust is shown by running both (docs/COMPARISON.md).
 -- Demand 3. What the four products keep, each said of the slices that the entry wrote, up to the lengths answered.
 -- Assumes nothing.
 use Rattle.listing.specs.Listing.{limits}
@@ -15,6 +15,7 @@ use Rattle.promises.proofs.OfTests.{tests-taken, tests-refuse, tests-na
 use Rattle.promises.proofs.OfProducts.{products-taken, products-refuse, products-keep, products-once}
 use Rattle.promises.proofs.OfTexts.{texts-taken, texts-refuse, texts-answer, texts-once}
 use Rattle.promises.proofs.OfFlags.{flags-taken, flags-refuse, flags-named, flags-answer, flags-once}
+use Rattle.promises.proofs.OfBodies.{bodies-taken, bodies-refuse, bodies-named, bodies-answer, bodies-once}
 use Rattle.promises.proofs.OfBoundary.{boundary-taken, boundary, boundary-once}
 
 pub demand-one : DemandOne
@@ -24,13 +25,15 @@ demand-one = record {
     products = products-taken;
     texts = texts-taken;
     flags = flags-taken;
+    bodies = bodies-taken;
     boundary = boundary-taken;
   };
   tests-refuse = tests-refuse;
   products-refuse = products-refuse;
   texts-refuse = texts-refuse;
   flags-refuse = flags-refuse;
-  refusals-named = record { tests = tests-named; flags = flags-named };
+  bodies-refuse = bodies-refuse;
+  refusals-named = record { tests = tests-named; flags = flags-named; bodies = bodies-named };
 }
 
 pub demand-two : DemandTwo
@@ -38,6 +41,7 @@ demand-two = record {
   tests-answer = tests-answer;
   texts-answer = texts-answer;
   flags-answer = flags-answer;
+  bodies-answer = bodies-answer;
   boundary-passes = boundary;
 }
 
@@ -53,5 +57,6 @@ no-second-answer = record {
   products = products-once;
   texts = texts-once;
   flags = flags-once;
+  bodies = bodies-once;
   boundary = boundary-once;
 }

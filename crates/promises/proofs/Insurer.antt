@@ -2,53 +2,60 @@
 -- Assumes nothing.
 use mathlib.Core.Path.{_≡_, ap}
 use mathlib.Core.Logic.{_↔_}
-use mathlib.Core.Bool.{Bool}
+use mathlib.Core.Bool.{Bool, true}
 use mathlib.Core.List.{map}
-use lib.ListN.{getD}
+use Prim.Native.Nat.{ℕ}
+use lib.ListN.{length, getD}
 use Rattle.listing.specs.declared.Answer.{Answer}
 use Rattle.listing.specs.declared.Built.{Built}
 use Rattle.listing.specs.Refusals.{loneBetween}
 use Rattle.listing.specs.Answers.{refusal, fine}
 use Rattle.listing.specs.Listing.{Listing, Limits, limits, rank}
+use Rattle.listing.specs.Cells.{dyad, triangle}
 use Rattle.listing_outputs.specs.Output.{prefix}
 use Rattle.valid_diamond.specs.Dyadic.{DiamondAt}
 use Rattle.valid.specs.Ascent.{Ascends}
 use Rattle.valid.specs.Tests.{isValid, closed}
+use Rattle.valid.specs.Closed.{Closed}
 use Rattle.valid.proofs.ClosedExact.{closed-exact, closed-is-valid-and}
-use Rattle.product_closure.specs.Result.{HighEnough}
-use Rattle.product.specs.Outcome.{Outcome}
-use Rattle.promises.specs.Starred.{leakingBox, Trial, answered, tried}
-use Rattle.promises.specs.Starred.Trial.{tested, combined, refused, readAs, unread, changed}
+use Rattle.product_closure.specs.Result.{resultOf, HighEnough}
+use Rattle.product.specs.Outcome.{productTest, Outcome}
+use Rattle.body_theory.specs.Pieces.{OnePiece, OneBody}
+use Rattle.body_theory.specs.InAll.{ManyFlags}
+use Rattle.body_theory.specs.High.{HighForOne}
+use Rattle.body.proofs.Verdict.{body-exact}
+use Rattle.promises.specs.Starred.{twoTriangles, leakingBox, Trial, answered, tried}
+use Rattle.promises.specs.Starred.Trial.{tested, combined, refused, readAs, unread, changed, bodied}
 use Rattle.promises.proofs.Produced.{outcome-kept}
 use Rattle.promises.proofs.Starred.{starred}
 
 -- ---- (a) What rule let the cell through?
 
--- what stands in a row of the table for is_valid and for closed
-abbrev validIn : Trial → Answer
-validIn (tested L v c) = v
-validIn (combined min max A B a R v c) = v
-validIn (refused min max A B a) = a
-validIn (readAs t a L c) = a
-validIn (unread t a) = a
-validIn (changed L f r c) = c .answer
+-- what a row of the table shows: what is answered, the listing that it is about or that is made, and what is_valid and
+-- the last test say
+record Shown : Type 0 where
+  answer : Answer
+  made : Listing
+  valid : Answer
+  last : Answer
 
-abbrev closedIn : Trial → Answer
-closedIn (tested L v c) = c
-closedIn (combined min max A B a R v c) = c
-closedIn (refused min max A B a) = a
-closedIn (readAs t a L c) = c
-closedIn (unread t a) = a
-closedIn (changed L f r c) = c .answer
+abbrev shown : Trial → Shown
+shown (tested L v c) = record { answer = v; made = L; valid = v; last = c }
+shown (combined min max A B a R v c) = record { answer = a; made = R; valid = v; last = c }
+shown (refused min max A B a) = record { answer = a; made = A; valid = a; last = a }
+shown (readAs t a L c) = record { answer = a; made = L; valid = a; last = c }
+shown (unread t a) = record { answer = a; made = leakingBox; valid = a; last = a }
+shown (changed L f r c) = record { answer = c .answer; made = L; valid = c .answer; last = c .answer }
+shown (bodied L n a) = record { answer = a; made = L; valid = a; last = a }
 
-last : map answered tried ≡ tried → answered (tested leakingBox fine (refusal loneBetween 2 0 4 0))
-    ≡ tested leakingBox fine (refusal loneBetween 2 0 4 0)
-last e = ap (λ rows. getD rows 30 (tested leakingBox fine fine)) e
+-- row k of the table, with the answers that computing gives and with those that stand in it
+row : (k : ℕ) → getD (map answered tried) k (tested leakingBox fine fine) ≡ getD tried k (tested leakingBox fine fine)
+row k = ap (λ rows. getD rows k (tested leakingBox fine fine)) starred
 
 -- The cell: is_valid accepts it, and closed says of edge 0 that only one face lies between it and the cell.
 pub let-through : (isValid limits leakingBox ≡ fine) × (closed limits leakingBox ≡ refusal loneBetween 2 0 4 0)
 unfolding answered
-let-through = (ap validIn (last starred), ap closedIn (last starred))
+let-through = (ap (λ t. shown t .valid) (row 38), ap (λ t. shown t .last) (row 38))
 
 -- The rule that separates the two tests: of a listing that is_valid accepts, with ascending lists, closed asks one
 -- thing more, the diamond at the maximal element.
@@ -69,3 +76,28 @@ pub rule-survives : (min max : Bool) {A B old new : Listing} {r : Built} → Out
 rule-survives min max {A} {B} o z a b h =
     closed-exact limits _ .1
     (outcome-kept min max o z .closed (closed-exact limits A .0 a) (closed-exact limits B .0 b) h)
+
+-- And a product of two bodies, high enough for it, is one body: closed, and in one piece.
+pub body-survives : (min max : Bool) {A B old new : Listing} {r : Built} → Outcome limits min max A B old new r
+    → r .answer .no ≡ 0 → OneBody limits A → OneBody limits B → HighForOne min max (rank A) (rank B)
+    → OneBody limits (prefix new r)
+body-survives min max o z = outcome-kept min max o z .one-body
+
+-- That the duocomb needs 3 there: the dyad and the triangle are bodies, and their duocomb, which is answered with just
+-- the room that it takes, is closed and no body.
+pub three-needed : let P = resultOf true true dyad triangle in
+    OneBody limits dyad × OneBody limits triangle × Closed limits twoTriangles × (¬ OnePiece twoTriangles)
+    × (P ≡ twoTriangles)
+    × (productTest limits true true dyad triangle (length (P .counts)) (length (P .ends)) (length (P .inc)) ≡ fine)
+unfolding answered
+three-needed = (
+  body-exact dyad 2 .accepts .0 (ap (λ t. shown t .answer .no) (row 33)) .0,
+  body-exact triangle 6 .accepts .0 (ap (λ t. shown t .answer .no) (row 34)) .0,
+  parts .0,
+  parts .2,
+  ap (λ t. shown t .made) (row 16),
+  ap (λ t. shown t .answer) (row 16),
+)
+  where
+    parts : Closed limits twoTriangles × (¬ ManyFlags 13 twoTriangles) × (¬ OnePiece twoTriangles)
+    parts = body-exact twoTriangles 12 .parts .0 (ap (λ t. shown t .answer .no) (row 36))

@@ -9,6 +9,7 @@ pub mod OfTests
 pub mod OfProducts
 pub mod OfTexts
 pub mod OfFlags
+pub mod OfBodies
 pub mod OfBoundary
 pub mod Cursor
 pub mod Demands

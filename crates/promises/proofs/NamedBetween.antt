@@ -23,7 +23,7 @@ use Rattle.valid.proofs.AscentExact.{ascent-exact, ascends-distinct}
 use Rattle.valid.proofs.TestNumbers.{bounded-numbers, incidence-numbers, ascent-numbers}
 use Rattle.promises.specs.Named.{FirstThird, Named, of-shape, of-flags, not-bounded, no-subs, no-sups}
 use Rattle.promises.specs.Named.{sub-not-back, sup-not-back, sub-missing, sup-missing, third-between}
-use Rattle.promises.specs.Named.{lone-between, not-ascending, ThreeOf, OneOf, BetweenNamed}
+use Rattle.promises.specs.Named.{lone-between, not-ascending, several-parts, ThreeOf, OneOf, BetweenNamed}
 use Rattle.promises.proofs.Firsts.{Tells, tells-or}
 use Rattle.promises.proofs.NamedTests.{shape-tells, closed-named}
 
@@ -112,6 +112,7 @@ between-named h L D (lone-between r i x I F p q a o s) = record {
   single = λ e. one-between L I D r i x (F .exists) o;
 }
 between-named h L D (not-ascending r i s F p a n) = neither (inr (omega arith))
+between-named h L D (several-parts o) = neither (inr (omega arith))
 
 -- an answer of 0 says nothing of elements between
 pub between-tells : {L : Listing} {a : Answer} → Tells (BetweenNamed L) a → BetweenNamed L a

@@ -15,6 +15,7 @@ boundary-taken = record {
   products = (any, any, any, any);
   texts = (any, any);
   flags = (any, any, any);
+  bodies = any;
 }
 
 -- The whole boundary, a field for each function.
@@ -31,6 +32,7 @@ boundary = record {
   closed-passes = λ k a r x p. p;
   change-passes = λ k a r x p. p;
   search-passes = λ k a r x p. p;
+  one-body-passes = λ k a r x p. p;
   duopyramid-passes = λ k a r x p. p;
   duoprism-passes = λ k a r x p. p;
   duotegum-passes = λ k a r x p. p;
@@ -57,6 +59,7 @@ boundary-once = record {
   one-fd-change = λ k a b c x y. alike;
   one-fd-sign = λ k a b c x y. alike;
   one-fd-search = λ k a b c x y p q. same-search (p .0) (p .1 .0) (p .1 .1) (q .0) (q .1 .0) (q .1 .1);
+  one-fd-one-body = λ k a b c x y p q. same-search (p .0) (p .1 .0) (p .1 .1) (q .0) (q .1 .0) (q .1 .1);
   one-fd-duopyramid = λ k a b c x y. same-outcome false false;
   one-fd-duoprism = λ k a b c x y. same-outcome true false;
   one-fd-duotegum = λ k a b c x y. same-outcome false true;

@@ -21,6 +21,7 @@ use Rattle.product.specs.Outcome.{Outcome}
 use Rattle.product.proofs.ProductBroken.{product-broken}
 use Rattle.product.proofs.Answered.{answered-passed, answered-shaped, answered-closed}
 use Rattle.product.proofs.Exchange.{answers-same}
+use Rattle.body_theory.proofs.Products.{four-bodies}
 use Rattle.promises.specs.Products.{roomRules, Produces, Kept, SameRoom, Exchange}
 
 module _ (min max : Bool) {A B old new : Listing} {r : Built} (o : Outcome limits min max A B old new r) where
@@ -54,6 +55,7 @@ module _ (min max : Bool) {A B old new : Listing} {r : Built} (o : Outcome limit
         let sB = valid-sound limits B (valid .1) in
         rw is-result (record {
           closed = λ cA cB h. rw is-result at (answered-closed min max o z cA cB h);
+          one-body = λ bA bB h. four-bodies min max limits A B bA bB h (answered-shaped min max o z);
           null-closed = λ n. rw (result-null min max A B n) nullitope-closed;
           framed = framed;
           ranks = λ n. let h = needed min max A B n (valid .2) in result-rank min max A B (h .0) (h .1);

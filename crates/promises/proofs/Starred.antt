@@ -4,7 +4,7 @@ use mathlib.Core.Path.{_≡_, refl}
 use mathlib.Core.List.{map}
 use native.Mathlib.Decide.{decLt}
 use Rattle.order.specs.Lists.{has, occurs}
-use Rattle.order.specs.Sums.{choose, sum, partAt}
+use Rattle.order.specs.Sums.{choose, sum, sumOver, partAt}
 use Rattle.listing.specs.Answers.{_orElse_, firstIn, firstFor, firstOf}
 use Rattle.listing.specs.Listing.{before, entries}
 use Rattle.listing.specs.Shape.{fills, shapeTest}
@@ -33,6 +33,13 @@ use Rattle.order.specs.Tests.{every}
 use Rattle.flag_change.specs.Flags.{flagAt, flagTest, startTest}
 use Rattle.flag_change.specs.Change.{common, other, between, changeAt, padded}
 use Rattle.flag.specs.Changed.{changeTest, changedOf}
+use Rattle.search_theory.specs.Search.{placeAfter, waits, indexIn, meet, meetAll, work, runFor, run, search}
+use Rattle.search_index.specs.Rows.{sameList}
+use Rattle.search_masks.specs.Masks.{bitsIn}
+use Rattle.search_walk.specs.Searched.{maskChanges, foundBy}
+use Rattle.body_theory.specs.InAll.{chainsTo}
+use Rattle.body_theory.specs.First.{supAt}
+use Rattle.body.specs.Body.{partsTest, bodyTest}
 use Rattle.promises.specs.Starred.{quoted, answered, tried}
 
 -- Computing each row of the table gives the answers that stand in it.
@@ -45,5 +52,7 @@ unfolding decLt has occurs choose sum partAt _orElse_ firstIn firstFor firstOf b
     layerProduct productOf nullCase combCase resultOf shortTest sizeTest factorsTest restTest productTest every flagAt
     flagTest startTest common other between changeAt padded changeTest changedOf spelled numeral parted commas
     lineBytes lineOf spot lineAt lineCount afterLine fromLine valuesFrom values countLine said begins numbersFit
-    formTest belowIn sizeBelow incidencesOf incidencesTo boundOf boundAt textTest readTest checkTest quoted answered
+    formTest belowIn sizeBelow incidencesOf incidencesTo boundOf boundAt textTest readTest checkTest sumOver placeAfter
+    waits indexIn meet meetAll work runFor run search sameList bitsIn maskChanges foundBy chainsTo supAt partsTest
+    bodyTest quoted answered
 starred = refl

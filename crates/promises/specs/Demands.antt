@@ -1,13 +1,13 @@
 -- The three demands, and that no second answer fits: each a short record that collects what is promised of each family
--- of entries (OfTests, OfProducts, OfTexts, OfFlags, OfBoundary). A promise speaks of an entry through `Post`, the
--- reading of its contract, and so of any slices that the entry is lent. An answer that is an enum is said by the number
--- or values of its case; the events are said both ways.
+-- of entries (OfTests, OfProducts, OfTexts, OfFlags, OfBodies, OfBoundary). A promise speaks of an entry through its
+-- `Post`, the reading of its contract, and so of any slices that the entry is lent. An answer that is an enum is said
+-- by the number or values of its case; the events are said both ways.
 --
 -- AnyTaken        every entry takes any slices and numbers: no contract asks anything of its caller
 -- RefusalsNamed   a refusal is true of what its fields name, and names the first such thing in order
 -- DemandOne       any slices are answered: which refusal comes exactly when, and what is written
--- DemandTwo       the tests accept exactly what the book asks; what counts, readings of texts, changes, searches and
---                 events answer; a C function answers what its entry answers
+-- DemandTwo       the tests accept exactly what the book asks; what is answered by counts, readings of texts, changes,
+--                 searches, events and the test for one body; a C function answers what its entry answers
 -- DemandThree     what the four products keep
 -- OneForEach      no second answer fits the contract of any entry
 use mathlib.Core.Path.{_≡_}
@@ -22,6 +22,7 @@ use Rattle.promises.specs.OfTests.{TestsTaken, TestsRefuse, TestsNamed, 
 use Rattle.promises.specs.OfProducts.{ProductsTaken, ProductsRefuse, ProductsKeep, ProductsOnce}
 use Rattle.promises.specs.OfTexts.{TextsTaken, TextsRefuse, TextsAnswer, TextsOnce}
 use Rattle.promises.specs.OfFlags.{FlagsTaken, FlagsRefuse, FlagsNamed, FlagsAnswer, FlagsOnce}
+use Rattle.promises.specs.OfBodies.{BodiesTaken, BodiesRefuse, BodiesNamed, BodiesAnswer, BodiesOnce}
 use Rattle.promises.specs.OfBoundary.{BoundaryTaken, Boundary, BoundaryOnce}
 
 pub record AnyTaken : Type 0 where
@@ -29,11 +30,13 @@ pub record AnyTaken : Type 0 where
   pub products : ProductsTaken
   pub texts : TextsTaken
   pub flags : FlagsTaken
+  pub bodies : BodiesTaken
   pub boundary : BoundaryTaken
 
 pub record RefusalsNamed : Type 0 where
   pub tests : TestsNamed
   pub flags : FlagsNamed
+  pub bodies : BodiesNamed
 
 pub record DemandOne : Type 0 where
   pub any-taken : AnyTaken
@@ -41,12 +44,14 @@ pub record DemandOne : Type 0 where
   pub products-refuse : ProductsRefuse
   pub texts-refuse : TextsRefuse
   pub flags-refuse : FlagsRefuse
+  pub bodies-refuse : BodiesRefuse
   pub refusals-named : RefusalsNamed
 
 pub record DemandTwo : Type 0 where
   pub tests-answer : TestsAnswer
   pub texts-answer : TextsAnswer
   pub flags-answer : FlagsAnswer
+  pub bodies-answer : BodiesAnswer
   pub boundary-passes : Boundary
 
 pub record DemandThree : Type 0 where
@@ -60,4 +65,5 @@ pub record OneForEach : Type 0 where
   pub products : ProductsOnce
   pub texts : TextsOnce
   pub flags : FlagsOnce
+  pub bodies : BodiesOnce
   pub boundary : BoundaryOnce

@@ -16,6 +16,7 @@
 -- flag        the flag of a change or a search, in the fourth parameter
 -- asked       the number after it, which says what is asked: the rank of a change, the mask of a search
 -- tables      the table and the orientations of a search
+-- bodyTables  the same of the test for one body, in the fourth and fifth parameter
 -- lentText    the text in the first parameter
 -- readInto    the three slices that it is read into, in the next three
 use mathlib.Core.Path.{_≡_}
@@ -78,6 +79,9 @@ module _ {A : Type 0} where
 
   abbrev pub tables : Three (Slice × (ℕ × (Slice × (Slice × A)))) → List ℕ × List ℕ
   tables a = (now (a .1 .1 .1 .1 .1 .0), now (a .1 .1 .1 .1 .1 .1 .0))
+
+  abbrev pub bodyTables : Three (Slice × (Slice × A)) → List ℕ × List ℕ
+  bodyTables a = (now (a .1 .1 .1 .0), now (a .1 .1 .1 .1 .0))
 
   abbrev pub lentText : Slice × A → List ℕ
   lentText a = now (a .0)

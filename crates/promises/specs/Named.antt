@@ -17,12 +17,14 @@ use Rattle.order.specs.Lists.{Earlier, In, Ascending, occurs}
 use Rattle.listing.specs.declared.Answer.{Answer}
 use Rattle.listing.specs.Refusals.{noRanks, fallingEnds, notBounded, noSubs, noSups, subNotBack, supNotBack}
 use Rattle.listing.specs.Refusals.{subMissing, supMissing, thirdBetween, loneBetween, notAscending, notAFlag, moreFlags}
+use Rattle.listing.specs.Refusals.{severalParts}
 use Rattle.listing.specs.Answers.{plain, refusal}
 use Rattle.listing.specs.Listing.{Listing, rank, count, side, subs, sups}
 use Rattle.valid_incidence.specs.Incidence.{SubBack, SupBack, LowerAt, IncidentAt, Incident}
-use Rattle.valid_diamond.specs.Dyadic.{walk, LiesBetween, Distinct, MetTwiceAt}
+use Rattle.valid_diamond.specs.Dyadic.{walk, LiesBetween, MetTwiceAt}
 use Rattle.valid.specs.Bounds.{Bounded}
 use Rattle.valid.specs.Ascent.{AscendsAt}
+use Rattle.body_theory.specs.Pieces.{OnePiece}
 
 pub record FirstAt (L : Listing) (low : ℕ) (Good : ℕ → ℕ → Type 0) (r i : ℕ) : Type 0 where
   pub exists : i < count L r
@@ -78,6 +80,8 @@ pub data Named (h : ℕ) (L : Listing) : Answer → Type 0 where
       → Named h L (refusal notAscending r i s 0)
   -- 20 to 22 carry nothing
   of-flags : (n : ℕ) → notAFlag ≤ n → n ≤ moreFlags → Named h L (plain n)
+  -- 25 carries nothing: the flags are not in one piece
+  several-parts : ¬ OnePiece L → Named h L (plain severalParts)
 
 pub record ThreeOf (P : ℕ → Type 0) : Type 0 where
   pub one : ℕ

@@ -26,6 +26,7 @@ use Rattle.valid.proofs.closed.Reads as closed
 use Rattle.flag.proofs.change.Reads as change
 use Rattle.flag.proofs.Orientation.sign.Reads as sign
 use Rattle.search.proofs.search.Reads as search
+use Rattle.body.proofs.one_body.Reads as one-body
 use Rattle.product.proofs.duopyramid.Reads as duopyramid
 use Rattle.product.proofs.duoprism.Reads as duoprism
 use Rattle.product.proofs.duotegum.Reads as duotegum
@@ -45,13 +46,15 @@ use Rattle.flumedrac.proofs.fd_closed.Reads as fd-closed
 use Rattle.flumedrac.proofs.fd_change.Reads as fd-change
 use Rattle.flumedrac.proofs.fd_sign.Reads as fd-sign
 use Rattle.flumedrac.proofs.fd_search.Reads as fd-search
+use Rattle.flumedrac.proofs.fd_one_body.Reads as fd-one-body
 use Rattle.flumedrac.proofs.fd_duopyramid.Reads as fd-duopyramid
 use Rattle.flumedrac.proofs.fd_duoprism.Reads as fd-duoprism
 use Rattle.flumedrac.proofs.fd_duotegum.Reads as fd-duotegum
 use Rattle.flumedrac.proofs.fd_duocomb.Reads as fd-duocomb
 use Rattle.flumedrac.proofs.fd_read_text.Reads as fd-read-text
 use Rattle.flumedrac.proofs.fd_check_text.Reads as fd-check-text
-use Rattle.promises.specs.Entries.{Takes, SaysOfTwo, PassesOn, OneAnswer, OneOutcome, outputs, tables, readInto}
+use Rattle.promises.specs.Entries.{Takes, SaysOfTwo, PassesOn, OneAnswer, OneOutcome}
+use Rattle.promises.specs.Entries.{outputs, tables, bodyTables, readInto}
 
 pub record BoundaryTaken : Type 0 where
   -- counts, classes and tests
@@ -64,6 +67,8 @@ pub record BoundaryTaken : Type 0 where
   pub texts : Takes fd-read-text.Asked × Takes fd-check-text.Asked
   -- flags; of fd_next_event it stands in proofs/Cursor.antt
   pub flags : Takes fd-change.Asked × Takes fd-sign.Asked × Takes fd-search.Asked
+  -- the test for one body
+  pub bodies : Takes fd-one-body.Asked
 
 pub record Boundary : Type 0 where
   pub rank-passes : PassesOn fd-rank.Post rank.Post
@@ -77,6 +82,7 @@ pub record Boundary : Type 0 where
   pub closed-passes : PassesOn fd-closed.Post closed.Post
   pub change-passes : PassesOn fd-change.Post change.Post
   pub search-passes : PassesOn fd-search.Post search.Post
+  pub one-body-passes : PassesOn fd-one-body.Post one-body.Post
   pub duopyramid-passes : PassesOn fd-duopyramid.Post duopyramid.Post
   pub duoprism-passes : PassesOn fd-duoprism.Post duoprism.Post
   pub duotegum-passes : PassesOn fd-duotegum.Post duotegum.Post
@@ -105,6 +111,7 @@ pub record BoundaryOnce : Type 0 where
   pub one-fd-change : OneAnswer fd-change.Post
   pub one-fd-sign : OneAnswer fd-sign.Post
   pub one-fd-search : OneOutcome fd-search.Post tables
+  pub one-fd-one-body : OneOutcome fd-one-body.Post bodyTables
   pub one-fd-duopyramid : OneOutcome fd-duopyramid.Post outputs
   pub one-fd-duoprism : OneOutcome fd-duoprism.Post outputs
   pub one-fd-duotegum : OneOutcome fd-duotegum.Post outputs

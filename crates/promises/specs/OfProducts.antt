@@ -3,8 +3,9 @@
 -- Makes            a product refuses and writes as Produces says
 -- Carries          its refusals carry nothing, and what it answers is 0 where it is answered
 -- Keeps            what it wrote, where it is answered, is as Kept says: closed where its factors are closed and high
---                  enough; made of the pairs, a pair directly under another exactly if one member is equal and the
---                  other directly under; with the ends added; its lists in their order
+--                  enough; one body where both are one body and high enough for that; made of the pairs, a pair
+--                  directly under another exactly if one member is equal and the other directly under; with the ends
+--                  added; its lists in their order
 -- Swaps            two calls of it whose factors are exchanged are as Exchange says
 -- ProductsTaken    any slices are taken
 -- ProductsRefuse   which refusal comes exactly when, what it carries, and what is written
@@ -61,13 +62,15 @@ pub record ProductsRefuse : Type 0 where
   pub duocomb-plain : Carries duocomb.Post
 
 pub record ProductsKeep : Type 0 where
-  -- the duopyramid of closed factors is closed; it is all pairs, a step in one member being a step of the pair
+  -- the duopyramid of closed factors is closed, and of bodies one body; it is all pairs, a step in one member being a
+  -- step of the pair
   pub duopyramid-keeps : Keeps false false duopyramid.Post
   -- so is the duoprism, of ranks from 1; the added minimal element is under exactly the pairs of two vertices
   pub duoprism-keeps : Keeps true false duoprism.Post
   -- so is the duotegum, of ranks from 1; the added maximal element is over exactly the pairs of two facets
   pub duotegum-keeps : Keeps false true duotegum.Post
-  -- so is the duocomb, of ranks from 2 that together make at least 5, with both of them
+  -- so is the duocomb, with both of them: closed of ranks from 2 that together make at least 5, and one body of ranks
+  -- from 3
   pub duocomb-keeps : Keeps true true duocomb.Post
   -- exchanging the factors of a duopyramid only swaps the pairs; with as much room it is answered too
   pub duopyramid-swaps : Swaps false false duopyramid.Post

@@ -3,9 +3,10 @@
 --
 -- roomRules  the rules of a product whose output slices are as long as those of old
 -- Produces   which refusal comes when, and what is then in the output slices
--- Kept       what an answered product keeps: it is closed where its factors are closed and high enough; it is made of
---            the pairs in use, a pair directly under another exactly if one member is equal and the other directly
---            under, with the ends added; and its lists stand in their order, as Arranged says
+-- Kept       what an answered product keeps: it is closed where its factors are closed and high enough, and one body
+--            where both are one body and high enough for that; it is made of the pairs in use, a pair directly under
+--            another exactly if one member is equal and the other directly under, with the ends added; and its lists
+--            stand in their order, as Arranged says
 -- SameRoom   the output slices of two calls are equally long
 -- Exchange   of two calls, of A and B and of B and A: with as much room they answer the same where the factors are
 --            valid, and so one is answered if the other is; where both are, the second wrote the pairs of the first,
@@ -28,6 +29,8 @@ use Rattle.product_closure.specs.Result.{firstFactor, secondFactor, nullCase, r
 use Rattle.product_closure.specs.Pairs.{Matched, LowEnd, HighEnd, Swapped}
 use Rattle.product_closure.specs.Lists.{Arranged}
 use Rattle.product.specs.Rules.{productRules}
+use Rattle.body_theory.specs.Pieces.{OneBody}
+use Rattle.body_theory.specs.High.{HighForOne}
 
 abbrev pub roomRules : Bool → Bool → Listing → Listing → Listing → List Rule
 roomRules min max A B old =
@@ -40,6 +43,7 @@ pub record Produces (min max : Bool) (A B old new : Listing) (r : Built) : Type 
 
 pub record Kept (min max : Bool) (A B : Listing) (R : Listing) : Type 0 where
   pub closed : Closed limits A → Closed limits B → HighEnough min max (rank A) (rank B) → Closed limits R
+  pub one-body : OneBody limits A → OneBody limits B → HighForOne min max (rank A) (rank B) → OneBody limits R
   pub null-closed : nullCase min max A B ≡ true → Closed limits R
   pub framed : (bounded limits R .no ≡ 0) × (checkIncidences limits R .no ≡ 0)
   pub ranks : nullCase min max A B ≡ false → rank R ≡ rank A + rank B - bit min - bit max

@@ -4,6 +4,7 @@
 -- otherSquare   the same with the edges {0,2}, {1,2}, {0,3}, {1,3}
 -- fourOnTop     four vertices under the top
 -- threePyramid  the duopyramid of three vertices under a top with a point: an edge with three vertices
+-- twoTriangles  the duocomb of the dyad with the triangle: two triangles under one top
 -- prism         the duoprism of the dyad with the triangle, in this order
 -- twiceListed   an edge whose only vertex stands twice among its subs
 -- twicePyramid  the duopyramid of that with a point
@@ -21,6 +22,7 @@
 -- readAs        a text, with just the room that it takes; what reading it answers, the listing that it says, and what
 --               checking it answers
 -- unread        a text without any room; what reading it answers
+-- bodied        a listing, and room for so many flags; what the test for one body answers
 -- to            a change that is answered with a flag
 -- answered      the row with the answers that computing gives
 -- tried         the rows; beside each name of a refusal stands its number
@@ -32,7 +34,8 @@ use Prim.Native.String.{String, [] as none, _∷_ as _then_}
 use lib.ListN.{length}
 use Rattle.listing.specs.declared.Answer.{Answer}
 use Rattle.listing.specs.Refusals.{noRanks, overRanks, overElements, notBounded, subNotBack, subMissing, thirdBetween}
-use Rattle.listing.specs.Refusals.{loneBetween, notAscending, combOfPoint, outputShort, wrongKey, badLine, moreBytes}
+use Rattle.listing.specs.Refusals.{loneBetween, notAscending, moreFlags, severalParts, combOfPoint, outputShort}
+use Rattle.listing.specs.Refusals.{wrongKey, badLine, moreBytes}
 use Rattle.listing.specs.Answers.{refusal, plain, fine}
 use Rattle.listing.specs.Listing.{Listing, listing, limits}
 use Rattle.listing.specs.Cells.{nullitope, point, dyad, triangle, rankless, twoMinimal, threeOnTop, oneOnTop, struck}
@@ -44,6 +47,7 @@ use Rattle.text.specs.Texts.{readTest, checkTest}
 use Rattle.flag_change.specs.Change.{padded}
 use Rattle.flag.specs.declared.Changed.{Changed}
 use Rattle.flag.specs.Changed.{changedOf}
+use Rattle.body.specs.Body.{bodyTest}
 
 abbrev pub square : Listing
 square =
@@ -64,6 +68,14 @@ fourOnTop =
     listing (1 ∷ 4 ∷ 1 ∷ [])
     (0 ∷ 4 ∷ 5 ∷ 6 ∷ 7 ∷ 8 ∷ 9 ∷ 10 ∷ 11 ∷ 12 ∷ 16 ∷ 16 ∷ [])
     (0 ∷ 1 ∷ 2 ∷ 3 ∷ 0 ∷ 0 ∷ 0 ∷ 0 ∷ 0 ∷ 0 ∷ 0 ∷ 0 ∷ 0 ∷ 1 ∷ 2 ∷ 3 ∷ [])
+
+abbrev pub twoTriangles : Listing
+twoTriangles =
+    listing (1 ∷ 6 ∷ 6 ∷ 1 ∷ [])
+    (0 ∷ 6 ∷ 7 ∷ 9 ∷ 10 ∷ 12 ∷ 13 ∷ 15 ∷ 16 ∷ 18 ∷ 19 ∷ 21 ∷ 22 ∷ 24 ∷
+    26 ∷ 27 ∷ 29 ∷ 30 ∷ 32 ∷ 33 ∷ 35 ∷ 36 ∷ 38 ∷ 39 ∷ 41 ∷ 42 ∷ 48 ∷ 48 ∷ [])
+    (0 ∷ 1 ∷ 2 ∷ 3 ∷ 4 ∷ 5 ∷ 0 ∷ 0 ∷ 1 ∷ 0 ∷ 0 ∷ 2 ∷ 0 ∷ 1 ∷ 2 ∷ 0 ∷ 3 ∷ 4 ∷ 0 ∷ 3 ∷ 5 ∷ 0 ∷ 4 ∷ 5 ∷
+    0 ∷ 1 ∷ 0 ∷ 0 ∷ 2 ∷ 0 ∷ 1 ∷ 2 ∷ 0 ∷ 3 ∷ 4 ∷ 0 ∷ 3 ∷ 5 ∷ 0 ∷ 4 ∷ 5 ∷ 0 ∷ 0 ∷ 1 ∷ 2 ∷ 3 ∷ 4 ∷ 5 ∷ [])
 
 abbrev pub threePyramid : Listing
 threePyramid =
@@ -135,6 +147,7 @@ pub data Trial : Type 0 where
   readAs : List ℕ → Answer → Listing → Answer → Trial
   unread : List ℕ → Answer → Trial
   changed : Listing → List ℕ → ℕ → Changed → Trial
+  bodied : Listing → ℕ → Answer → Trial
 
 unfoldable pub answered : Trial → Trial
 answered (tested L v c) = tested L (isValid limits L) (closed limits L)
@@ -148,6 +161,7 @@ answered (readAs t a L c) =
     readAs t (readTest limits t (length (R .counts)) (length (R .ends)) (length (R .inc))) R (checkTest limits t)
 answered (unread t a) = unread t (readTest limits t 0 0 0)
 answered (changed L f r c) = changed L f r (changedOf limits L f r)
+answered (bodied L n a) = bodied L n (bodyTest limits L n)
 
 abbrev pub to : List ℕ → Changed
 to f = record { answer = fine; flag = padded f }
@@ -177,6 +191,7 @@ tried =
     combined false true dyad dyad fine otherSquare fine fine ∷
     -- 17 again: four vertices under the top
     combined true true dyad dyad fine fourOnTop fine (refusal thirdBetween 0 0 2 0) ∷
+    combined true true dyad triangle fine twoTriangles fine fine ∷
     -- 17, below the top too
     combined false false threeOnTop point fine threePyramid (refusal thirdBetween 0 0 2 0)
     (refusal thirdBetween 0 0 2 0) ∷
@@ -200,5 +215,13 @@ tried =
     unread (quoted "rank=0\ncount=1\nsubs=\n") (plain outputShort) ∷
     changed triangle (0 ∷ 0 ∷ 0 ∷ 0 ∷ []) 1 (to (0 ∷ 1 ∷ 0 ∷ 0 ∷ [])) ∷
     changed triangle (0 ∷ 0 ∷ 0 ∷ 0 ∷ []) 2 (to (0 ∷ 0 ∷ 1 ∷ 0 ∷ [])) ∷
+    -- moreFlags is 22, severalParts is 25
+    bodied nullitope 0 (plain moreFlags) ∷
+    bodied nullitope 1 fine ∷
+    bodied dyad 2 fine ∷
+    bodied triangle 6 fine ∷
+    bodied twoTriangles 11 (plain moreFlags) ∷
+    bodied twoTriangles 12 (plain severalParts) ∷
+    bodied threeOnTop 0 (refusal thirdBetween 0 0 2 0) ∷
     -- the insurer's cell: 18
     tested leakingBox fine (refusal loneBetween 2 0 4 0) ∷ []

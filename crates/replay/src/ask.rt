@@ -1,5 +1,6 @@
 // Each question read from its line and put to the function that it names. The functions are told apart by letters of
 // their names.
+use crate::bodies;
 use crate::cell;
 use crate::flags;
 use listing::Index;
@@ -41,7 +42,7 @@ fn is_on_flag(line: &[u8]) -> bool {
     }
 }
 
-// A question on one cell, and perhaps a flag.
+// A question on one cell, and perhaps a flag: a count, one on the flag, one_body, or another test.
 fn on_cell(line: &[u8], counts: &[Index], ends: &[Index], inc: &[Index], flag: &[Index]) {
     if is_count(line) {
         cell::count(line, counts);
@@ -49,6 +50,10 @@ fn on_cell(line: &[u8], counts: &[Index], ends: &[Index], inc: &[Index], flag: &
     }
     if is_on_flag(line) {
         on_flag(line, counts, ends, inc, flag);
+        return;
+    }
+    if text::letter(line, 0) == b'o' {
+        bodies::one_body(line, counts, ends, inc);
         return;
     }
     cell::test(line, counts, ends, inc);

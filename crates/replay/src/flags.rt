@@ -33,7 +33,7 @@ fn room_asked(line: &[u8], k: usize) -> u64 {
 }
 
 // What a search answered.
-fn searched(s: Searched) {
+pub fn searched(s: Searched) {
     say::answer(s.answer);
     say::number(s.count as u64);
     say::number(s.place as u64);

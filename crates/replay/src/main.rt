@@ -2,6 +2,7 @@
 // are empty or begin with '#' come back as they are. The lines expected are answers of the Rust program, and answers
 // by the rules where the Rust has none.
 mod ask;
+mod bodies;
 mod cell;
 mod flags;
 

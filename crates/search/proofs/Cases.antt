@@ -168,7 +168,7 @@ module _ {m : Limits} {L : Listing} {first : List ℕ} {mask : ℕ} (T : Searcha
     (E : Ended (length (L .counts)) (roomIn m L table bytes) table bytes table′ bytes′ p (S T table bytes))
     (fits : (roomIn m L table bytes * length (L .counts) ≤ length table) × (roomIn m L table bytes ≤ length bytes))
   where
-    count-found : length (S T table bytes .found) ≡ p .count
+    pub count-found : length (S T table bytes .found) ≡ p .count
     unfolding stateOf
     count-found = rw (← ap (λ s. s .found) (E .state)) (rows-length (length (L .counts)) table′ (p .count))
 

@@ -25,7 +25,7 @@ use Rattle.search.proofs.Leads.{overflow-more}
 use Rattle.search.proofs.Cases.{answer-none, answer-some}
 
 -- the answer of a search is the first refusal
-answer-of : (a : Answer) (s : State (List ℕ)) → searchedOf a s .answer ≡ a
+pub answer-of : (a : Answer) (s : State (List ℕ)) → searchedOf a s .answer ≡ a
 answer-of a s =
     ⊎-elim (λ z. ap (λ r. r .answer) (sym (answer-some a s z))) (λ h. ap (λ r. r .answer) (sym (answer-none a s h)))
     (zero-or (a .no))

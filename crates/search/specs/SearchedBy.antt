@@ -2,6 +2,7 @@
 --
 -- refusedAs     the answer of a refusal: all numbers are 0
 -- foundAs       the answer of a search that came to its end
+-- searchedAs    the answer by its refusal: a refusal's, or that of a search that found so many flags
 -- roomOf        how many flags there is room for: the whole flags that fit the table, the bytes, the limit
 -- searchTest    the refusals in their order: those of the closed test, 20, 21, and 22 exactly if there are more than
 --               room
@@ -33,6 +34,9 @@ refusedAs a = record { answer = a; count = 0; place = 0; orientable = 0 }
 abbrev pub foundAs : Answer → ℕ → ℕ → Searched
 foundAs a count place = record { answer = a; count = count; place = place; orientable = cond (eqb place 0) 1 0 }
 
+abbrev pub searchedAs : Answer → ℕ → ℕ → Searched
+searchedAs a count place = ifZero (a .no) (foundAs a count place) (refusedAs a)
+
 unfoldable pub roomOf : Limits → Listing → ℕ → ℕ → ℕ
 roomOf m L table bytes = min (min (table / (rank L + 1)) bytes) (m .flags)
 
@@ -43,7 +47,7 @@ searchTest m L first mask room =
     on (foundBy L first mask room .overflow) (plain moreFlags)
 
 unfoldable pub searchedOf : Answer → State (List ℕ) → Searched
-searchedOf a s = ifZero (a .no) (foundAs a (length (s .found)) (s .place)) (refusedAs a)
+searchedOf a s = searchedAs a (length (s .found)) (s .place)
 
 unfoldable pub leftAfter : Answer → List ℕ → List ℕ → List ℕ
 leftAfter a new old = cond (eqb (a .no) 0 || eqb (a .no) moreFlags) (over new old) old

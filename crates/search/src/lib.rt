@@ -1,5 +1,5 @@
 // The search for the flags of a cell that changes lead to from a first flag, and for an orientation of them.
-mod answer;
+pub mod answer;
 
 use flag_change::chain;
 use listing::Answer;

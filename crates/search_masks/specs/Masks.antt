@@ -4,12 +4,13 @@
 -- InMask       a mask asks for the change at rank r
 -- InnerRanks   it asks for changes at ranks from 1 to rank - 1 only
 -- maskFits     whether it does, by looking
+-- everyRank    the mask that asks for every change of a cell of that rank: at 1 to rank - 1
 -- bitsIn       the set bits of a number among its k lowest, upward, each b more than its place
 -- ranksOf      the ranks that a mask asks for, from the lowest upward
 use mathlib.Core.Path.{_≡_}
 use mathlib.Core.Bool.{Bool, cond, _&&_, _||_}
 use mathlib.Core.List.{List, [], _∷_}
-use Prim.Native.Nat.{ℕ, zero, suc, _+_, _/_, _%_, _^_, _<_}
+use Prim.Native.Nat.{ℕ, zero, suc, _+_, _-_, _/_, _%_, _^_, _<_}
 use lib.Dec.{eqb, ltb}
 use Rattle.order.specs.Tests.{every}
 use Rattle.listing.specs.Listing.{limits}
@@ -25,6 +26,9 @@ InnerRanks rank mask = (r : ℕ) → InMask mask r → (0 < r) × (r < rank)
 
 unfoldable pub maskFits : ℕ → ℕ → Bool
 maskFits rank mask = every (λ r. eqb (bitAt mask r) 0 || (ltb 0 r && ltb r rank)) (limits .ranks)
+
+abbrev pub everyRank : ℕ → ℕ
+everyRank rank = 2 ^ rank - 2
 
 unfoldable pub bitsIn : ℕ → ℕ → ℕ → List ℕ
 bitsIn zero b n = []

@@ -7,7 +7,7 @@ ghost use Prim.Native.Nat.{_-_, _^_, _≤_, _<_};
 ghost use lib.Dec.{eqb, ltb};
 ghost use lib.Count.{trailingZeros};
 ghost use Rattle.listing.specs.Listing.{limits};
-ghost use Rattle.search_masks.specs.Masks.{bitAt, maskFits};
+ghost use Rattle.search_masks.specs.Masks.{bitAt, maskFits, everyRank};
 
 // How many bits a mask has: one for each rank.
 const BITS: u16 = limit::RANKS as u16;
@@ -46,6 +46,17 @@ pub fn fits(mask: u16, rank: usize) -> bool
         r += 1;
     }
     true
+}
+
+// The mask that asks for every change of a cell of that rank: at 1 to rank - 1.
+pub fn every(rank: usize) -> u16
+    requires { ⌜ rank < limits .ranks ⌝ }
+    ensures { λ m. ⌜ m ≡ everyRank rank ⌝ }
+{
+    if rank == 0 {
+        return 0;
+    }
+    (1u16 << rank) - 2
 }
 
 // Whether any change is left.

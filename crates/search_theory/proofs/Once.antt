@@ -2,12 +2,13 @@
 -- Assumes nothing.
 use mathlib.Core.Path.{_≡_, refl, sym, _∙_}
 use mathlib.Core.Logic.{_≢_, ⊎-elim}
-use mathlib.Core.List.{List, [], _∷_, _++_, List·Memᴰ, List·Memᴰ·head, List·Memᴰ·tail, List·Memᴰ·not-nil}
+use mathlib.Core.List.{List, [], _∷_, _++_, map, List·Memᴰ, List·Memᴰ·head, List·Memᴰ·tail, List·Memᴰ·not-nil}
 use mathlib.Core.List.{List·Memᴰ·cases-cons, Memᴰ·cast, List·Memᴰ·append-cases, List·Memᴰ·eq-of-singleton}
+use mathlib.Core.List.{Memᴰ·of-map}
 use Prim.Native.Nat.{ℕ, zero, suc, _≤_, _<_}
 use native.Mathlib.Nat.{le-of-suc-le-suc, not-suc-le-zero}
 use native.Mathlib.Omega.{arith}
-use lib.ListN.{length, getD, length-append}
+use lib.ListN.{length, getD, take, length-append}
 use Rattle.search_theory.specs.Search.{Once}
 
 module _ {A : Type 0} where
@@ -23,6 +24,12 @@ module _ {A : Type 0} where
   at-in l d y (List·Memᴰ·head e) = (0, omega arith, sym e)
   at-in l d y (List·Memᴰ·tail {xs = m} h) = let p = at-in m d y h in (suc (p .0), omega arith, p .2)
 
+  pub take-mem : {x : A} (n : ℕ) (l : List A) → List·Memᴰ x (take n l) → List·Memᴰ x l
+  take-mem zero l h = absurd (List·Memᴰ·not-nil h)
+  take-mem (suc n) [] h = h
+  take-mem (suc n) (y ∷ l) h =
+      ⊎-elim List·Memᴰ·head (λ k. List·Memᴰ·tail (take-mem n l k)) (List·Memᴰ·cases-cons h)
+
   pub once-snoc : (l : List A) (y : A) → Once l → ¬ List·Memᴰ y l → Once (l ++ (y ∷ []))
   unfolding Once
   once-snoc [] y o n = (List·Memᴰ·not-nil, tt)
@@ -31,6 +38,31 @@ module _ {A : Type 0} where
     where
       last : List·Memᴰ x (y ∷ []) → ⊥
       last m = n (List·Memᴰ·head (sym (List·Memᴰ·eq-of-singleton m)))
+
+  -- two lists that share nothing, one after another
+  pub once-append : (l m : List A) → Once l → Once m → ((x : A) → List·Memᴰ x l → ¬ List·Memᴰ x m) → Once (l ++ m)
+  unfolding Once
+  once-append [] m o p d = p
+  once-append (x ∷ l) m o p d = (
+    λ h. ⊎-elim (o .0) (d x (List·Memᴰ·head refl)) (List·Memᴰ·append-cases l h),
+    once-append l m (o .1) p (λ y k. d y (List·Memᴰ·tail k)),
+  )
+
+  -- the images of different things, where these are different too
+  pub once-map : {B : Type 0} (f : A → B) → ((x y : A) → f x ≡ f y → x ≡ y) → (l : List A) → Once l → Once (map f l)
+  unfolding Once
+  once-map f inj [] o = tt
+  once-map f inj (x ∷ l) o = (
+    λ h. let t = Memᴰ·of-map f l h in o .0 (Memᴰ·cast (inj x (t .0) (sym (t .2))) (t .1)),
+    once-map f inj l (o .1),
+  )
+
+  -- the first n
+  pub once-take : (n : ℕ) (l : List A) → Once l → Once (take n l)
+  unfolding Once
+  once-take zero l o = tt
+  once-take (suc n) [] o = tt
+  once-take (suc n) (x ∷ l) o = (λ h. o .0 (take-mem n l h), once-take n l (o .1))
 
   -- a list without one of its members
   record Without (l : List A) (x : A) : Type 0 where

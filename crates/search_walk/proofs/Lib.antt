@@ -1,4 +1,3 @@
-pub mod Begins
 pub mod AtHand
 pub mod Neighbours
 pub mod Works

@@ -1,4 +1,4 @@
-// A tour: the tests, the products and the search on cells by name, a row of a table for each.
+// A tour: the tests and the products on cells by name, a row of a table for each.
 mod made;
 mod names;
 mod row;
@@ -133,6 +133,7 @@ fn small_and_made(
     made::show(names::PRISM_N_T, true, false, nc, ne, ni, tc, te, ti);
     made::show(names::TEGUM_D_D, false, true, dc, de, di, dc, de, di);
     made::show(names::COMB_D_D, true, true, dc, de, di, dc, de, di);
+    made::show(names::COMB_D_T, true, true, dc, de, di, tc, te, ti);
     made::show(names::COMB_P_P, true, true, pc, pe, pi, pc, pe, pi);
     made::show(names::COMB_T_T, true, true, tc, te, ti, tc, te, ti);
 }
@@ -158,10 +159,10 @@ fn small() {
 // What comes before the table, with the heads of its columns.
 fn headline() {
     print::text(
-        b"Is the cell closed? is_valid is the old test; closed also looks at the cell as a whole.
+        b"Is the cell closed, and one body? is_valid is the old test; closed also looks at the cell as a whole.
 Elements are counted by rank, from the smallest element to the whole. Refusals: docs/REFUSALS.md.
 
-cell                            elements       is_valid  flags  orientable  closed
+cell                            elements       is_valid  flags  orientable  closed, one body
 ",
     );
 }
@@ -173,7 +174,9 @@ fn last_words() {
 What let the insurer's cell through: is_valid asks for two elements in between only below the cell
 itself, so an edge that lies in only one of its faces goes unseen; closed asks up to the cell itself.
 Products keep cells closed: a product of two closed cells is closed again, which is proved once for
-all four, and the one exception is the duocomb of two dyads.
+all four, and the one exception is the duocomb of two dyads. A product of two cells that are one body
+is one body too, the duocomb only from polygons on: duocomb(D, T) is two separate parts, two triangles
+under one top.
 ",
     );
 }

@@ -32,6 +32,8 @@ pub const TEGUM_D_D: Name = *b"duotegum(D, D)                ";
 
 pub const COMB_D_D: Name = *b"duocomb(D, D)                 ";
 
+pub const COMB_D_T: Name = *b"duocomb(D, T)                 ";
+
 pub const COMB_P_P: Name = *b"duocomb(P, P)                 ";
 
 pub const COMB_T_T: Name = *b"duocomb(T, T)                 ";

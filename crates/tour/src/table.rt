@@ -1,4 +1,4 @@
-// A table of cells, a row for each: its name, its elements by rank, is_valid, flags, orientable, closed.
+// A table of cells, a row for each: its name, its elements by rank, is_valid, flags, orientable, closed and one body.
 use listing::Answer;
 use listing::Index;
 use listing::inner;
@@ -59,14 +59,14 @@ fn flags(count: u16, orientable: u8) {
 }
 
 // A cell: its counts, the number that is_valid answers, its flags, 0 if none were counted, whether it is orientable,
-// and what closed answers.
-pub fn row(name: Name, counts: &[Index], verdict: u16, count: u16, orientable: u8, closed: Answer) {
+// and what one_body answers.
+pub fn row(name: Name, counts: &[Index], verdict: u16, count: u16, orientable: u8, body: Answer) {
     text(&name);
     blank();
     elements(counts);
     valid(verdict);
     flags(count, orientable);
-    tour_words::verdict(closed, counts);
+    tour_words::verdict(body, counts);
     end();
 }
 

@@ -85,6 +85,8 @@ fn not_ascending(a: Answer) {
 fn other(no: u16) {
     if no == refusal::COMB_OF_POINT {
         text(b"not built: a duocomb of a point");
+    } else if no == refusal::SEVERAL_PARTS {
+        text(b"closed, but in separate parts");
     } else {
         text(b"refused");
     }

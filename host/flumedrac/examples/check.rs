@@ -1,5 +1,6 @@
-//! Tests cells that are written as texts: the files that are named or, where none is, standard input. Says of each the
-//! number of what refuses it, 0 for nothing, and a sentence. Ends with status 1 where something is refused.
+//! Tests cells that are written as texts, whether they are closed and one body: the files that are named or, where none
+//! is, standard input. Says of each the number of what refuses it, 0 for nothing, and a sentence. Ends with status 1
+//! where something is refused.
 //!
 //!   cargo run --release --example check -- box.txt prism.txt
 
@@ -7,7 +8,7 @@ use std::fs::File;
 use std::io::{self, Read};
 use std::process::ExitCode;
 
-use flumedrac::{check_text, MAX_TEXT};
+use flumedrac::{Listing, Refusal, MAX_FLAGS, MAX_TEXT};
 
 /// A text, as far as one is looked at: of one that is too long a single byte more than it may have.
 fn text(from: impl Read) -> io::Result<Vec<u8>> {
@@ -16,15 +17,23 @@ fn text(from: impl Read) -> io::Result<Vec<u8>> {
     Ok(text)
 }
 
-/// Says what is found, and whether the cell is closed.
+/// What refuses the text, or the cell in it as closed, or as one body.
+fn refused(text: &[u8]) -> Option<Refusal> {
+    Listing::read_text(text).and_then(|cell| cell.one_body(MAX_FLAGS)).err()
+}
+
+/// Says what is found, and whether the cell is closed and one body.
 fn check(name: &str, text: io::Result<Vec<u8>>) -> bool {
-    let found = text.map(|text| check_text(&text));
+    let found = text.map(|text| refused(&text));
     match &found {
-        Ok(Ok(())) => println!("{name}: 0, the cell is closed"),
-        Ok(Err(refusal)) => println!("{name}: {}, {refusal}", refusal.number()),
+        Ok(None) => println!("{name}: 0, the cell is closed and one body"),
+        Ok(Some(refusal @ (Refusal::MoreFlags | Refusal::SeveralParts))) => {
+            println!("{name}: {}, the cell is closed, but {refusal}", refusal.number())
+        }
+        Ok(Some(refusal)) => println!("{name}: {}, {refusal}", refusal.number()),
         Err(trouble) => eprintln!("{name}: {trouble}"),
     }
-    matches!(found, Ok(Ok(())))
+    matches!(found, Ok(None))
 }
 
 fn main() -> ExitCode {

@@ -39,7 +39,8 @@ impl Listing {
     }
 
     /// Whether the listing is a closed cell: bounded, its incidences right, every list ascending, and exactly two
-    /// elements between any two that are two ranks apart, up to the top.
+    /// elements between any two that are two ranks apart, up to the top. Several cells under one top are closed too:
+    /// [`one_body`](Listing::one_body) asks that there is one.
     ///
     /// ```
     /// use flumedrac::Listing;

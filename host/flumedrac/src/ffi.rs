@@ -41,7 +41,7 @@ pub struct Changed {
     pub flag: [u16; MAX_RANKS],
 }
 
-/// What a search found; all 0 on a refusal. `fd_searched` in C.
+/// What a search found, or the test for one body; all 0 on a refusal. `fd_searched` in C.
 #[repr(C)]
 #[derive(Clone, Copy, Debug, Default, PartialEq, Eq)]
 pub struct Searched {
@@ -116,6 +116,13 @@ macro_rules! functions {
             pub fn fd_search(
                 counts: *const u16, counts_len: usize, ends: *const u16, ends_len: usize,
                 inc: *const u16, inc_len: usize, first: *const u16, first_len: usize, mask: u16,
+                table: *mut u16, table_len: usize, orientations: *mut u8, orientations_len: usize,
+            ) -> Searched;
+
+            /// `fd_one_body` in C: whether a closed listing is one body, by a search with every change.
+            pub fn fd_one_body(
+                counts: *const u16, counts_len: usize, ends: *const u16, ends_len: usize,
+                inc: *const u16, inc_len: usize,
                 table: *mut u16, table_len: usize, orientations: *mut u8, orientations_len: usize,
             ) -> Searched;
 

@@ -3,7 +3,8 @@
 use std::iter::FusedIterator;
 use std::ops::Deref;
 
-use crate::{ffi, raw, Listing, Refusal, MAX_FLAGS};
+use crate::ffi::{self, Searched};
+use crate::{raw, Listing, Refusal, MAX_FLAGS};
 
 /// One index for each rank, rank 0 first. Whether it is a flag of a listing is seen where it is used.
 #[derive(Clone, Debug, PartialEq, Eq, Hash, PartialOrd, Ord)]
@@ -166,11 +167,40 @@ impl Listing {
     /// # Ok::<(), Refusal>(())
     /// ```
     pub fn search(&self, first: &[u16], mask: u16, room: usize) -> Result<Search, Refusal> {
+        self.searched(room, |table, orientations| raw::search(self.slices(), first, mask, table, orientations))
+    }
+
+    /// Whether the listing is [closed](Listing::closed) and one body: changes at single ranks lead from any of its
+    /// flags to every other. What is answered is the search by all changes, which then finds every flag. It begins with
+    /// the flag of first sups: element 0 of rank 0, and upward the first sup each time.
+    ///
+    /// It needs room for all flags, and there is never room for more than 16,384: a listing that has more is refused as
+    /// [`MoreFlags`](Refusal::MoreFlags), whether or not it is one body. One whose flags are in several parts is
+    /// refused as [`SeveralParts`](Refusal::SeveralParts). After either, [`raw::one_body`] leaves the flags that the
+    /// search found in the slices it is lent.
+    ///
+    /// ```
+    /// use flumedrac::{duocomb, Listing, Refusal};
+    /// let triangle = Listing::polygon(3)?;
+    /// assert_eq!(triangle.one_body(6)?.len(), 6);
+    /// // Two separate triangles under one top are closed, and not one body.
+    /// let two = duocomb(&Listing::dyad(), &triangle)?;
+    /// assert_eq!(two.closed(), Ok(()));
+    /// assert_eq!(two.one_body(12), Err(Refusal::SeveralParts));
+    /// assert_eq!(two.one_body(11), Err(Refusal::MoreFlags));
+    /// # Ok::<(), Refusal>(())
+    /// ```
+    pub fn one_body(&self, room: usize) -> Result<Search, Refusal> {
+        self.searched(room, |table, orientations| raw::one_body(self.slices(), table, orientations))
+    }
+
+    /// What a function of [`raw`] finds that is lent room for so many flags.
+    fn searched(&self, room: usize, search: impl FnOnce(&mut [u16], &mut [u8]) -> Searched) -> Result<Search, Refusal> {
         let width = self.rank() + 1;
         let room = room.min(MAX_FLAGS);
         let mut table = vec![0; room * width];
         let mut orientations = vec![0; room];
-        let searched = raw::search(self.slices(), first, mask, &mut table, &mut orientations);
+        let searched = search(&mut table, &mut orientations);
         Refusal::check(searched.answer)?;
         table.truncate(searched.count as usize * width);
         orientations.truncate(searched.count as usize);
@@ -297,6 +327,20 @@ mod tests {
                 assert_eq!((events.next(), events.len()), (None, 0));
             }
         }
+    }
+
+    /// The test for one body answers the search by all changes from the flag of first sups, which is another than that
+    /// of first subs; room for a flag less is too little.
+    #[test]
+    fn bodies_are_searched() {
+        for (cell, first) in [(Listing::point(), vec![0, 0]), (hemicube(), vec![0, 0, 0, 1, 0])] {
+            let body = cell.one_body(100).unwrap();
+            assert_eq!(Ok(&body), cell.search(&first, cell.all_changes(), 100).as_ref());
+            assert_eq!(body.flags().next(), Some((&first[..], Orientation::Even)));
+            assert_eq!(cell.one_body(body.len()).as_ref(), Ok(&body));
+            assert_eq!(cell.one_body(body.len() - 1), Err(Refusal::MoreFlags));
+        }
+        assert_ne!(hemicube().first_flag(), Some(Flag::from([0, 0, 0, 1, 0])));
     }
 
     /// The first flag of a closed cell is one: the library takes it.

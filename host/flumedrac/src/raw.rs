@@ -102,6 +102,18 @@ pub fn search(l: Slices<'_>, first: &[u16], mask: u16, table: &mut [u16], orient
     }
 }
 
+/// What `fd_one_body` answers, with the flags of one part in `table` and their orientations in `orientations`.
+#[rustfmt::skip]
+pub fn one_body(l: Slices<'_>, table: &mut [u16], orientations: &mut [u8]) -> Searched {
+    // Safety: each slice is its pointer and its length; those lent to be written overlap no other.
+    unsafe {
+        ffi::fd_one_body(
+            l.counts.as_ptr(), l.counts.len(), l.ends.as_ptr(), l.ends.len(), l.inc.as_ptr(), l.inc.len(),
+            table.as_mut_ptr(), table.len(), orientations.as_mut_ptr(), orientations.len(),
+        )
+    }
+}
+
 /// What `fd_sign` answers.
 pub fn sign(orientation: u8) -> f64 {
     // Safety: numbers only.

@@ -147,8 +147,10 @@ pub enum Refusal {
     NotAFlag,
     /// 21: a change outside the ranks 1 to one less than the rank.
     OutsideRanks,
-    /// 22: more flags can be reached than there is room for.
+    /// 22: more flags than there is room for: that a search reaches, or that there are in all.
     MoreFlags,
+    /// 25: the flags are in several parts.
+    SeveralParts,
     /// 30: the left factor of a product is not valid.
     LeftInvalid,
     /// 31: the right factor of a product is not valid.
@@ -203,6 +205,7 @@ impl Refusal {
             NotAFlag => 20,
             OutsideRanks => 21,
             MoreFlags => 22,
+            SeveralParts => 25,
             LeftInvalid => 30,
             RightInvalid => 31,
             CombOfPoint => 32,
@@ -264,6 +267,7 @@ impl Refusal {
             20 => NotAFlag,
             21 => OutsideRanks,
             22 => MoreFlags,
+            25 => SeveralParts,
             30 => LeftInvalid,
             31 => RightInvalid,
             32 => CombOfPoint,
@@ -329,7 +333,8 @@ impl fmt::Display for Refusal {
             }
             NotAFlag => write!(f, "this is not a flag of the listing"),
             OutsideRanks => write!(f, "a change lies outside the ranks 1 to one less than the rank"),
-            MoreFlags => write!(f, "more flags can be reached than there is room for"),
+            MoreFlags => write!(f, "there are more flags than there is room for"),
+            SeveralParts => write!(f, "the flags are in several parts: the cell is not one body"),
             LeftInvalid => write!(f, "the left factor is not valid"),
             RightInvalid => write!(f, "the right factor is not valid"),
             CombOfPoint => write!(f, "there is no duocomb with a point"),
@@ -365,7 +370,7 @@ mod tests {
             assert_eq!(refusal.number(), no);
             assert_eq!(refusal.class() as u16, crate::raw::class(no));
             let known = !matches!(refusal, Unknown { .. });
-            assert_eq!(known, matches!(no, 1..=6 | 10..=22 | 30..=36 | 40..=43));
+            assert_eq!(known, matches!(no, 1..=6 | 10..=22 | 25 | 30..=36 | 40..=43));
             if known {
                 assert!(seen.insert(refusal.to_string()), "{refusal} is said twice");
             }

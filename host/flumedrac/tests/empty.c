@@ -50,7 +50,9 @@ int main(void)
     printf("%d %d\n", fd_closed(NOTHING).no, fd_closed(NULLITOPE).no);
     printf("%d %d ", fd_change(NOTHING, NONE, 1).answer.no, fd_change(NULLITOPE, NONE, 1).answer.no);
     printf("%d ", fd_search(NOTHING, NONE, 0, NO_ROOM, NO_BYTES).answer.no);
-    printf("%d\n", fd_search(NULLITOPE, flag, 1, 0, NO_ROOM, NO_BYTES).answer.no);
+    printf("%d ", fd_search(NULLITOPE, flag, 1, 0, NO_ROOM, NO_BYTES).answer.no);
+    printf("%d ", fd_one_body(NOTHING, NO_ROOM, NO_BYTES).answer.no);
+    printf("%d\n", fd_one_body(NULLITOPE, NO_ROOM, NO_BYTES).answer.no);
     printf("%d ", fd_duopyramid(NULLITOPE, NULLITOPE, NO_OUTPUT).answer.no);
     printf("%d ", fd_duotegum(NULLITOPE, NULLITOPE, NO_OUTPUT).answer.no);
     printf("%d ", fd_duocomb(NOTHING, NULLITOPE, NO_OUTPUT).answer.no);

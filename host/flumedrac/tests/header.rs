@@ -218,7 +218,7 @@ fn empty_slices_from_c_and_cpp() {
     for language in [C99, C11, CPP11, CPP17] {
         let (calls, stubs) = (own("tests/empty.c"), own("tests/stubs.c"));
         let said = language.prints(&calls, archive());
-        let numbers = "1 1 1 1\n1 0 1 0 1 0 1 0 1 0\n1 20 1 22\n36 36 30 0 1 2 0\n40 36 0 1 0 0 40 10\n0 0\n";
+        let numbers = "1 1 1 1\n1 0 1 0 1 0 1 0 1 0\n1 20 1 22 1 22\n36 36 30 0 1 2 0\n40 36 0 1 0 0 40 10\n0 0\n";
         assert_eq!(said, numbers, "{}", language.standard);
         let given = language.prints(&calls, &stubs);
         assert!(given.split_whitespace().all(|number| number == "0"), "{}: {given}", language.standard);
@@ -238,7 +238,7 @@ fn texts_in_the_papers() {
     assert_eq!(written(own("../README.md"), "The triangle:\n\n", "    "), Listing::polygon(3));
 }
 
-/// The C examples say what is wrong with their cell.
+/// The C examples say what is wrong with their cells.
 #[test]
 fn examples_in_c() {
     assert_eq!(
@@ -253,5 +253,11 @@ fn examples_in_c() {
         "check_text: 18, only one element lies between two that are two ranks apart\n\
          read_text: 5 ranks, 15 elements, 56 incidences\n\
          closed: edge 3 lies in only one face\n"
+    );
+    assert_eq!(
+        C99.prints(&own("examples/body.c"), archive()),
+        "a duoprism: 4 vertices, 4 edges\n  closed: nothing is refused\n  one_body: nothing is refused, 8 flags\n\
+         a duocomb: 6 vertices, 6 edges\n  closed: nothing is refused\n  \
+         one_body: the flags are in several parts: the cell is not one body\n"
     );
 }

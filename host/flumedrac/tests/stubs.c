@@ -24,6 +24,13 @@ static fd_number counted(int null)
     return number;
 }
 
+static fd_searched found(int null)
+{
+    fd_searched searched = {{0, 0, 0, 0, 0}, 0, 0, 0};
+    searched.answer = said(null);
+    return searched;
+}
+
 static fd_built wrote(int null)
 {
     fd_built built = {{0, 0, 0, 0, 0}, 0, 0, 0};
@@ -70,10 +77,12 @@ fd_changed(fd_change)(LISTING(), SLICE(const uint16_t, flag), uint16_t r)
 fd_searched(fd_search)(LISTING(), SLICE(const uint16_t, first), uint16_t mask, SLICE(uint16_t, table),
                        SLICE(uint8_t, orientations))
 {
-    fd_searched searched = {{0, 0, 0, 0, 0}, 0, 0, 0};
-    searched.answer = said(NO_LISTING() || NO_POINTER(first) || NO_POINTER(table) || NO_POINTER(orientations));
-    searched.count = mask;
-    return searched;
+    return found(NO_LISTING() || NO_POINTER(first) || mask > 100 || NO_POINTER(table) || NO_POINTER(orientations));
+}
+
+fd_searched(fd_one_body)(LISTING(), SLICE(uint16_t, table), SLICE(uint8_t, orientations))
+{
+    return found(NO_LISTING() || NO_POINTER(table) || NO_POINTER(orientations));
 }
 
 fd_built(fd_read_text)(SLICE(const uint8_t, text), OUTPUT)

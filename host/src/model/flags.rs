@@ -30,7 +30,7 @@ impl Model {
     }
 
     /// The flag of a closed listing changed at a rank from 1 to rank - 1.
-    fn changed(&self, cell: &Layers<'_>, flag: &[u16], r: usize) -> Vec<u16> {
+    pub(super) fn changed(&self, cell: &Layers<'_>, flag: &[u16], r: usize) -> Vec<u16> {
         let mut next = flag.to_vec();
         let (below, above) = (flag[r - 1], flag[r + 1]);
         let between = |&&x: &&u16| cell[r][x as usize].subs.contains(&below) && x != flag[r];

@@ -2,8 +2,9 @@
 //!
 //! It is there to try the harness: without faults it must agree with the Rust files everywhere, and with any one of the
 //! faults in [`Break`] it must be caught. Here are the model, its faults, the counts and the classes; `tests`, `flags`,
-//! `products` and `texts` have the rest.
+//! `bodies`, `products` and `texts` have the rest.
 
+mod bodies;
 mod flags;
 mod products;
 mod tests;
@@ -111,6 +112,40 @@ breaks! {
     OneFlag "one-flag-repeated",
     /// The flags' limit is one less.
     FlagsOneLess "flags-one-less",
+    /// one_body asks is_valid and not closed.
+    BodyByValid "body-by-is-valid",
+    /// one_body drops the fields of what closed refuses.
+    BodyNoFields "body-without-fields",
+    /// The search of one_body begins with the flag of first subs.
+    BodyFromSubs "body-from-subs",
+    /// The search of one_body begins with the flag of last sups.
+    BodyFromLastSups "body-from-last-sups",
+    /// The search of one_body leaves out the change at the highest rank.
+    BodyMaskShort "body-mask-short",
+    /// 22 of one_body goes by the flags that the search reaches.
+    BodyByReached "body-by-reached",
+    /// one_body counts flags in 16 bits.
+    BodyWraps16 "body-wraps-16",
+    /// one_body counts flags in 32 bits.
+    BodyWraps32 "body-wraps-32",
+    /// one_body refuses flags that just fit.
+    BodyFullRefused "body-full-refused",
+    /// The room of one_body has no other limits than the slices.
+    BodyRoomFree "body-room-free",
+    /// 25 comes before 22.
+    PartsBeforeMore "25-before-22",
+    /// Flags that share a vertex are in one part.
+    PartsByVertex "parts-by-vertex",
+    /// A cell with a face in several parts is refused as 25.
+    PartsOfFaces "parts-of-faces",
+    /// 25 is not asked.
+    PartsFree "25-not-asked",
+    /// 25 writes nothing.
+    PartsWriteNothing "25-writes-nothing",
+    /// 22 of one_body writes nothing.
+    BodyMoreWritesNothing "body-22-writes-nothing",
+    /// Beside 22 and 25 of one_body stand the numbers of the search.
+    BodyKeepsNumbers "body-keeps-numbers",
     /// The cursor runs on past the last event.
     CursorRunsOn "cursor-runs-on",
     /// The cursor gives one event and then none.
@@ -316,6 +351,10 @@ impl Library for Model {
 
     fn search(&self, l: Slices<'_>, first: &[u16], mask: u16, table: &mut [u16], orientations: &mut [u8]) -> Searched {
         self.answer_search(l, first, mask, table, orientations)
+    }
+
+    fn one_body(&self, l: Slices<'_>, table: &mut [u16], orientations: &mut [u8]) -> Searched {
+        self.answer_body(l, table, orientations)
     }
 
     fn sign(&self, orientation: u8) -> f64 {

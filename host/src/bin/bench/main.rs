@@ -14,8 +14,9 @@
 //! prints no tables, but reads the names of rows, a line each, and says how many seconds its own archive takes for
 //! that row, or a dash if it has none of that name.
 //!
-//! The Rust files have no texts: reading one is measured beside a plain parser in Rust. Where the program `cellcheck`
-//! was made, whole processes are measured too, by the clock on the wall.
+//! The Rust files have no texts: reading one is measured beside a plain parser in Rust. They have no test for one body:
+//! it is measured beside our own search by every change from the same flag, in a table of its own. Where the program
+//! `cellcheck` was made, whole processes are measured too, by the clock on the wall.
 
 mod partner;
 mod processes;
@@ -159,6 +160,22 @@ fn full_tables(rows: Rows<'_>, runs: usize, partner: &mut Option<Partner>) -> Re
     Ok(())
 }
 
+/// A table for the test for one body: how many times as long as the search it takes.
+fn body_table(rows: Rows<'_>, runs: usize, partner: &mut Option<Partner>) -> Result<(), String> {
+    let always = ["times the search", "times the search, least", "ours, median", "the search, median"];
+    let columns = columns(&always, &["before / ours", "before / ours, least"], partner);
+    println!("One body, beside the search by every change from the same flag:\n");
+    head(&columns);
+    for (name, Measured { ours, rust: search, before, .. }) in measured(rows.bodies(), runs, partner)? {
+        let search = search.expect("each is measured beside a search");
+        let times = [ours.median / search.median, ours.least / search.least].map(|ratio| format!("{ratio:.2}"));
+        let cells = [times, [written(ours.median), written(search.median)], ratios(ours, before, 2)].concat();
+        line(&name, &cells, &columns);
+    }
+    println!();
+    Ok(())
+}
+
 /// A table for whole processes, if there is a program that runs.
 fn process_table(runs: usize) {
     match processes::measured(runs) {
@@ -174,11 +191,15 @@ fn process_table(runs: usize) {
 }
 
 fn tables(library: &dyn Library, options: &Options, partner: &mut Option<Partner>) -> Result<(), String> {
+    let (rows, runs) = (Rows(library), options.runs);
     if options.brief {
-        return brief_table(Rows(library), options.runs, partner);
+        brief_table(rows, runs, partner)?;
+        println!();
+        return body_table(rows, runs, partner);
     }
-    full_tables(Rows(library), options.runs, partner)?;
-    process_table(options.runs);
+    full_tables(rows, runs, partner)?;
+    body_table(rows, runs, partner)?;
+    process_table(runs);
     Ok(())
 }
 

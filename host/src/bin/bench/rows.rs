@@ -1,4 +1,4 @@
-//! What is measured: a row for each piece of work, in four groups.
+//! What is measured: a row for each piece of work, in five groups.
 
 use std::hint::black_box;
 
@@ -9,7 +9,8 @@ use crate::partner::Partner;
 use crate::rust;
 use crate::times::{Summary, Times, Work};
 
-/// Some work: ours, the closed test alone if the work includes it, the Rust's, and the seconds that the partner said.
+/// Some work: ours, the closed test alone if the work includes it, the Rust's or what stands in its place, and the
+/// seconds that the partner said.
 pub struct Row<'a> {
     pub name: String,
     ours: Times<'a>,
@@ -105,6 +106,29 @@ impl<'a> Rows<'a> {
         Row { name: format!("search of {name}, {flags} flags"), ours: Times::new(ours), closed, rust, before: vec![] }
     }
 
+    /// The test for one body, and in the Rust's place our own search by every change from the same flag. The answer is
+    /// 0 with so many flags, or 22 where they are more than the limit.
+    fn body(self, name: &str, cell: Listing, flags: usize) -> Row<'a> {
+        let (no, found) = if flags > MAX_FLAGS { (22, 0) } else { (0, flags as u16) };
+        let mut table = vec![0; MAX_FLAGS * (cell.rank() + 1)];
+        let mut orientations = vec![0; MAX_FLAGS];
+        let (mut other_table, mut other_orientations) = (table.clone(), orientations.clone());
+        // The test leaves the flag that it begins with.
+        self.0.one_body(cell.slices(), &mut table, &mut orientations);
+        let (searched, first, mask) = (cell.clone(), table[..=cell.rank()].to_vec(), cell.all_changes());
+        let ours: Work<'a> = Box::new(move |_| {
+            let body = self.0.one_body(black_box(cell.slices()), &mut table, &mut orientations);
+            assert_eq!((body.answer.no, body.count), (no, found));
+        });
+        let search: Work<'a> = Box::new(move |_| {
+            let cell = black_box(searched.slices());
+            let search = self.0.search(cell, &first, mask, &mut other_table, &mut other_orientations);
+            assert_eq!((search.answer.no, search.count), (no, found));
+        });
+        let name = format!("one_body of {name}, {flags} flags");
+        Row { name, ours: Times::new(ours), closed: None, rust: Some(Times::new(search)), before: vec![] }
+    }
+
     /// The text of a cell read: by the library, and by the plain parser.
     fn read(self, name: &str, cell: Listing) -> Row<'a> {
         let text = cell_texts::text(cell.slices());
@@ -138,6 +162,23 @@ impl<'a> Rows<'a> {
         };
         let usual = [self.read("the box", cube()), self.check("the box", cube())];
         usual.into_iter().chain([11, 15, 21, 29].map(prism)).collect()
+    }
+
+    /// The test for one body: of usual cells, and of cells at the limits. Of the last one it is refused.
+    pub fn bodies(self) -> Vec<Row<'a>> {
+        let (polygon, dyad) = (cells::polygon, Listing::dyad());
+        let prism = |p: Listing, q: &Listing| cells::product(Kind::Duoprism, &p, q);
+        vec![
+            self.body("the tetrahedron", cells::simplex(4), 24),
+            self.body("the box", prism(polygon(4), &dyad), 48),
+            self.body("the hexagonal prism", prism(polygon(6), &dyad), 72),
+            self.body("the 4-box", prism(cells::cuboid(3), &dyad), 384),
+            self.body("the 682-gonal prism", prism(polygon(682), &dyad), 8_184),
+            self.body("the 2047-gon", polygon(2047), 4_094),
+            self.body("duoprism(22-gon, 31-gon)", prism(polygon(22), &polygon(31)), 16_368),
+            self.body("the digonal listing of rank 15", cells::digonal(15), 16_384),
+            self.body("duoprism(31-gon, 32-gon)", prism(polygon(31), &polygon(32)), 23_808),
+        ]
     }
 
     /// Cells at the limits of the library.
@@ -190,6 +231,6 @@ impl<'a> Rows<'a> {
 
     /// The rows of all groups.
     pub fn all(self) -> Vec<Row<'a>> {
-        [self.usual(), self.largest(), self.growth(), self.texts()].into_iter().flatten().collect()
+        [self.usual(), self.largest(), self.growth(), self.texts(), self.bodies()].into_iter().flatten().collect()
     }
 }

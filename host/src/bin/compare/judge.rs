@@ -44,6 +44,7 @@ pub fn judge(question: &Question<&Subject>) -> Judged<Reply> {
         Question::Search { cell, first, mask, table, orientations } => {
             search(cell, first, *mask, *table, *orientations)
         }
+        Question::OneBody { cell, table, orientations } => Ok((one_body(cell, *table, *orientations)?, By::Plain)),
         Question::Events { cell, first, mask } => events(cell, first, *mask),
         Question::Product { kind, p, q, room } => product(*kind, p, q, *room),
         Question::ReadText { text, room } => Ok((read_text(text, *room), By::Plain)),
@@ -98,7 +99,7 @@ fn search(cell: &Subject, first: &[u16], mask: u16, table: usize, orientations: 
     let mut found = [0, 0, 0];
     if answer.no == 0 {
         let width = cell.rank() + 1;
-        let room = (table.len() / width).min(orientations).min(MAX_FLAGS);
+        let room = plain::room(&cell.raw, table.len(), orientations);
         let (mut flags, mut place) = (0, 0);
         for event in cell.events(first, &ranks, room)? {
             match event {
@@ -121,6 +122,28 @@ fn search(cell: &Subject, first: &[u16], mask: u16, table: usize, orientations: 
     }
     let numbers = [answer_numbers(answer), found.to_vec()].concat();
     Ok((Reply { numbers, slices: vec![table, bytes], spilled: false }, by))
+}
+
+/// What the closed test refuses; else the slices hold a search by the Rust, and all flags decide what is refused.
+fn one_body(cell: &Subject, table: usize, orientations: usize) -> Result<Reply, Doubt> {
+    if !cell.is_closed()?.0 {
+        // A search that asks for nothing is refused as closed is.
+        return Ok(search(cell, &[], 0, table, orientations)?.0);
+    }
+    let (first, mask) = (plain::first_sups(&cell.raw), plain::every_change(&cell.raw));
+    let mut reply = search(cell, &first, mask, table, orientations)?.0;
+    let room = plain::room(&cell.raw, table, orientations);
+    let flags = cell.flags(room);
+    let no = match flags > room {
+        true => 22,
+        false if cell.parts(room) > 1 => 25,
+        false if reply.numbers[5] != flags as i64 => {
+            return Err(Doubt::Oracle("the Rust's search does not find all flags of one part"))
+        }
+        false => return Ok(reply),
+    };
+    reply.numbers = [answer_numbers(refusal(no)), vec![0; 3]].concat();
+    Ok(reply)
 }
 
 fn events(cell: &Subject, first: &[u16], mask: u16) -> Judged<Reply> {

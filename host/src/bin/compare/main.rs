@@ -14,6 +14,7 @@ mod damage;
 mod inputs;
 mod judge;
 mod oracle;
+mod parts;
 mod plain;
 mod reading;
 mod replay;

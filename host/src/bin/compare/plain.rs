@@ -1,6 +1,6 @@
 //! The conditions that the Rust files do not decide, each said once and plainly.
 
-use flumedrac::{MAX_ELEMENTS, MAX_INCIDENCES, MAX_RANKS};
+use flumedrac::{MAX_ELEMENTS, MAX_FLAGS, MAX_INCIDENCES, MAX_RANKS};
 use flumedrac_trial::{Kind, Raw};
 
 /// The number of the shape's refusal, 0 for none.
@@ -60,6 +60,25 @@ pub fn is_flag(cell: &Raw, flag: &[u16]) -> bool {
     flag.len() == cell.counts.len()
         && flag.iter().zip(&cell.counts).all(|(index, count)| index < count)
         && (1..flag.len()).all(|r| list(cell, r, flag[r].into(), 0).contains(&flag[r - 1]))
+}
+
+/// The flag of first sups of a closed listing: index 0 at rank 0, and then the first sup each time.
+pub fn first_sups(cell: &Raw) -> Vec<u16> {
+    let mut flag = vec![0];
+    for r in 1..cell.counts.len() {
+        flag.push(list(cell, r - 1, flag[r - 1].into(), 1)[0]);
+    }
+    flag
+}
+
+/// The mask that asks for every change.
+pub fn every_change(cell: &Raw) -> u16 {
+    (1..cell.counts.len() as u16 - 1).map(|r| 1 << r).sum()
+}
+
+/// For how many flags there is room in slices of these lengths.
+pub fn room(cell: &Raw, table: usize, orientations: usize) -> usize {
+    (table / cell.counts.len()).min(orientations).min(MAX_FLAGS)
 }
 
 /// The ranks that a mask asks for, ascending.

@@ -6,6 +6,7 @@ use flumedrac::ffi::Answer;
 use flumedrac_trial::{Raw, Test};
 
 use crate::oracle::{self, Cell, Event};
+use crate::parts;
 use crate::plain;
 
 /// Who decided.
@@ -36,6 +37,7 @@ pub struct Subject {
     pub(super) cell: Option<Cell>,
     valid: OnceCell<Judged<Answer>>,
     closed: OnceCell<Judged<Answer>>,
+    parts: OnceCell<usize>,
 }
 
 impl AsRef<Raw> for Subject {
@@ -49,7 +51,7 @@ impl<T: Into<Raw>> From<T> for Subject {
         let raw = raw.into();
         let shape = plain::shape(&raw);
         let cell = (shape == 0).then(|| Cell::new(&raw.counts, &raw.ends, &raw.inc));
-        Self { raw, shape, cell, valid: OnceCell::new(), closed: OnceCell::new() }
+        Self { raw, shape, cell, valid: OnceCell::new(), closed: OnceCell::new(), parts: OnceCell::new() }
     }
 }
 
@@ -140,6 +142,16 @@ impl Subject {
         } else {
             Ok((refusal(0), By::Rust))
         }
+    }
+
+    /// How many flags a closed listing has in all, but no more than one over a limit.
+    pub fn flags(&self, limit: usize) -> usize {
+        parts::flags(&self.raw, limit + 1).len()
+    }
+
+    /// How many parts the flags of a closed listing are in, all of which are within a limit.
+    pub(super) fn parts(&self, limit: usize) -> usize {
+        *self.parts.get_or_init(|| parts::parts(&parts::flags(&self.raw, limit)))
     }
 
     /// The Rust's events for a search that nothing refuses, with one flag more than the limit if there is one.

@@ -6,9 +6,9 @@ use Prim.Native.Nat.{ℕ, _-_, _*_, _≤_, _<_}
 use native.Mathlib.Omega.{arith}
 use borrow.Author.Needs.{needs}
 use lib.ListN.{length-set, length, getD}
+use Rattle.order.proofs.Positions.{set-next}
 use Rattle.listing.proofs.Listing.{before-zero, before-next}
 use Rattle.listing.specs.Listing.{width, limits, before}
-use Rattle.search_walk.proofs.Begins.{places-next}
 use Rattle.search_walk.proofs.walk.places_of.Statement.{statement}
 use Rattle.search_walk.proofs.walk.places_of.Tie as tie
 
@@ -53,7 +53,7 @@ loop-again c = let l = c .before .before .before .loop in let s = c .before .bef
   rw (c .wide .ensures .0, l .inv .1) (sym (before-next _ _)),
   omega (arith, l .inv .2),
   simp length-set (l .inv .3),
-  places-next (s .args .counts .now) (l .a) (l .r) (l .here) (omega (arith, l .inv .3)) (l .inv .1) (l .inv .4),
+  set-next (before (s .args .counts .now)) (l .a) (l .r) (l .here) (omega (arith, l .inv .3)) (l .inv .1) (l .inv .4),
 )
 
 returns : tie.Need-returns Inv-loop μ-loop

@@ -9,7 +9,7 @@ use crate::run::{Go, Run};
 use crate::subject::Subject;
 use crate::supply::{catalogue, listed_back, special};
 
-use super::tests;
+use super::{little_room_for_body, tests};
 
 /// Slices whose ranks, elements, ends and incidences are each near a limit, or not, and hold any numbers.
 pub(super) fn random_limits(run: &mut Run<'_>, random: &mut Random, rounds: usize) -> Go {
@@ -29,7 +29,9 @@ pub(super) fn random_limits(run: &mut Run<'_>, random: &mut Random, rounds: usiz
         }
         let largest = *random.pick(&[1, 2, 5000, 65_536]);
         let inc = (0..incidences).map(|_| random.below(largest) as u16).collect();
-        tests(run, &Raw { counts, ends, inc }.into())?;
+        let cell = &Subject::from(Raw { counts, ends, inc });
+        tests(run, cell)?;
+        little_room_for_body(run, cell)?;
     }
     Ok(())
 }
@@ -46,6 +48,7 @@ pub(super) fn damaged_cells(run: &mut Run<'_>, random: &mut Random, rounds: usiz
         }
         let cell = &Subject::from(raw);
         tests(run, cell)?;
+        little_room_for_body(run, cell)?;
         let flag: Vec<u16> = base.counts.iter().map(|&count| random.below(count.into()) as u16).collect();
         if random.once_in(4) {
             let r = random.below(6) as u16;
@@ -78,7 +81,9 @@ pub(super) fn random_slices(run: &mut Run<'_>, random: &mut Random, rounds: usiz
             raw = damaged(&raw, random);
         }
         tests(run, &raw.into())?;
-        tests(run, &listed_back(random).into())?;
+        let cell = &Subject::from(listed_back(random));
+        tests(run, cell)?;
+        little_room_for_body(run, cell)?;
     }
     Ok(())
 }

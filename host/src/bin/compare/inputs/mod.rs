@@ -1,17 +1,23 @@
 //! The questions that are asked: how much, in which order, and what several parts share.
 
+mod bodies;
 mod closed;
 mod damaged;
 mod fixed;
 mod small;
 mod texts;
 
+use std::collections::BTreeSet;
+
+use flumedrac::MAX_FLAGS;
 use flumedrac_trial::{Kind, Question, Random, Raw, Reply, Test, ALL_ROOM};
 
 use crate::judge::judge;
+use crate::plain;
 use crate::run::{Caught, Go, Run};
 use crate::subject::Subject;
 
+use bodies::{bodies_at_limits, bodies_of_cells, bodies_to_try, damaged_bodies};
 use closed::{closed_cells, products};
 use damaged::{damaged_cells, random_limits, random_products, random_slices};
 use fixed::{limits, listings_to_try, shapes};
@@ -40,6 +46,7 @@ pub fn all(run: &mut Run<'_>, scale: Scale, seed: u64) -> Go {
     run.choose(true);
     run.part("listings to try", listings_to_try)?;
     run.choose(false);
+    run.part("one body: cells to try", bodies_to_try)?;
     run.part("numbers, classes, events", numbers)?;
     run.part("counts", |run| counts(run, random))?;
     run.part("slices of every length around the limits", shapes)?;
@@ -58,11 +65,38 @@ pub fn all(run: &mut Run<'_>, scale: Scale, seed: u64) -> Go {
     run.part("closed cells: tests, changes, searches", |run| closed_cells(run, random))?;
     run.part("products of cells", |run| products(run, random))?;
     run.part("products of random valid listings", |run| random_products(run, random, scale.rounds / 4))?;
-    run.part("products and searches at the limits", limits)
+    run.part("products and searches at the limits", limits)?;
+    // Drawn by numbers of their own, as texts are.
+    let drawn = &mut Random::new(seed);
+    run.part("one body: cells, side by side, and products", |run| bodies_of_cells(run, drawn))?;
+    run.part("one body: damaged cells", |run| damaged_bodies(run, drawn, scale.rounds / 10))?;
+    run.part("one body: at the limits", bodies_at_limits)
 }
 
 fn tests(run: &mut Run<'_>, cell: &Subject) -> Go {
     Test::ALL.iter().try_for_each(|&test| run.ask(Question::Test(test, cell)))
+}
+
+/// Whether any slices are one body, with a little room.
+fn little_room_for_body(run: &mut Run<'_>, cell: &Subject) -> Go {
+    run.ask(Question::OneBody { cell, table: 40, orientations: 9 })
+}
+
+/// Whether a closed cell is one body, with room around the flags that a search reaches, and around all.
+fn rooms_for_body(run: &mut Run<'_>, cell: &Subject) -> Go {
+    let width = cell.rank() + 1;
+    let (first, mask) = (plain::first_sups(cell.as_ref()), plain::every_change(cell.as_ref()));
+    let (reached, all) = (reached(cell, &first, mask), cell.flags(MAX_FLAGS));
+    let near = |flags: usize| flags.saturating_sub(1)..=flags + 1;
+    let flags: BTreeSet<usize> = [0, 1, reached / 2].into_iter().chain(near(reached)).chain(near(all)).collect();
+    for flags in flags {
+        let whole = flags * width;
+        let rooms = [(whole, flags), (whole + width - 1, flags), (whole + width, flags), (whole, flags + 1)];
+        for (table, orientations) in rooms {
+            run.ask(Question::OneBody { cell, table, orientations })?;
+        }
+    }
+    Ok(())
 }
 
 /// How many flags a search finds, if nothing refuses it; else 1.

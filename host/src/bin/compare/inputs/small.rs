@@ -9,7 +9,7 @@ use crate::run::{Go, Run};
 use crate::subject::Subject;
 use crate::supply::{related, sequences};
 
-use super::tests;
+use super::{little_room_for_body, rooms_for_body, tests};
 
 pub(super) fn numbers(run: &mut Run<'_>) -> Go {
     for no in 0..=u16::MAX {
@@ -89,6 +89,7 @@ pub(super) fn small_relations(run: &mut Run<'_>, most: usize) -> Go {
         for relation in 0..1u32 << bits {
             let cell = Subject::from(related(&sizes, relation));
             tests(run, &cell)?;
+            little_room_for_body(run, &cell)?;
             if cell.is_valid().is_ok_and(|(valid, _)| valid) {
                 for (kind, factor) in Kind::ALL.iter().flat_map(|&kind| factors.iter().map(move |q| (kind, q))) {
                     let room = [16, 200, 2000];
@@ -97,6 +98,7 @@ pub(super) fn small_relations(run: &mut Run<'_>, most: usize) -> Go {
                 }
             }
             if cell.is_closed().is_ok_and(|(closed, _)| closed) {
+                rooms_for_body(run, &cell)?;
                 let known = related(&sizes, relation);
                 for first in cells::flags(&known, 20) {
                     for mask in 0..1 << cell.rank() {

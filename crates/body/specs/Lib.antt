@@ -1,0 +1,4 @@
+pub mod Body
+pub mod Rules
+pub mod Exact
+pub mod Promised

@@ -1,0 +1,4 @@
+pub mod Pieces
+pub mod InAll
+pub mod First
+pub mod High
