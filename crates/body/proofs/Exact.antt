@@ -21,13 +21,14 @@ use Rattle.search.proofs.Cases.{answer-none, answer-some, said-fine}
 use Rattle.search.proofs.Contents.{rows-are}
 use Rattle.search.proofs.SearchBroken.{answer-of}
 use Rattle.search.proofs.Exact.{promised}
+use Rattle.search.proofs.EveryChange.{every-searchable}
 use Rattle.body_theory.specs.Pieces.{OnePiece}
 use Rattle.body_theory.specs.InAll.{flagsInAll}
 use Rattle.body_theory.specs.First.{supsFlag}
 use Rattle.body_theory.proofs.First.{sups-flag}
 use Rattle.body.specs.Body.{wholeSearch, bodyTest, bodyBy, bodyTableAfter, bodyBytesAfter}
 use Rattle.body.specs.Promised.{BodyPromised}
-use Rattle.body.proofs.FoundAll.{searchable, whole-searchable, no-overflow, found-few, found-piece, found-all}
+use Rattle.body.proofs.FoundAll.{whole-searchable, no-overflow, found-few, found-piece, found-all}
 use Rattle.body.proofs.Cases.{body-stop}
 use Rattle.body.proofs.Verdict.{Verdict, verdict, body-broken}
 use Rattle.body.proofs.Verdict.Verdict.{not-closed, too-many, several, one-body}
@@ -109,7 +110,7 @@ module _ (L : Listing) (table bytes : List ℕ) where
       let A = accepted z in
       let n = body-count z in
       let fits : flagsInAll L ≤ roomIn limits L u v = omega arith in
-      let e = said-fine (searchable (A .closed) F) u v (no-overflow (A .closed) F _ fits) .answer in
+      let e = said-fine (every-searchable (A .closed) F) u v (no-overflow (A .closed) F _ fits) .answer in
       let p = found-piece (A .closed) F _ fits .1 (A .one-piece) in
       let q = found-few (A .closed) F (roomIn limits L u v) in
       rw (← e) (refl, omega arith)

@@ -1,5 +1,5 @@
--- The search with every change from a flag: a closed listing can be searched so, its steps are the single changes, and
--- it finds all flags exactly if these are in one piece. The flag of first sups is one such flag.
+-- The search with every change from a flag: its steps are the single changes, and it finds all flags exactly if these
+-- are in one piece. The flag of first sups is one such flag.
 -- Assumes nothing.
 use mathlib.Core.Path.{_≡_, refl, sym, ap₂, _∙_}
 use mathlib.Core.Bool.{Bool, true, false}
@@ -23,11 +23,11 @@ use Rattle.search_store.specs.declared.found.Progress.{Progress}
 use Rattle.search_index.specs.Rows.{sameList}
 use Rattle.search_index.proofs.Rows.{same-decides}
 use Rattle.search_masks.specs.Masks.{everyRank}
-use Rattle.search_masks.proofs.Every.{every-exact}
 use Rattle.search_walk.specs.Searched.{maskChanges, foundBy}
 use Rattle.search_walk.specs.Ready.{Ended}
 use Rattle.search.specs.Exact.{Searchable, Leads}
 use Rattle.search.proofs.Leads.{to-reach, of-reach, reach-flag, overflow-more}
+use Rattle.search.proofs.EveryChange.{every-asked, every-searchable}
 use Rattle.body_theory.specs.Pieces.{OneChange, OnePiece}
 use Rattle.body_theory.specs.InAll.{flagsInAll, ManyFlags}
 use Rattle.body_theory.specs.First.{supsFlag}
@@ -51,12 +51,8 @@ module _ {L : Listing} (C : Closed limits L) {start : List ℕ} (F : IsFlag L st
   abbrev mask : ℕ
   mask = everyRank (rank L)
 
-  few-ranks : rank L < limits .ranks
-  few-ranks = omega (arith, C .shaped .some-rank, C .shaped .few-ranks)
-
-  -- A closed listing can be searched so.
-  pub searchable : Searchable limits L start (everyRank (rank L))
-  searchable = record { closed = C; is-flag = F; inner = λ r i. every-exact (rank L) r few-ranks .0 i }
+  searchable : Searchable limits L start mask
+  searchable = every-searchable C F
 
   -- ---- its steps are the single changes
 
@@ -66,7 +62,7 @@ module _ {L : Listing} (C : Closed limits L) {start : List ℕ} (F : IsFlag L st
   change-lead : (f g : List ℕ) → IsFlag L f → OneChange L f g → Leads L mask f g
   change-lead f g G c = record {
     at = c .at;
-    in-mask = every-exact (rank L) (c .at) few-ranks .1 (change-inner C G c);
+    in-mask = every-asked C (change-inner C G c);
     is-flag = c .is-flag;
     changed = c .changed;
   }
@@ -163,4 +159,4 @@ module _ {L : Listing} (C : Closed limits L) {start : List ℕ} (F : IsFlag L st
 
 -- A closed listing can be searched from the flag of first sups.
 pub whole-searchable : {L : Listing} → Closed limits L → Searchable limits L (supsFlag L) (everyRank (rank L))
-whole-searchable C = searchable C (sups-flag C)
+whole-searchable C = every-searchable C (sups-flag C)

@@ -21,6 +21,8 @@
 -- productIncidences, outputShort         too many incidences; an output slice that is too short
 -- wrongKey, badLine                      of a text: a line that does not begin with its key; else not as it is written
 -- longText, moreBytes                    a text that is too long; one that goes on after its last line
+-- notRankFour, notOrientable             of a volume: a cell of another rank than 4; one that is not orientable
+-- wrongCoordinates, notInMetres          not three coordinates for each vertex; one that is not whole, or out of range
 -- within                                 whether a number lies from one number to another, both counted in
 -- band                                   the class of a number: 1 to 9 shape, 10 to 19 structure, 20 to 29 flags,
 --                                        30 to 39 products, all else nothing
@@ -128,6 +130,19 @@ longText = 42
 
 abbrev pub moreBytes : ℕ
 moreBytes = 43
+
+-- volumes
+abbrev pub notRankFour : ℕ
+notRankFour = 50
+
+abbrev pub notOrientable : ℕ
+notOrientable = 51
+
+abbrev pub wrongCoordinates : ℕ
+wrongCoordinates = 52
+
+abbrev pub notInMetres : ℕ
+notInMetres = 53
 
 abbrev pub within : ℕ → ℕ → ℕ → Bool
 within a b n = leb a n && leb n b

@@ -66,3 +66,12 @@ pub const BAD_LINE: u16 = 41;
 pub const LONG_TEXT: u16 = 42;
 
 pub const MORE_BYTES: u16 = 43;
+
+// Volumes.
+pub const NOT_RANK_FOUR: u16 = 50;
+
+pub const NOT_ORIENTABLE: u16 = 51;
+
+pub const WRONG_COORDINATES: u16 = 52;
+
+pub const NOT_IN_METRES: u16 = 53;

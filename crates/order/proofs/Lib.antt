@@ -2,8 +2,11 @@ pub mod Lists
 pub mod Over
 pub mod Positions
 pub mod Once
+pub mod Least
 pub mod Tests
 pub mod Sums
+pub mod Integers
+pub mod AddUp
 pub mod Renumbering
 pub mod Pairs
 pub mod PairsCell

@@ -89,7 +89,7 @@ module _ (m : Limits) (L : Listing) (first : List ℕ) (mask : ℕ) (table bytes
       go (inr T) true o = (T, o)
       go (inr T) false o = absurd (omega (arith, e, fine-number T o))
 
-  fine-case : r .answer .no ≡ 0 → Searchable m L first mask × (S .overflow ≡ false)
+  pub fine-case : r .answer .no ≡ 0 → Searchable m L first mask × (S .overflow ≡ false)
   fine-case e = go view (S .overflow) refl
     where
       go : Refused ⊎ Searchable m L first mask → (v : Bool) → S .overflow ≡ v

@@ -1,6 +1,7 @@
 pub mod Numbers
 pub mod Cases
 pub mod Leads
+pub mod EveryChange
 pub mod Flat
 pub mod InOrder
 pub mod Contents

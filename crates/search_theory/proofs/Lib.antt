@@ -11,3 +11,5 @@ pub mod Orientation
 pub mod Prefix
 pub mod Alike
 pub mod Course
+pub mod Matched
+pub mod Evens

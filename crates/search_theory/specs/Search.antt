@@ -25,6 +25,7 @@
 -- Proper      what holds of each state of a search
 -- Colouring   two colours that each step from a reachable thing exchanges
 -- tone        the byte of a colour, seen from the colour of the start: 0 for the same, 1 for the other
+-- evens       the even ones of those found: those whose byte is 0
 use mathlib.Core.Path.{_≡_}
 use mathlib.Core.Logic.{_↔_}
 use mathlib.Core.Bool.{Bool, true, false, cond, not, _&&_}
@@ -137,3 +138,9 @@ tone true true = 0
 tone true false = 1
 tone false true = 1
 tone false false = 0
+
+module _ {A : Type 0} where
+  unfoldable pub evens : List A → List ℕ → List A
+  evens [] bytes = []
+  evens (x ∷ l) [] = []
+  evens (x ∷ l) (b ∷ bytes) = cond (eqb b 0) (x ∷ evens l bytes) (evens l bytes)

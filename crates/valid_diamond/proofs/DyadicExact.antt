@@ -63,6 +63,14 @@ module _ (ends inc : List ℕ) (b x : ℕ) where
       go true e ih = rw e (omega (arith, d s (inl refl), occurs-some x (of s) .1 (has-yes x (of s) .0 e)))
       go false e ih = rw e (omega (arith, occurs-none x (of s) .1 (has-no x (of s) .0 e)))
 
+-- A walk meets what lies two ranks lower.
+pub walk-exact : (L : Listing) (r i x : ℕ) → In x (walk L r i) ↔ ((s : ℕ) × LiesBetween L r i x s)
+walk-exact L r i x =
+    let b = before (L .counts) (r - 1) in (
+      λ m. let p = in-walk (L .ends) (L .inc) b x (subs L r i) m in (p .0, (p .1, p .2)),
+      λ p. walk-in (L .ends) (L .inc) b x (p .0) (subs L r i) (p .1 .0) (p .1 .1),
+    )
+
 -- ---- counted by occurrence
 
 module _ (L : Listing) (I : Incident L) where

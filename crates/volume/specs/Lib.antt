@@ -1,0 +1,3 @@
+pub mod Volumes
+pub mod Rules
+pub mod Promised
