@@ -1,5 +1,6 @@
 // The C boundary: each function passes its numbers and slices on to an entry, of the same name but for the class, the
-// sign and the next event, which cross as numbers. A slice crosses as a pointer and a length. Nothing is decided here.
+// sign, the next event and the volume, which cross as numbers. A slice crosses as a pointer and a length. Nothing is
+// decided here.
 use flag::Changed;
 use listing::Answer;
 use listing::Built;
@@ -8,6 +9,7 @@ use listing::Number;
 use search::Searched;
 use search_events::Cursor;
 use search_events::Said;
+use volume::Measured;
 ghost use mathlib.Core.Path.{_≡_};
 ghost use mathlib.Core.Bool.{true, false};
 ghost use lib.ListN.{length};
@@ -24,6 +26,7 @@ ghost use Rattle.search_events.specs.Events.{SaidStep};
 ghost use Rattle.flag.specs.Orientations.{ofByte, signOf};
 ghost use Rattle.search.specs.SearchedBy.{searchedBy, tableAfter, bytesAfter};
 ghost use Rattle.body.specs.Body.{bodyBy, bodyTableAfter, bodyBytesAfter};
+ghost use Rattle.volume.specs.Volumes.{volumeBy, volumeTableAfter, volumeBytesAfter, measuredOf};
 
 #[no_mangle]
 pub extern "C" fn fd_rank(counts: &[Index]) -> Number
@@ -152,6 +155,29 @@ pub extern "C" fn fd_one_body(
         (now (table .entry)) (now (orientations .entry)) ⌝ }
 {
     body::one_body(counts, ends, inc, table, orientations)
+}
+
+// Writes the table and the orientations, which overlap no other slice that is lent here. The answer crosses as two
+// numbers.
+#[no_mangle]
+pub extern "C" fn fd_six_volume(
+    counts: &[Index],
+    ends: &[Index],
+    inc: &[Index],
+    first: &[Index],
+    coordinates: &[f64],
+    table: &mut [Index],
+    orientations: &mut [u8],
+) -> Measured
+    ensures { λ a. ⌜ a ≡ measuredOf (volumeBy limits (held (counts .entry) (ends .entry) (inc .entry))
+        (now (first .entry)) (now (coordinates .entry)) (now (table .entry)) (now (orientations .entry))) ⌝ }
+    ensures { λ a. ⌜ now (table .exit) ≡ volumeTableAfter limits (held (counts .entry) (ends .entry) (inc .entry))
+        (now (first .entry)) (now (table .entry)) (now (orientations .entry)) ⌝ }
+    ensures { λ a. ⌜ now (orientations .exit) ≡ volumeBytesAfter limits
+        (held (counts .entry) (ends .entry) (inc .entry)) (now (first .entry)) (now (table .entry))
+        (now (orientations .entry)) ⌝ }
+{
+    volume::numbers(volume::six_volume(counts, ends, inc, first, coordinates, table, orientations))
 }
 
 // The sign of an orientation byte: 1.0 for 0, -1.0 for any other.

@@ -39,7 +39,7 @@ use Rattle.search.proofs.Exact.{fine-case, promised}
 use Rattle.volume_metres.specs.Whole.{AllCoordinates, allCoordinates}
 use Rattle.volume_metres.proofs.Coordinates.{all-exact}
 use Rattle.volume_metres.specs.Formulas.{inFloats}
-use Rattle.volume_theory.specs.Six.{cellRank, evenFlags, sixIn}
+use Rattle.volume_theory.specs.Six.{cellRank, evenFlags, sixFormula}
 use Rattle.volume_theory.proofs.EvenFlags.{Oriented, even-flag}
 use Rattle.volume_theory.proofs.Exactly.{six-exact}
 use Rattle.volume.specs.declared.Volume.{Volume}
@@ -50,15 +50,14 @@ use Rattle.volume.specs.Volumes.{volumeTest, volumeAs, volumeBy}
 
 -- A search of a listing with no ranks or too many is refused before its mask is looked at.
 pub any-mask : (L : Listing) (first : List ℕ) (mask : ℕ) (table bytes : List ℕ) {r : Searched} {t b : List ℕ}
-    → (0 < length (L .counts) → length (L .counts) ≤ limits .ranks → mask ≡ everyRank (length (L .counts) - 1))
+    → (length (L .counts) ≤ limits .ranks → mask ≡ everyRank (length (L .counts) - 1))
     → Ends limits L first mask table bytes r t b → Ends limits L first (everyRank (rank L)) table bytes r t b
 any-mask L first mask table bytes {r} {t} {b} e E = go (zero-or (startTest limits L first .no))
   where
     go : (startTest limits L first .no ≡ 0) ⊎ (startTest limits L first .no ≢ 0)
         → Ends limits L first (everyRank (rank L)) table bytes r t b
     go (inl z) =
-        let S = start-exact limits L first .0 z .0 .shaped in
-        rw (e (S .some-rank) (S .few-ranks)) at E
+        rw (e (start-exact limits L first .0 z .0 .shaped .few-ranks)) at E
     go (inr h) =
         let A = ends-start limits L first mask table bytes (startTest limits L first) refl h in
         let B = ends-start limits L first (everyRank (rank L)) table bytes (startTest limits L first) refl h in
@@ -214,7 +213,7 @@ module _ (L : Listing) (first : List ℕ) (xs : List Float) (table bytes : List 
 
     -- the sum, as it was worked out from what the search left
     pub summed-is : n ≡ 0 → {t b : List ℕ} → t ≡ left → b ≡ turns → (x : Float)
-        → x ≡ inFloats xs (sixIn L (evens (rows (length (L .counts)) t (s .count)) b))
+        → x ≡ inFloats xs (sixFormula L (evens (rows (length (L .counts)) t (s .count)) b))
         → Six x ≡ volumeBy limits L first xs table bytes
     unfolding volumeBy
     summed-is z f g x i =
@@ -223,4 +222,4 @@ module _ (L : Listing) (first : List ℕ) (xs : List Float) (table bytes : List 
         let l = (λ j. evens (rows (wide A j) (f j) (e j .count)) (g j)) ∙ evens-left A in
         let y = six-exact (C A) (A .is-cell) xs (A .metres) (A .three-each) (evenFlags L first room) (evens-flags A)
         (few A) in
-        rw h (ap Six (i ∙ ap (λ q. inFloats xs (sixIn L q)) l ∙ y))
+        rw h (ap Six (i ∙ ap (λ q. inFloats xs (sixFormula L q)) l ∙ y))

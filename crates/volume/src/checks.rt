@@ -7,18 +7,18 @@ use search::Searched;
 use search_masks::mask;
 use volume_metres::metres;
 ghost use mathlib.Core.Path.{_≡_};
-ghost use Prim.Native.Nat.{_-_, _≤_, _<_};
+ghost use Prim.Native.Nat.{_-_, _≤_};
 ghost use Rattle.listing.specs.Listing.{limits};
 ghost use Rattle.search_masks.specs.Masks.{everyRank};
 ghost use Rattle.volume.specs.Volumes.{volumeTest};
 
 // How many ranks a cell of rank 4 has.
-const RANKS: usize = 5;
+const CELL_RANKS: usize = 5;
 
-// The mask of every change, of a listing with so many ranks. Where there are none or too many, which a search refuses
-// before it looks at the mask, it is 0.
+// The mask of every change, of a listing with so many ranks. Of one with too many, which a search refuses before it
+// looks at the mask, any mask will do.
 pub fn every_change(ranks: usize) -> u16
-    ensures { λ m. ⌜ (0 < ranks → ranks ≤ limits .ranks → m ≡ everyRank (ranks - 1)) ⌝ }
+    ensures { λ m. ⌜ (ranks ≤ limits .ranks → m ≡ everyRank (ranks - 1)) ⌝ }
 {
     if ranks == 0 {
         return 0;
@@ -37,7 +37,7 @@ pub fn check_volume(counts: &[Index], coordinates: &[f64], s: Searched) -> u16
     if a.no != 0 {
         return a.no;
     }
-    if counts.len() != RANKS {
+    if counts.len() != CELL_RANKS {
         return refusal::NOT_RANK_FOUR;
     }
     if s.orientable == 0 {

@@ -4,10 +4,8 @@ mod checks;
 use listing::Index;
 use volume_sum::parts;
 ghost use mathlib.Core.Path.{_≡_};
-ghost use Rattle.listing.specs.Listing.{held, limits, rank};
-ghost use Rattle.search_masks.specs.Masks.{everyRank};
-ghost use Rattle.search.specs.SearchedBy.{tableAfter, bytesAfter};
-ghost use Rattle.volume.specs.Volumes.{volumeBy};
+ghost use Rattle.listing.specs.Listing.{held, limits};
+ghost use Rattle.volume.specs.Volumes.{volumeBy, volumeTableAfter, volumeBytesAfter, measuredOf};
 
 // What is answered: six times the volume, or the number of a refusal.
 pub enum Volume {
@@ -15,8 +13,16 @@ pub enum Volume {
     Refused(u16),
 }
 
-// Six times the volume of the part of a cell that a search with every change finds from the first flag, with the sign
-// of that flag's side. The search is left in the table and the orientations whatever is answered after it.
+// An answer as two numbers: the refusal's, 0 for none, and six times the volume, 0.0 on a refusal.
+#[repr(C)]
+pub struct Measured {
+    pub no: u16,
+    pub six: f64,
+}
+
+// The sum over the even flags that a search with every change finds from the first flag: six times the volume where
+// each face is one ring of edges. From a flag one change away it is negated. What the search leaves in the table and the
+// orientations stays there, whatever is answered after it.
 pub fn six_volume(
     counts: &[Index],
     ends: &[Index],
@@ -28,12 +34,11 @@ pub fn six_volume(
 ) -> Volume
     ensures { λ r. ⌜ r ≡ volumeBy limits (held (counts .entry) (ends .entry) (inc .entry)) (now (first .entry))
         (now (coordinates .entry)) (now (table .entry)) (now (orientations .entry)) ⌝ }
-    ensures { λ r. ⌜ now (table .exit) ≡ tableAfter limits (held (counts .entry) (ends .entry) (inc .entry))
-        (now (first .entry)) (everyRank (rank (held (counts .entry) (ends .entry) (inc .entry))))
-        (now (table .entry)) (now (orientations .entry)) ⌝ }
-    ensures { λ r. ⌜ now (orientations .exit) ≡ bytesAfter limits (held (counts .entry) (ends .entry) (inc .entry))
-        (now (first .entry)) (everyRank (rank (held (counts .entry) (ends .entry) (inc .entry))))
-        (now (table .entry)) (now (orientations .entry)) ⌝ }
+    ensures { λ r. ⌜ now (table .exit) ≡ volumeTableAfter limits (held (counts .entry) (ends .entry) (inc .entry))
+        (now (first .entry)) (now (table .entry)) (now (orientations .entry)) ⌝ }
+    ensures { λ r. ⌜ now (orientations .exit) ≡ volumeBytesAfter limits
+        (held (counts .entry) (ends .entry) (inc .entry)) (now (first .entry)) (now (table .entry))
+        (now (orientations .entry)) ⌝ }
 {
     let mask = checks::every_change(counts.len());
     let s = search::search(counts, ends, inc, first, mask, table, orientations);
@@ -50,4 +55,14 @@ pub fn six_volume(
         &*orientations,
         s.count,
     ))
+}
+
+// An answer as its number and its value.
+pub fn numbers(v: Volume) -> Measured
+    ensures { λ m. ⌜ m ≡ measuredOf v ⌝ }
+{
+    match v {
+        Volume::Six(six) => Measured { no: 0, six },
+        Volume::Refused(no) => Measured { no, six: 0.0 },
+    }
 }

@@ -6,7 +6,7 @@ use lib.IntN.{ℤ, pos, negℤ, natAbs, _+ℤ_, _-ℤ_, _*ℤ_, +ℤ-assoc, +ℤ
 use lib.IntN.{*ℤ-comm, zero-*ℤ, negℤ-+ℤ, negℤ-negℤ}
 use Rattle.order.proofs.Integers.{mul-neg, +ℤ-*ℤ, *ℤ-+ℤ, +ℤ-left, *ℤ-left, plus-neg}
 use Rattle.volume_metres.specs.Whole.{farthest}
-use Rattle.volume_metres.specs.Points.{Spot, det, moved}
+use Rattle.volume_metres.specs.Points.{Site, det, moved}
 use Rattle.volume_metres.proofs.Small.{small-plus, small-minus, small-times}
 
 -- ---- a determinant's three terms: a coordinate times a minor
@@ -14,7 +14,7 @@ use Rattle.volume_metres.proofs.Small.{small-plus, small-minus, small-t
 abbrev term : ℤ → ℤ → ℤ → ℤ → ℤ → ℤ
 term k p q r s = k *ℤ (p *ℤ s -ℤ q *ℤ r)
 
-module _ (a b c : Spot) where
+module _ (a b c : Site) where
   abbrev first : ℤ
   first = term (a .x) (b .y) (b .z) (c .y) (c .z)
 
@@ -37,7 +37,7 @@ term-swap k p q r s =
 neg-three : (x y z : ℤ) → negℤ x -ℤ negℤ y +ℤ negℤ z ≡ negℤ (x -ℤ y +ℤ z)
 neg-three x y z = sym (negℤ-+ℤ (x -ℤ y) z ∙ ap (λ w. w +ℤ negℤ z) (negℤ-+ℤ x (negℤ y)))
 
-pub det-swap : (a b c : Spot) → det a c b ≡ negℤ (det a b c)
+pub det-swap : (a b c : Site) → det a c b ≡ negℤ (det a b c)
 unfolding det
 det-swap a b c =
     rw (
@@ -49,35 +49,35 @@ det-swap a b c =
 
 -- ---- a place that is a sum
 
-det-first : (t a b c : Spot) → det (moved t a) b c ≡ det a b c +ℤ det t b c
+det-first : (t a b c : Site) → det (moved t a) b c ≡ det a b c +ℤ det t b c
 unfolding det
 det-first t a b c = simp (+ℤ-*ℤ, *ℤ-+ℤ, negℤ-+ℤ, mul-neg, +ℤ-assoc, +ℤ-comm, +ℤ-left)
 
-det-second : (t a b c : Spot) → det a (moved t b) c ≡ det a b c +ℤ det a t c
+det-second : (t a b c : Site) → det a (moved t b) c ≡ det a b c +ℤ det a t c
 unfolding det
 det-second t a b c = simp (+ℤ-*ℤ, *ℤ-+ℤ, negℤ-+ℤ, mul-neg, +ℤ-assoc, +ℤ-comm, +ℤ-left)
 
-det-third : (t a b c : Spot) → det a b (moved t c) ≡ det a b c +ℤ det a b t
+det-third : (t a b c : Site) → det a b (moved t c) ≡ det a b c +ℤ det a b t
 unfolding det
 det-third t a b c = simp (*ℤ-+ℤ, negℤ-+ℤ, mul-neg, +ℤ-assoc, +ℤ-comm, +ℤ-left)
 
 -- ---- a place that stands twice
 
-twice-last : (a b : Spot) → det a b b ≡ pos 0
+twice-last : (a b : Site) → det a b b ≡ pos 0
 unfolding det
 twice-last a b = simp (*ℤ-comm, +ℤ-invr, zero-*ℤ, +ℤ-idr)
 
-twice-first : (t c : Spot) → det t t c ≡ pos 0
+twice-first : (t c : Site) → det t t c ≡ pos 0
 unfolding det
 twice-first t c =
     simp (*ℤ-+ℤ, negℤ-+ℤ, mul-neg, negℤ-negℤ, *ℤ-comm, *ℤ-left, plus-neg, +ℤ-assoc, +ℤ-left, +ℤ-invr)
 
-twice-outer : (t b : Spot) → det t b t ≡ pos 0
+twice-outer : (t b : Site) → det t b t ≡ pos 0
 twice-outer t b = sym (negℤ-negℤ (det t b t)) ∙ ap negℤ (sym (det-swap t b t) ∙ twice-first t b)
 
 -- ---- all three places moved
 
-pub det-moved : (t a b c : Spot)
+pub det-moved : (t a b c : Site)
     → det (moved t a) (moved t b) (moved t c) ≡ det a b c +ℤ (det a b t +ℤ (det a t c +ℤ det t b c))
 det-moved t a b c =
     rw (
@@ -96,7 +96,7 @@ det-moved t a b c =
 -- ---- how large it can be
 
 -- a place of which no coordinate is larger than a coordinate may be
-pub record Near (a : Spot) : Type 0 where
+pub record Near (a : Site) : Type 0 where
   pub x : natAbs (a .x) ≤ farthest
   pub y : natAbs (a .y) ≤ farthest
   pub z : natAbs (a .z) ≤ farthest
@@ -107,7 +107,7 @@ term-small k p q r s hk hp hq hr hs =
     small-times k (p *ℤ s -ℤ q *ℤ r) hk
     (small-minus (p *ℤ s) (q *ℤ r) (small-times p s hp hs) (small-times q r hq hr))
 
-pub det-small : (a b c : Spot) → Near a → Near b → Near c → natAbs (det a b c) ≤ 6 * (farthest * farthest * farthest)
+pub det-small : (a b c : Site) → Near a → Near b → Near c → natAbs (det a b c) ≤ 6 * (farthest * farthest * farthest)
 unfolding det
 det-small a b c p q r =
     let f = term-small (a .x) (b .y) (b .z) (c .y) (c .z) (p .x) (q .y) (q .z) (r .y) (r .z) in

@@ -17,10 +17,10 @@ use lib.IntN.{ℤ, natAbs, _+ℤ_, +ℤ-assoc, +ℤ-idr}
 use lib.Ieee.{Float, ofInt}
 use Rattle.order.specs.Sums.{addUp}
 use Rattle.volume_metres.specs.Whole.{IsWhole, farthest, AllCoordinates}
-use Rattle.volume_metres.specs.Points.{det, spotOf, pointOf, detIn}
-use Rattle.volume_metres.specs.Formulas.{Operation, plus, minus, times, float, whole}
+use Rattle.volume_metres.specs.Points.{det, siteOf, pointOf}
+use Rattle.volume_metres.specs.Formulas.{Operation, plus, minus, times, floatBy, wholeBy}
 use Rattle.volume_metres.specs.Formulas.{Formula, nothing, number, of, inFloats, inWhole, mostExact, Exact}
-use Rattle.volume_metres.specs.Formulas.{NoRounding, detOf, runningSum}
+use Rattle.volume_metres.specs.Formulas.{NoRounding, detFormula, detIn, runningSum}
 use Rattle.volume_metres.proofs.Small.{small-plus, small-minus, small-times}
 use Rattle.volume_metres.proofs.WholeExact.{round-keeps, whole-add, whole-sub, whole-mul}
 use Rattle.volume_metres.proofs.Coordinates.{metres-of}
@@ -77,7 +77,7 @@ record Sized (k : ℕ) (x : Float) (z : ℤ) : Type 0 where
   small : natAbs z ≤ k
 
 step : (o : Operation) {j k : ℕ} {x y : Float} {a b : ℤ} → Sized j x a → Sized k y b → sizeBy o j k < mostExact
-    → Sized (sizeBy o j k) (float o x y) (whole o a b)
+    → Sized (sizeBy o j k) (floatBy o x y) (wholeBy o a b)
 step plus {x = x} {y = y} {a = a} {b = b} u v h =
     let s = small-plus a b (u .small) (v .small) in
     record { is = whole-add x y a b (u .is) (v .is) (omega (arith, s)); small = s }
@@ -119,27 +119,27 @@ exact-of xs (of o p q) h = h .0
 -- ---- the determinant of where three vertices stand
 
 module _ (xs : List Float) where
-  pub det-in : (a b c : ℕ) → detIn (pointOf xs a) (pointOf xs b) (pointOf xs c) ≡ inFloats xs (detOf a b c)
-  unfolding detIn inFloats detOf
+  pub det-in : (a b c : ℕ) → detIn (pointOf xs a) (pointOf xs b) (pointOf xs c) ≡ inFloats xs (detFormula a b c)
+  unfolding detIn inFloats detFormula
   det-in a b c = simp add-zero
 
-  pub det-whole : (a b c : ℕ) → inWhole xs (detOf a b c) ≡ det (spotOf xs a) (spotOf xs b) (spotOf xs c)
-  unfolding inWhole detOf det
+  pub det-whole : (a b c : ℕ) → inWhole xs (detFormula a b c) ≡ det (siteOf xs a) (siteOf xs b) (siteOf xs c)
+  unfolding inWhole detFormula det
   det-whole a b c = simp add-zero
 
-  pub spot-near : (v : ℕ) → AllCoordinates xs → 3 * v + 2 < length xs → Near (spotOf xs v)
-  spot-near v all h = record {
+  pub site-near : (v : ℕ) → AllCoordinates xs → 3 * v + 2 < length xs → Near (siteOf xs v)
+  site-near v all h = record {
     x = metres-of (all (3 * v) (omega arith)) .1;
     y = metres-of (all (3 * v + 1) (omega arith)) .1;
     z = metres-of (all (3 * v + 2) h) .1;
   }
 
-pub det-size : (a b c : ℕ) → sizeOf (detOf a b c) ≡ 6 * (farthest * farthest * farthest)
-unfolding sizeOf detOf
+pub det-size : (a b c : ℕ) → sizeOf (detFormula a b c) ≡ 6 * (farthest * farthest * farthest)
+unfolding sizeOf detFormula
 det-size a b c = refl
 
-pub det-places : (n a b c : ℕ) → 3 * a + 2 < n → 3 * b + 2 < n → 3 * c + 2 < n → PlacesBelow n (detOf a b c)
-unfolding PlacesBelow detOf
+pub det-places : (n a b c : ℕ) → 3 * a + 2 < n → 3 * b + 2 < n → 3 * c + 2 < n → PlacesBelow n (detFormula a b c)
+unfolding PlacesBelow detFormula
 det-places n a b c f g h = omega arith
 
 -- ---- running sums

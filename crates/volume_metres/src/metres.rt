@@ -5,7 +5,7 @@ ghost use Rattle.volume_metres.specs.Whole.{coordinate, allCoordinates};
 // How far from 0 a coordinate may lie.
 const FARTHEST: f64 = 1000.0;
 
-// Whether x is a coordinate. A number that is none of any kind fails the first test, and -0.0 passes all three.
+// Whether x is a coordinate. NaN fails the first test, and -0.0 passes all three.
 pub fn is_coordinate(x: f64) -> bool
     ensures { λ t. ⌜ t ≡ coordinate x ⌝ }
 {

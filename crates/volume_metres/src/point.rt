@@ -4,7 +4,8 @@ use listing::inner;
 ghost use mathlib.Core.Path.{_≡_};
 ghost use Prim.Native.Nat.{_+_, _*_, _<_};
 ghost use lib.ListN.{length};
-ghost use Rattle.volume_metres.specs.Points.{pointOf, detIn};
+ghost use Rattle.volume_metres.specs.Points.{pointOf};
+ghost use Rattle.volume_metres.specs.Formulas.{detIn};
 
 // Where a vertex stands.
 pub struct Point {

@@ -19,21 +19,21 @@ use Rattle.search_index.proofs.Rows.{rows-length}
 use Rattle.volume_metres.specs.Formulas.{nothing, inFloats, runningSum}
 use Rattle.volume_metres.proofs.Rounding.{running-snoc}
 use Rattle.volume_metres.proofs.Running.{zero-literal}
-use Rattle.volume_theory.specs.Six.{partIn, sixIn}
+use Rattle.volume_theory.specs.Six.{partFormula, sixFormula}
 
 -- nothing is added: 0.0
 pub six-none : (L : Listing) (xs : List Float) (w : ℕ) (table bytes : List ℕ)
-    → ofBits binary64 0 ≡ inFloats xs (sixIn L (evens (rows w table 0) bytes))
-unfolding rows evens sixIn runningSum inFloats
+    → ofBits binary64 0 ≡ inFloats xs (sixFormula L (evens (rows w table 0) bytes))
+unfolding rows evens sixFormula runningSum inFloats
 six-none L xs w table bytes = zero-literal
 
 -- one flag more
 six-snoc : (L : Listing) (xs : List Float) (l : List (List ℕ)) (f : List ℕ)
-    → inFloats xs (sixIn L (l ++ (f ∷ []))) ≡ add binary64 (inFloats xs (sixIn L l)) (inFloats xs (partIn L f))
-unfolding sixIn inFloats
+    → inFloats xs (sixFormula L (l ++ (f ∷ []))) ≡ add binary64 (inFloats xs (sixFormula L l)) (inFloats xs (partFormula L f))
+unfolding sixFormula inFloats
 six-snoc L xs l f =
-    ap (λ m. inFloats xs (runningSum nothing m)) (map-append (partIn L) l (f ∷ []))
-    ∙ ap (inFloats xs) (running-snoc nothing (map (partIn L) l) (partIn L f))
+    ap (λ m. inFloats xs (runningSum nothing m)) (map-append (partFormula L) l (f ∷ []))
+    ∙ ap (inFloats xs) (running-snoc nothing (map (partFormula L) l) (partFormula L f))
 
 module _ (L : Listing) (xs : List Float) (w : ℕ) (table bytes : List ℕ) (k : ℕ) (h : k < length bytes) where
   abbrev before : List (List ℕ)
@@ -49,10 +49,10 @@ module _ (L : Listing) (xs : List Float) (w : ℕ) (table bytes : List ℕ) (k :
       ∙ ap (λ i. before ++ cond (eqb (getD bytes i 0) 0) (rowOf w table k ∷ []) []) n
 
   pub six-even : getD bytes k 0 ≡ 0
-      → add binary64 (inFloats xs (sixIn L before)) (inFloats xs (partIn L (rowOf w table k)))
-      ≡ inFloats xs (sixIn L (evens (rows w table (k + 1)) bytes))
+      → add binary64 (inFloats xs (sixFormula L before)) (inFloats xs (partFormula L (rowOf w table k)))
+      ≡ inFloats xs (sixFormula L (evens (rows w table (k + 1)) bytes))
   six-even e = rw (evens-next, eq-eqb (getD bytes k 0) 0 e) (sym (six-snoc L xs before (rowOf w table k)))
 
   pub six-odd : getD bytes k 0 ≢ 0
-      → inFloats xs (sixIn L before) ≡ inFloats xs (sixIn L (evens (rows w table (k + 1)) bytes))
+      → inFloats xs (sixFormula L before) ≡ inFloats xs (sixFormula L (evens (rows w table (k + 1)) bytes))
   six-odd e = rw (evens-next, ne-eqb (getD bytes k 0) 0 e, append-nil) refl

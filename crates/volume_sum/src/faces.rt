@@ -9,7 +9,7 @@ ghost use Rattle.order.specs.Lists.{leastOf};
 ghost use Rattle.listing.specs.Listing.{held, limits, rank, count, before, subs};
 ghost use Rattle.valid.specs.Closed.{Closed};
 ghost use Rattle.volume_theory.specs.Six.{cellRank, lowestOf};
-ghost use Rattle.volume_sum.specs.Sums.{Lowest};
+ghost use Rattle.volume_sum.specs.Sums.{LowestOfEach};
 
 // The lowest-numbered vertex of an edge: its subs ascend. The edges begin at place edges.
 fn lowest_of_edge(counts: &[Index], ends: &[Index], inc: &[Index], edges: usize, e: Index) -> Index
@@ -28,14 +28,14 @@ fn lowest_of_face(
     inc: &[Index],
     edges: usize,
     faces: usize,
-    f: Index,
+    i: Index,
 ) -> Index
     requires { ⌜ Closed limits (held counts ends inc) ⌝ }
     requires { ⌜ (edges ≡ before (now counts) 2) × (faces ≡ before (now counts) 3) ⌝ }
-    requires { ⌜ f < getD (now counts) 3 0 ⌝ }
-    ensures { λ v. ⌜ v ≡ lowestOf (held (counts .entry) (ends .entry) (inc .entry)) f ⌝ }
+    requires { ⌜ i < getD (now counts) 3 0 ⌝ }
+    ensures { λ v. ⌜ v ≡ lowestOf (held (counts .entry) (ends .entry) (inc .entry)) i ⌝ }
 {
-    let face = inner::side_of(ends, inc, faces, f, 0);
+    let face = inner::side_of(ends, inc, faces, i, 0);
     let mut lowest = lowest_of_edge(counts, ends, inc, edges, face[0]);
     let mut k: usize = 1;
     while k < face.len() {
@@ -52,17 +52,17 @@ fn lowest_of_face(
 pub fn lowest_of_faces(counts: &[Index], ends: &[Index], inc: &[Index]) -> [Index; limit::ELEMENTS]
     requires { ⌜ Closed limits (held counts ends inc) ⌝ }
     requires { ⌜ rank (held counts ends inc) ≡ cellRank ⌝ }
-    ensures { λ a. ⌜ Lowest (held (counts .entry) (ends .entry) (inc .entry)) a ⌝ }
+    ensures { λ a. ⌜ LowestOfEach (held (counts .entry) (ends .entry) (inc .entry)) a ⌝ }
 {
     let edges = inner::elements_before(counts, 2);
     let faces = edges + inner::wide(counts[2]);
     let mut lowest: [Index; limit::ELEMENTS] = [0; limit::ELEMENTS];
     let n = counts[3];
-    let mut f: Index = 0;
-    while f < n {
-        let at = inner::wide(f);
-        lowest[at] = lowest_of_face(counts, ends, inc, edges, faces, f);
-        f += 1;
+    let mut i: Index = 0;
+    while i < n {
+        let at = inner::wide(i);
+        lowest[at] = lowest_of_face(counts, ends, inc, edges, faces, i);
+        i += 1;
     }
     lowest
 }

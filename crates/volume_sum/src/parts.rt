@@ -15,8 +15,8 @@ ghost use Rattle.search_theory.specs.Search.{evens};
 ghost use Rattle.search_index.specs.Rows.{rows};
 ghost use Rattle.search_walk.specs.Ready.{AllFlags};
 ghost use Rattle.volume_metres.specs.Formulas.{inFloats};
-ghost use Rattle.volume_theory.specs.Six.{cellRank, partIn, sixIn};
-ghost use Rattle.volume_sum.specs.Sums.{Lowest};
+ghost use Rattle.volume_theory.specs.Six.{cellRank, partFormula, sixFormula};
+ghost use Rattle.volume_sum.specs.Sums.{LowestOfEach};
 
 // What a flag adds: the determinant of where the lowest vertex of its face, its vertex and the other vertex of its edge
 // stand. The edges begin at place edges.
@@ -32,11 +32,11 @@ fn part_of(
     requires { ⌜ Closed limits (held counts ends inc) ⌝ }
     requires { ⌜ rank (held counts ends inc) ≡ cellRank ⌝ }
     requires { ⌜ length (now coordinates) ≡ 3 * getD (now counts) 1 0 ⌝ }
-    requires { ⌜ Lowest (held counts ends inc) (now lowest) ⌝ }
+    requires { ⌜ LowestOfEach (held counts ends inc) (now lowest) ⌝ }
     requires { ⌜ edges ≡ before (now counts) 2 ⌝ }
     requires { ⌜ IsFlag (held counts ends inc) (now flag) ⌝ }
     ensures { λ d. ⌜ d ≡ inFloats (now (coordinates .entry))
-        (partIn (held (counts .entry) (ends .entry) (inc .entry)) (now (flag .entry))) ⌝ }
+        (partFormula (held (counts .entry) (ends .entry) (inc .entry)) (now (flag .entry))) ⌝ }
 {
     let other = chain::change_index(counts, ends, inc, flag, 1, 0, edges);
     let face = inner::wide(flag[3]);
@@ -62,7 +62,7 @@ pub fn six_of(
     requires { ⌜ (n * length (now counts) ≤ length (now table)) × (n ≤ length (now orientations)) ⌝ }
     requires { ⌜ AllFlags (held counts ends inc) (now table) n ⌝ }
     ensures { λ s. ⌜ s ≡ inFloats (now (coordinates .entry))
-        (sixIn (held (counts .entry) (ends .entry) (inc .entry))
+        (sixFormula (held (counts .entry) (ends .entry) (inc .entry))
         (evens (rows (length (now (counts .entry))) (now (table .entry)) n) (now (orientations .entry)))) ⌝ }
 {
     let lowest = faces::lowest_of_faces(counts, ends, inc);

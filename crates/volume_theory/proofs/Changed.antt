@@ -14,7 +14,7 @@ use Rattle.order.proofs.Integers.{own-negative, neg-plus}
 use Rattle.order.proofs.AddUp.{add-up-same, add-up-plus, add-up-neg}
 use Rattle.listing.specs.Listing.{Listing, rank}
 use Rattle.flag_change.specs.Change.{changeAt}
-use Rattle.volume_metres.specs.Points.{Spot, det, spotOf}
+use Rattle.volume_metres.specs.Points.{Site, det, siteOf}
 use Rattle.volume_metres.proofs.Determinants.{det-swap, det-moved}
 use Rattle.volume_theory.specs.Six.{cellRank, evenFlags, vertexAt, faceAt, otherVertex, lowestOf, partOf, sixOf}
 use Rattle.volume_theory.specs.Six.{Shifted}
@@ -30,32 +30,32 @@ module _ {L : Listing} {first : List ℕ} {n : ℕ} (O : Oriented L first n) (R 
 
     -- ---- where the three vertices of a flag's part stand
 
-    abbrev low : List ℕ → Spot
-    low f = spotOf xs (lowestOf L (faceAt f))
+    abbrev low : List ℕ → Site
+    low f = siteOf xs (lowestOf L (faceAt f))
 
-    abbrev here : List ℕ → Spot
-    here f = spotOf xs (vertexAt f)
+    abbrev here : List ℕ → Site
+    here f = siteOf xs (vertexAt f)
 
-    abbrev beyond : List ℕ → Spot
-    beyond f = spotOf xs (otherVertex L f)
+    abbrev beyond : List ℕ → Site
+    beyond f = siteOf xs (otherVertex L f)
 
     -- the change at rank 1 exchanges the vertices of the edge, which a change above it keeps
     abbrev turned : List ℕ → List ℕ
     turned f = changeAt L 1 f
 
     low-kept : (f : List ℕ) (r : ℕ) → r < 3 → low (changeAt L r f) ≡ low f
-    low-kept f r h = ap (λ x. spotOf xs (lowestOf L x)) (kept L f r 3 (λ e. omega arith))
+    low-kept f r h = ap (λ x. siteOf xs (lowestOf L x)) (kept L f r 3 (λ e. omega arith))
 
     here-kept : (f : List ℕ) (r : ℕ) → 1 < r → here (changeAt L r f) ≡ here f
-    here-kept f r h = ap (spotOf xs) (kept L f r 1 (λ e. omega arith))
+    here-kept f r h = ap (siteOf xs) (kept L f r 1 (λ e. omega arith))
 
     beyond-turned : (f : List ℕ) → List·Memᴰ f E → beyond (turned f) ≡ here f
-    beyond-turned f m = ap (spotOf xs) (other-back (O .closed) R (even-flag O f m))
+    beyond-turned f m = ap (siteOf xs) (other-back (O .closed) R (even-flag O f m))
 
     beyond-kept : (f : List ℕ) → List·Memᴰ f E → beyond (changeAt L 3 (turned f)) ≡ here f
     beyond-kept f m =
         let F = change-flag (O .closed) R (even-flag O f m) 1 (omega arith) (omega arith) in
-        ap (spotOf xs) (other-kept (O .closed) R F) ∙ beyond-turned f m
+        ap (siteOf xs) (other-kept (O .closed) R F) ∙ beyond-turned f m
 
     -- ---- a change of the first flag
 
@@ -73,7 +73,7 @@ module _ {L : Listing} {first : List ℕ} {n : ℕ} (O : Oriented L first n) (R 
 
     -- ---- a move by t: what it adds to a part
 
-    module _ (t : Spot) where
+    module _ (t : Site) where
       abbrev at-low : List ℕ → ℤ
       at-low f = det (low f) (here f) t
 

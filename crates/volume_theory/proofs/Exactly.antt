@@ -17,7 +17,7 @@ use Rattle.volume_metres.specs.Formulas.{Formula, nothing, inFloats, inWhole, N
 use Rattle.volume_metres.proofs.Rounding.{sizeOf, PlacesBelow, det-whole, det-size, det-places, running-whole}
 use Rattle.volume_metres.proofs.Rounding.{running-no-rounding}
 use Rattle.volume_metres.proofs.Running.{running-is}
-use Rattle.volume_theory.specs.Six.{cellRank, vertexAt, faceAt, otherVertex, lowestOf, partOf, sixOf, partIn, sixIn}
+use Rattle.volume_theory.specs.Six.{cellRank, vertexAt, faceAt, otherVertex, lowestOf, partOf, sixOf, partFormula, sixFormula}
 use Rattle.volume_theory.proofs.Vertices.{vertex-there, face-there, other-there}
 use Rattle.volume_theory.proofs.Lowest.{lowest-there}
 
@@ -26,17 +26,17 @@ abbrev largestPart : ℕ
 largestPart = 6 * (farthest * farthest * farthest)
 
 module _ (L : Listing) (xs : List Float) where
-  parts-whole : (flags : List (List ℕ)) → addUp (inWhole xs) (map (partIn L) flags) ≡ sixOf L xs flags
+  parts-whole : (flags : List (List ℕ)) → addUp (inWhole xs) (map (partFormula L) flags) ≡ sixOf L xs flags
   unfolding addUp
   parts-whole [] = refl
   parts-whole (f ∷ l) =
       ap₂ _+ℤ_ (det-whole xs (lowestOf L (faceAt f)) (vertexAt f) (otherVertex L f)) (parts-whole l)
 
   -- The formula is over the integers what the flags add.
-  pub six-whole : (flags : List (List ℕ)) → inWhole xs (sixIn L flags) ≡ sixOf L xs flags
-  unfolding sixIn inWhole
+  pub six-whole : (flags : List (List ℕ)) → inWhole xs (sixFormula L flags) ≡ sixOf L xs flags
+  unfolding sixFormula inWhole
   six-whole flags =
-      running-whole xs nothing (map (partIn L) flags) ∙ +ℤ-idl (addUp (inWhole xs) (map (partIn L) flags))
+      running-whole xs nothing (map (partFormula L) flags) ∙ +ℤ-idl (addUp (inWhole xs) (map (partFormula L) flags))
       ∙ parts-whole flags
 
 module _ {L : Listing} (C : Closed limits L) (R : rank L ≡ cellRank) (xs : List Float) (all : AllCoordinates xs)
@@ -46,7 +46,7 @@ module _ {L : Listing} (C : Closed limits L) (R : rank L ≡ cellRank) (xs : Lis
   three h = omega (arith, long)
 
   part-fits : {f : List ℕ} → IsFlag L f
-      → PlacesBelow (length xs) (partIn L f) × (sizeOf (partIn L f) ≤ largestPart)
+      → PlacesBelow (length xs) (partFormula L f) × (sizeOf (partFormula L f) ≤ largestPart)
   part-fits {f} F =
       let a = lowest-there L (C .incident) (faceAt f) (face-there C R F) in (
         det-places (length xs) _ _ _ (three a) (three (vertex-there C R F)) (three (other-there C R F)),
@@ -55,18 +55,18 @@ module _ {L : Listing} (C : Closed limits L) (R : rank L ≡ cellRank) (xs : Lis
 
   module _ (flags : List (List ℕ)) (each : (f : List ℕ) → List·Memᴰ f flags → IsFlag L f)
       (few : length flags ≤ limits .flags) where
-    parts-fit : (q : Formula) → List·Memᴰ q (map (partIn L) flags)
+    parts-fit : (q : Formula) → List·Memᴰ q (map (partFormula L) flags)
         → PlacesBelow (length xs) q × (sizeOf q ≤ largestPart)
-    parts-fit q m = let t = Memᴰ·of-map (partIn L) flags m in rw (t .2) at (part-fits (each (t .0) (t .1)))
+    parts-fit q m = let t = Memᴰ·of-map (partFormula L) flags m in rw (t .2) at (part-fits (each (t .0) (t .1)))
 
     -- No step of working out what the flags add is rounded.
-    pub six-no-rounding : NoRounding xs (sixIn L flags)
-    unfolding sixIn
+    pub six-no-rounding : NoRounding xs (sixFormula L flags)
+    unfolding sixFormula
     six-no-rounding =
-        running-no-rounding xs all (map (partIn L) flags) largestPart parts-fit
-        (omega (arith, length-map flags (partIn L)))
+        running-no-rounding xs all (map (partFormula L) flags) largestPart parts-fit
+        (omega (arith, length-map flags (partFormula L)))
 
     -- So the result is the integer as a float.
-    pub six-exact : inFloats xs (sixIn L flags) ≡ ofInt binary64 (sixOf L xs flags)
-    unfolding sixIn
-    six-exact = running-is xs (map (partIn L) flags) six-no-rounding ∙ ap (ofInt binary64) (six-whole L xs flags)
+    pub six-exact : inFloats xs (sixFormula L flags) ≡ ofInt binary64 (sixOf L xs flags)
+    unfolding sixFormula
+    six-exact = running-is xs (map (partFormula L) flags) six-no-rounding ∙ ap (ofInt binary64) (six-whole L xs flags)

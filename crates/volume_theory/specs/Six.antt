@@ -1,6 +1,6 @@
--- Six times the volume of a cell of rank 4, as a sum over even flags.
+-- What is taken for six times the volume of a cell of rank 4: a sum over even flags.
 --
--- cellRank      the rank of a cell that has a volume
+-- cellRank      the rank of the cells whose volume is asked for
 -- evenFlags     the even flags that a search with every change finds from a first flag, with room for so many flags
 -- vertexAt      the vertex of a flag
 -- edgeAt        its edge
@@ -10,11 +10,11 @@
 -- partOf        what a flag adds: the determinant of where the lowest vertex of its face, its vertex and the other
 --               vertex of its edge stand
 -- sixOf         what flags add together
--- partIn        what a flag adds, as a formula
--- sixIn         what flags add, as a formula: one after another, to nothing
+-- partFormula   what a flag adds, as a formula
+-- sixFormula    what flags add, as a formula: one after another, to nothing
 -- OtherEnd      w is the other vertex of edge e beside v: both lie in e, and nothing else does
--- LowestIn      v is the lowest-numbered vertex of face f
--- Shifted       where each vertex stands in one list of coordinates, it stands moved by t in another
+-- LowestIn      v is the lowest-numbered vertex of face i
+-- Shifted       a second list of coordinates has each vertex moved by t from where the first has it
 use mathlib.Core.Path.{_≡_}
 use mathlib.Core.Logic.{_≢_, _⊎_}
 use mathlib.Core.List.{List, map}
@@ -30,8 +30,8 @@ use Rattle.flag_change.specs.Change.{changeAt}
 use Rattle.search_theory.specs.Search.{evens}
 use Rattle.search_masks.specs.Masks.{everyRank}
 use Rattle.search_walk.specs.Searched.{foundBy}
-use Rattle.volume_metres.specs.Points.{Spot, det, moved, spotOf}
-use Rattle.volume_metres.specs.Formulas.{Formula, nothing, detOf, runningSum}
+use Rattle.volume_metres.specs.Points.{Site, det, moved, siteOf}
+use Rattle.volume_metres.specs.Formulas.{Formula, nothing, detFormula, runningSum}
 
 abbrev pub cellRank : ℕ
 cellRank = 4
@@ -54,19 +54,19 @@ abbrev pub otherVertex : Listing → List ℕ → ℕ
 otherVertex L f = vertexAt (changeAt L 1 f)
 
 unfoldable pub lowestOf : Listing → ℕ → ℕ
-lowestOf L f = leastOf (walk L 3 f)
+lowestOf L i = leastOf (walk L 3 i)
 
 abbrev pub partOf : Listing → List Float → List ℕ → ℤ
-partOf L xs f = det (spotOf xs (lowestOf L (faceAt f))) (spotOf xs (vertexAt f)) (spotOf xs (otherVertex L f))
+partOf L xs f = det (siteOf xs (lowestOf L (faceAt f))) (siteOf xs (vertexAt f)) (siteOf xs (otherVertex L f))
 
 abbrev pub sixOf : Listing → List Float → List (List ℕ) → ℤ
 sixOf L xs flags = addUp (partOf L xs) flags
 
-abbrev pub partIn : Listing → List ℕ → Formula
-partIn L f = detOf (lowestOf L (faceAt f)) (vertexAt f) (otherVertex L f)
+abbrev pub partFormula : Listing → List ℕ → Formula
+partFormula L f = detFormula (lowestOf L (faceAt f)) (vertexAt f) (otherVertex L f)
 
-unfoldable pub sixIn : Listing → List (List ℕ) → Formula
-sixIn L flags = runningSum nothing (map (partIn L) flags)
+unfoldable pub sixFormula : Listing → List (List ℕ) → Formula
+sixFormula L flags = runningSum nothing (map (partFormula L) flags)
 
 pub record OtherEnd (L : Listing) (e v w : ℕ) : Type 0 where
   pub this : In v (subs L 2 e)
@@ -74,11 +74,11 @@ pub record OtherEnd (L : Listing) (e v w : ℕ) : Type 0 where
   pub differs : w ≢ v
   pub only : (x : ℕ) → In x (subs L 2 e) → (x ≡ v) ⊎ (x ≡ w)
 
-pub record LowestIn (L : Listing) (f v : ℕ) : Type 0 where
+pub record LowestIn (L : Listing) (i v : ℕ) : Type 0 where
   pub edge : ℕ
-  pub in-face : In edge (subs L 3 f)
+  pub in-face : In edge (subs L 3 i)
   pub in-edge : In v (subs L 2 edge)
-  pub least : (e w : ℕ) → In e (subs L 3 f) → In w (subs L 2 e) → v ≤ w
+  pub least : (e w : ℕ) → In e (subs L 3 i) → In w (subs L 2 e) → v ≤ w
 
-abbrev pub Shifted : Listing → Spot → List Float → List Float → Type 0
-Shifted L t xs xs′ = (v : ℕ) → v < count L 1 → spotOf xs′ v ≡ moved t (spotOf xs v)
+abbrev pub Shifted : Listing → Site → List Float → List Float → Type 0
+Shifted L t xs xs′ = (v : ℕ) → v < count L 1 → siteOf xs′ v ≡ moved t (siteOf xs v)

@@ -16,11 +16,11 @@ use Rattle.volume_sum.proofs.faces.lowest_of_face.Statement.{statement}
 use Rattle.volume_sum.proofs.faces.lowest_of_face.Tie as tie
 
 abbrev Inv-loop : tie.InvT-loop
-Inv-loop counts ends inc edges faces f face lowest₀ k₀ lowest k =
-    (k ≤ length face) × LowestAmong (listing counts ends inc) f k lowest
+Inv-loop counts ends inc edges faces i face lowest₀ k₀ lowest k =
+    (k ≤ length face) × LowestAmong (listing counts ends inc) i k lowest
 
 abbrev μ-loop : tie.MeasureT-loop
-μ-loop counts ends inc edges faces f face lowest₀ k₀ lowest k = length face - k
+μ-loop counts ends inc edges faces i face lowest₀ k₀ lowest k = length face - k
 
 abbrev L : tie.Start Inv-loop μ-loop → Listing
 L s = listing (s .args .counts .now) (s .args .ends .now) (s .args .inc .now)
@@ -43,13 +43,13 @@ turn c = c .before .before
 
 -- the face's edges, of which there is one
 its : (c : tie.After-side-of Inv-loop μ-loop) → let s = begun c in
-    c .side-of .result .now ≡ subs (L s) 3 (s .args .f)
+    c .side-of .result .now ≡ subs (L s) 3 (s .args .i)
 its c = let s = begun c in c .side-of .ensures ∙ side-at (L s) _ _ _ _ (s .pre .1 .0 .1)
 
 some : (c : tie.After-side-of Inv-loop μ-loop) → 0 < length (c .side-of .result .now)
 some c =
     let s = begun c in
-    rw (its c) (some-sub (L s) (s .pre .0 .incident) 3 (s .args .f) (omega arith) (s .pre .1 .1))
+    rw (its c) (some-sub (L s) (s .pre .0 .incident) 3 (s .args .i) (omega arith) (s .pre .1 .1))
 
 -- an edge of the face exists
 edge-exists : (c : tie.After-side-of Inv-loop μ-loop) (k : ℕ) → k < length (c .side-of .result .now)
@@ -57,12 +57,12 @@ edge-exists : (c : tie.After-side-of Inv-loop μ-loop) (k : ℕ) → k < length 
 edge-exists c k h =
     let s = begun c in
     let e = ap (λ l. getD l k 0) (its c) in
-    omega (arith, edge-there (L s) (s .pre .0 .incident) (s .args .f) k (s .pre .1 .1) (omega (arith, ap length (its c))))
+    omega (arith, edge-there (L s) (s .pre .0 .incident) (s .args .i) k (s .pre .1 .1) (omega (arith, ap length (its c))))
 
 -- the lowest vertex of the edge at hand
 at-hand : (c : tie.After-lowest-of-edge2 Inv-loop μ-loop) → let d = face-of (turn c) in let s = begun d in
     c .lowest-of-edge2 .result
-    ≡ leastOf (subs (L s) 2 (getD (subs (L s) 3 (s .args .f)) (turn c .before .loop .k) 0))
+    ≡ leastOf (subs (L s) 2 (getD (subs (L s) 3 (s .args .i)) (turn c .before .loop .k) 0))
 at-hand c = let d = face-of (turn c) in rw (← its d) (c .lowest-of-edge2 .ensures)
 
 side-of-requires : tie.Need-side-of-requires Inv-loop μ-loop
@@ -87,7 +87,7 @@ loop-holds c =
     let s = begun d in (
       omega (arith, some d),
       rw (c .lowest-of-edge .ensures, its d)
-          (among-first (L s) (s .pre .0 .incident) (s .args .f) (s .pre .1 .1) (rw (its d) at (some d))),
+          (among-first (L s) (s .pre .0 .incident) (s .args .i) (s .pre .1 .1) (rw (its d) at (some d))),
     )
 
 mul-lowest-of-edge : tie.Need-mul-lowest-of-edge Inv-loop μ-loop
@@ -117,11 +117,11 @@ loop-again c =
     let v = at-hand (c .before) in
     let I = s .pre .0 .incident in
     let h = s .pre .1 .1 in
-    let i : l .k < length (subs (L s) 3 (s .args .f)) = omega (arith, t .loop-test .taken, ap length (its d)) in (
+    let i : l .k < length (subs (L s) 3 (s .args .i)) = omega (arith, t .loop-test .taken, ap length (its d)) in (
       search needs,
       ⊎-elim
-          (λ w. rw (w .1, v) (among-lower (L s) I (s .args .f) h i (l .inv .1) (omega (arith, v, w .0))))
-          (λ w. rw (w .1) (among-kept (L s) I (s .args .f) h i (l .inv .1) (omega (arith, v, w .0))))
+          (λ w. rw (w .1, v) (among-lower (L s) I (s .args .i) h i (l .inv .1) (omega (arith, v, w .0))))
+          (λ w. rw (w .1) (among-kept (L s) I (s .args .i) h i (l .inv .1) (omega (arith, v, w .0))))
           (c .if1 .came),
     )
 
@@ -130,7 +130,7 @@ returns c =
     let l = c .before .loop in
     let d = found (c .before .before) in
     let s = begun d in
-    among-all (L s) (s .args .f) (l .k) (l .lowest) (omega (arith, c .loop-test .left, ap length (its d))) (l .inv .1)
+    among-all (L s) (s .args .i) (l .k) (l .lowest) (omega (arith, c .loop-test .left, ap length (its d))) (l .inv .1)
 
 pub lowest-of-face-spec : {M : Type 1} → statement M
 lowest-of-face-spec =

@@ -1,4 +1,4 @@
--- Invariant: the first f faces have their lowest vertices in the array. Measure: the faces left.
+-- Invariant: the first i faces have their lowest vertices in the array. Measure: the faces left.
 -- Assumes nothing.
 use mathlib.Core.Path.{_≡_, refl, _∙_}
 use Prim.Native.Nat.{ℕ, _+_, _-_, _≤_, _<_}
@@ -14,12 +14,12 @@ use Rattle.volume_sum.proofs.faces.lowest_of_faces.Statement.{statement
 use Rattle.volume_sum.proofs.faces.lowest_of_faces.Tie as tie
 
 abbrev Inv-loop : tie.InvT-loop
-Inv-loop counts ends inc edges faces lowest₀ n f₀ lowest f =
-    (f ≤ n) × (length lowest ≡ limits .elements)
-    × ((k : ℕ) → k < f → getD lowest k 0 ≡ lowestOf (listing counts ends inc) k)
+Inv-loop counts ends inc edges faces lowest₀ n i₀ lowest i =
+    (i ≤ n) × (length lowest ≡ limits .elements)
+    × ((k : ℕ) → k < i → getD lowest k 0 ≡ lowestOf (listing counts ends inc) k)
 
 abbrev μ-loop : tie.MeasureT-loop
-μ-loop counts ends inc edges faces lowest₀ n f₀ lowest f = n - f
+μ-loop counts ends inc edges faces lowest₀ n i₀ lowest i = n - i
 
 abbrev L : tie.Start Inv-loop μ-loop → Listing
 L s = listing (s .args .counts .now) (s .args .ends .now) (s .args .inc .now)
@@ -88,8 +88,8 @@ array-write-lowest c =
     let s = begun (placed t) in
     omega (arith, c .before .wide2 .ensures .0, t .loop-test .taken, few-in-rank (L s) (s .pre .0 .shaped) 3)
 
-add-f : tie.Need-add-f Inv-loop μ-loop
-add-f c =
+add-i : tie.Need-add-i Inv-loop μ-loop
+add-i c =
     let t = c .before .before in
     let s = begun (placed t) in
     omega (arith, t .loop-test .taken, few-in-rank (L s) (s .pre .0 .shaped) 3)
@@ -102,12 +102,12 @@ loop-again c =
     let t = c .before .before in
     let l = t .before .loop in
     let s = begun (placed t) in
-    let h : l .f < length (l .lowest) =
+    let h : l .i < length (l .lowest) =
     omega (arith, l .inv .1, t .loop-test .taken, few-in-rank (L s) (s .pre .0 .shaped) 3) in (
       search needs,
       simp length-set (l .inv .1),
       rw (c .before .wide2 .ensures .0)
-          (set-next (lowestOf (L s)) (l .lowest) (l .f) _ h (c .lowest-of-face .ensures) (l .inv .2)),
+          (set-next (lowestOf (L s)) (l .lowest) (l .i) _ h (c .lowest-of-face .ensures) (l .inv .2)),
     )
 
 returns : tie.Need-returns Inv-loop μ-loop
@@ -131,7 +131,7 @@ lowest-of-faces-spec =
     lowest-of-face-requires
     mul-lowest
     array-write-lowest
-    add-f
+    add-i
     loop-less
     loop-again
     returns)

@@ -13,7 +13,8 @@ use Rattle.listing.proofs.Places.{few-in-rank}
 use Rattle.flag_change.specs.Flags.{IsFlag}
 use Rattle.flag_change.specs.Change.{changeAt}
 use Rattle.flag_change.proofs.Replaced.{flag-flanked}
-use Rattle.volume_metres.specs.Points.{pointOf, detIn}
+use Rattle.volume_metres.specs.Points.{pointOf}
+use Rattle.volume_metres.specs.Formulas.{detIn}
 use Rattle.volume_metres.proofs.Rounding.{det-in}
 use Rattle.volume_theory.specs.Six.{vertexAt, faceAt, otherVertex, lowestOf}
 use Rattle.volume_theory.proofs.Vertices.{inner, vertex-there, face-there, other-there}

@@ -13,7 +13,7 @@ use Rattle.search_theory.specs.Search.{evens}
 use Rattle.search_index.specs.Rows.{rowOf, rows}
 use Rattle.search_index.proofs.Rows.{row-end}
 use Rattle.volume_metres.specs.Formulas.{inFloats}
-use Rattle.volume_theory.specs.Six.{partIn, sixIn}
+use Rattle.volume_theory.specs.Six.{partFormula, sixFormula}
 use Rattle.volume_sum.proofs.SixRows.{six-none, six-even, six-odd}
 use Rattle.volume_sum.proofs.parts.six_of.Statement.{statement}
 use Rattle.volume_sum.proofs.parts.six_of.Tie as tie
@@ -21,7 +21,7 @@ use Rattle.volume_sum.proofs.parts.six_of.Tie as tie
 abbrev Inv-loop : tie.InvT-loop
 Inv-loop counts ends inc coordinates table orientations n lowest edges w end six₀ k₀ six k =
     (k ≤ end)
-    × (six ≡ inFloats coordinates (sixIn (listing counts ends inc) (evens (rows (length counts) table k) orientations)))
+    × (six ≡ inFloats coordinates (sixFormula (listing counts ends inc) (evens (rows (length counts) table k) orientations)))
 
 abbrev μ-loop : tie.MeasureT-loop
 μ-loop counts ends inc coordinates table orientations n lowest edges w end six₀ k₀ six k = end - k
@@ -134,7 +134,7 @@ loop-again c =
       ⊎-elim
           (λ a.
           a .4
-          ∙ (λ j. add binary64 (l .inv .1 j) ((a .3 .ensures ∙ ap (λ f. inFloats xs (partIn (L s) f)) (row-is t)) j))
+          ∙ (λ j. add binary64 (l .inv .1 j) ((a .3 .ensures ∙ ap (λ f. inFloats xs (partFormula (L s) f)) (row-is t)) j))
           ∙ six-even (L s) xs _ _ _ (l .k) i (a .0 .taken))
           (λ a. a .1 ∙ l .inv .1 ∙ six-odd (L s) xs _ _ _ (l .k) i (a .0 .left))
           (c .if1 .came),
