@@ -3,7 +3,8 @@
 -- Demand 1. Every entry takes any slices and comes to an end: no contract asks anything of its caller, and each is met
 -- in the end. Which refusal comes exactly when, and what is written.
 -- Demand 2, the part that is proved: the tests accept exactly what the book asks; what the counts, a reading, a change,
--- a search, an orientation, the events and the test for one body are; and a C function answers what its entry answers.
+-- a search, an orientation, the events, the test for one body and a volume are; and a C function answers what its entry
+-- answers.
 -- That the answers equal those of the Rust is shown by running both (docs/COMPARISON.md).
 -- Demand 3. What the four products keep, each said of the slices that the entry wrote, up to the lengths answered.
 -- Assumes nothing.
@@ -16,6 +17,7 @@ use Rattle.promises.proofs.OfProducts.{products-taken, products-refuse,
 use Rattle.promises.proofs.OfTexts.{texts-taken, texts-refuse, texts-answer, texts-once}
 use Rattle.promises.proofs.OfFlags.{flags-taken, flags-refuse, flags-named, flags-answer, flags-once}
 use Rattle.promises.proofs.OfBodies.{bodies-taken, bodies-refuse, bodies-named, bodies-answer, bodies-once}
+use Rattle.promises.proofs.OfVolumes.{volumes-taken, volumes-refuse, volumes-named, volumes-answer, volumes-once}
 use Rattle.promises.proofs.OfBoundary.{boundary-taken, boundary, boundary-once}
 
 pub demand-one : DemandOne
@@ -26,6 +28,7 @@ demand-one = record {
     texts = texts-taken;
     flags = flags-taken;
     bodies = bodies-taken;
+    volumes = volumes-taken;
     boundary = boundary-taken;
   };
   tests-refuse = tests-refuse;
@@ -33,7 +36,13 @@ demand-one = record {
   texts-refuse = texts-refuse;
   flags-refuse = flags-refuse;
   bodies-refuse = bodies-refuse;
-  refusals-named = record { tests = tests-named; flags = flags-named; bodies = bodies-named };
+  volumes-refuse = volumes-refuse;
+  refusals-named = record {
+    tests = tests-named;
+    flags = flags-named;
+    bodies = bodies-named;
+    volumes = volumes-named;
+  };
 }
 
 pub demand-two : DemandTwo
@@ -42,6 +51,7 @@ demand-two = record {
   texts-answer = texts-answer;
   flags-answer = flags-answer;
   bodies-answer = bodies-answer;
+  volumes-answer = volumes-answer;
   boundary-passes = boundary;
 }
 
@@ -58,5 +68,6 @@ no-second-answer = record {
   texts = texts-once;
   flags = flags-once;
   bodies = bodies-once;
+  volumes = volumes-once;
   boundary = boundary-once;
 }

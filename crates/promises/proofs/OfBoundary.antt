@@ -2,8 +2,11 @@
 -- Assumes nothing.
 use mathlib.Core.Path.{refl}
 use mathlib.Core.Bool.{true, false}
+use Rattle.listing.specs.Listing.{limits}
 use Rattle.listing_outputs.proofs.Output.{made-once}
 use Rattle.search_events.specs.Events.{eventAt}
+use Rattle.volume.specs.Volumes.{volumeBy}
+use Rattle.promises.specs.Entries.{lent, flag, metres, tables}
 use Rattle.promises.specs.OfBoundary.{BoundaryTaken, Boundary, BoundaryOnce}
 use Rattle.promises.proofs.Alike.{alike, any}
 use Rattle.promises.proofs.OfFlags.{same-search}
@@ -16,6 +19,7 @@ boundary-taken = record {
   texts = (any, any);
   flags = (any, any, any);
   bodies = any;
+  volumes = any;
 }
 
 -- The whole boundary, a field for each function.
@@ -41,6 +45,11 @@ boundary = record {
   check-text-passes = λ k a r x p. p;
   class-passes = λ k l a c r b x y p q e. rw (p, q, e);
   sign-passes = λ k l a c r s x y p q e. rw (p, q, e);
+  six-volume-passes = λ k a r x p. (
+    volumeBy limits (lent a) (flag a) (metres a) (tables a .0) (tables a .1),
+    (refl, p .1),
+    p .0,
+  );
   next-event-passes = λ at count place at′ s p. (eventAt at count place, (refl, p .1), p .0);
 }
 
@@ -60,6 +69,7 @@ boundary-once = record {
   one-fd-sign = λ k a b c x y. alike;
   one-fd-search = λ k a b c x y p q. same-search (p .0) (p .1 .0) (p .1 .1) (q .0) (q .1 .0) (q .1 .1);
   one-fd-one-body = λ k a b c x y p q. same-search (p .0) (p .1 .0) (p .1 .1) (q .0) (q .1 .0) (q .1 .1);
+  one-fd-six-volume = λ k a b c x y p q. same-search (p .0) (p .1 .0) (p .1 .1) (q .0) (q .1 .0) (q .1 .1);
   one-fd-duopyramid = λ k a b c x y. same-outcome false false;
   one-fd-duoprism = λ k a b c x y. same-outcome true false;
   one-fd-duotegum = λ k a b c x y. same-outcome false true;

@@ -116,7 +116,7 @@ module _ (m : Limits) (L : Listing) (f : List ℕ) where
     unfolding changeTest
     change-refused r = or-stop (startTest m L f) _ start-stops ∙ start-refused
 
-    search-refused : (mask room : ℕ) → searchTest m L f mask room ≡ tests.closed m L
+    pub search-refused : (mask room : ℕ) → searchTest m L f mask room ≡ tests.closed m L
     unfolding searchTest
     search-refused mask room = or-stop (startTest m L f) _ start-stops ∙ start-refused
 

@@ -1,5 +1,5 @@
 -- The three demands, and that no second answer fits: each a short record that collects what is promised of each family
--- of entries (OfTests, OfProducts, OfTexts, OfFlags, OfBodies, OfBoundary). A promise speaks of an entry through its
+-- of entries (OfTests, OfProducts, OfTexts, OfFlags, OfBodies, OfVolumes, OfBoundary). A promise speaks of an entry through its
 -- `Post`, the reading of its contract, and so of any slices that the entry is lent. An answer that is an enum is said
 -- by the number or values of its case; the events are said both ways.
 --
@@ -7,7 +7,7 @@
 -- RefusalsNamed   a refusal is true of what its fields name, and names the first such thing in order
 -- DemandOne       any slices are answered: which refusal comes exactly when, and what is written
 -- DemandTwo       the tests accept exactly what the book asks; what is answered by counts, readings of texts, changes,
---                 searches, events and the test for one body; a C function answers what its entry answers
+--                 searches, events, the test for one body and volumes; a C function answers what its entry answers
 -- DemandThree     what the four products keep
 -- OneForEach      no second answer fits the contract of any entry
 use mathlib.Core.Path.{_≡_}
@@ -23,6 +23,7 @@ use Rattle.promises.specs.OfProducts.{ProductsTaken, ProductsRefuse, Pro
 use Rattle.promises.specs.OfTexts.{TextsTaken, TextsRefuse, TextsAnswer, TextsOnce}
 use Rattle.promises.specs.OfFlags.{FlagsTaken, FlagsRefuse, FlagsNamed, FlagsAnswer, FlagsOnce}
 use Rattle.promises.specs.OfBodies.{BodiesTaken, BodiesRefuse, BodiesNamed, BodiesAnswer, BodiesOnce}
+use Rattle.promises.specs.OfVolumes.{VolumesTaken, VolumesRefuse, VolumesNamed, VolumesAnswer, VolumesOnce}
 use Rattle.promises.specs.OfBoundary.{BoundaryTaken, Boundary, BoundaryOnce}
 
 pub record AnyTaken : Type 0 where
@@ -31,12 +32,14 @@ pub record AnyTaken : Type 0 where
   pub texts : TextsTaken
   pub flags : FlagsTaken
   pub bodies : BodiesTaken
+  pub volumes : VolumesTaken
   pub boundary : BoundaryTaken
 
 pub record RefusalsNamed : Type 0 where
   pub tests : TestsNamed
   pub flags : FlagsNamed
   pub bodies : BodiesNamed
+  pub volumes : VolumesNamed
 
 pub record DemandOne : Type 0 where
   pub any-taken : AnyTaken
@@ -45,6 +48,7 @@ pub record DemandOne : Type 0 where
   pub texts-refuse : TextsRefuse
   pub flags-refuse : FlagsRefuse
   pub bodies-refuse : BodiesRefuse
+  pub volumes-refuse : VolumesRefuse
   pub refusals-named : RefusalsNamed
 
 pub record DemandTwo : Type 0 where
@@ -52,6 +56,7 @@ pub record DemandTwo : Type 0 where
   pub texts-answer : TextsAnswer
   pub flags-answer : FlagsAnswer
   pub bodies-answer : BodiesAnswer
+  pub volumes-answer : VolumesAnswer
   pub boundary-passes : Boundary
 
 pub record DemandThree : Type 0 where
@@ -66,4 +71,5 @@ pub record OneForEach : Type 0 where
   pub texts : TextsOnce
   pub flags : FlagsOnce
   pub bodies : BodiesOnce
+  pub volumes : VolumesOnce
   pub boundary : BoundaryOnce

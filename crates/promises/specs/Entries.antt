@@ -8,6 +8,7 @@
 -- SaysOfTwo   whatever two contracts admit has a property of both calls
 -- SaysOfThree the same of three contracts and calls
 -- PassesOn    whatever one contract admits another admits too, for the same arguments
+-- PassesAs    whatever one contract admits is, as f has it, an answer that another admits, for the same arguments
 -- Slice       a lent slice of numbers
 -- Three       three slices, and the parameters after them
 -- lent        the listing in the first three parameters
@@ -15,13 +16,15 @@
 -- outputs     the three output slices of a product
 -- flag        the flag of a change or a search, in the fourth parameter
 -- asked       the number after it, which says what is asked: the rank of a change, the mask of a search
--- tables      the table and the orientations of a search
+-- metres      the coordinates of a volume, in the same place
+-- tables      the table and the orientations of a search or of a volume
 -- bodyTables  the same of the test for one body, in the fourth and fifth parameter
 -- lentText    the text in the first parameter
 -- readInto    the three slices that it is read into, in the next three
 use mathlib.Core.Path.{_≡_}
 use mathlib.Core.List.{List}
 use Prim.Native.Nat.{ℕ}
+use lib.Ieee.{Float}
 use denote.Ref.{RefT, now}
 use Rattle.listing.specs.Listing.{Listing, listing}
 
@@ -55,6 +58,10 @@ module _ {K A B X : Type 0} (P Q : K → A → B → X → Type 0) where
   abbrev pub PassesOn : Type 0
   PassesOn = (k : K) (a : A) (b : B) (x : X) → P k a b x → Q k a b x
 
+module _ {K A B C X : Type 0} (f : C → B) (P : K → A → B → X → Type 0) (Q : K → A → C → X → Type 0) where
+  abbrev pub PassesAs : Type 0
+  PassesAs = (k : K) (a : A) (b : B) (x : X) → P k a b x → (c : C) × Q k a c x × (b ≡ f c)
+
 abbrev pub Slice : Type 0
 Slice = RefT (List ℕ)
 
@@ -77,7 +84,10 @@ module _ {A : Type 0} where
   abbrev pub asked : Three (Slice × (ℕ × A)) → ℕ
   asked a = a .1 .1 .1 .1 .0
 
-  abbrev pub tables : Three (Slice × (ℕ × (Slice × (Slice × A)))) → List ℕ × List ℕ
+  abbrev pub metres : Three (Slice × (RefT (List Float) × A)) → List Float
+  metres a = now (a .1 .1 .1 .1 .0)
+
+  abbrev pub tables : {B : Type 0} → Three (Slice × (B × (Slice × (Slice × A)))) → List ℕ × List ℕ
   tables a = (now (a .1 .1 .1 .1 .1 .0), now (a .1 .1 .1 .1 .1 .1 .0))
 
   abbrev pub bodyTables : Three (Slice × (Slice × A)) → List ℕ × List ℕ

@@ -1,7 +1,7 @@
 -- What is promised of the functions for C: what the contract of an fd_ function admits, that of its entry admits too,
--- for the same arguments, so that all that is promised of the entry holds of it. Three of them cross as numbers: the
--- class, the sign, the next event. The last is said of `SaidStep` and `Stepped`, of which the two contracts consist:
--- they are lent a record, a form of which the prover makes no reading (proofs/Cursor.antt).
+-- for the same arguments, so that all that is promised of the entry holds of it. Four of them cross as numbers: the
+-- class, the sign, the volume, the next event. The last is said of `SaidStep` and `Stepped`, of which the two contracts
+-- consist: they are lent a record, a form of which the prover makes no reading (proofs/Cursor.antt).
 --
 -- BoundaryTaken   any slices and numbers are taken
 -- Boundary        each fd_ function answers and writes as its entry does
@@ -27,6 +27,8 @@ use Rattle.flag.proofs.change.Reads as change
 use Rattle.flag.proofs.Orientation.sign.Reads as sign
 use Rattle.search.proofs.search.Reads as search
 use Rattle.body.proofs.one_body.Reads as one-body
+use Rattle.volume.specs.Volumes.{measuredOf}
+use Rattle.volume.proofs.six_volume.Reads as six-volume
 use Rattle.product.proofs.duopyramid.Reads as duopyramid
 use Rattle.product.proofs.duoprism.Reads as duoprism
 use Rattle.product.proofs.duotegum.Reads as duotegum
@@ -47,13 +49,14 @@ use Rattle.flumedrac.proofs.fd_change.Reads as fd-change
 use Rattle.flumedrac.proofs.fd_sign.Reads as fd-sign
 use Rattle.flumedrac.proofs.fd_search.Reads as fd-search
 use Rattle.flumedrac.proofs.fd_one_body.Reads as fd-one-body
+use Rattle.flumedrac.proofs.fd_six_volume.Reads as fd-six-volume
 use Rattle.flumedrac.proofs.fd_duopyramid.Reads as fd-duopyramid
 use Rattle.flumedrac.proofs.fd_duoprism.Reads as fd-duoprism
 use Rattle.flumedrac.proofs.fd_duotegum.Reads as fd-duotegum
 use Rattle.flumedrac.proofs.fd_duocomb.Reads as fd-duocomb
 use Rattle.flumedrac.proofs.fd_read_text.Reads as fd-read-text
 use Rattle.flumedrac.proofs.fd_check_text.Reads as fd-check-text
-use Rattle.promises.specs.Entries.{Takes, SaysOfTwo, PassesOn, OneAnswer, OneOutcome}
+use Rattle.promises.specs.Entries.{Takes, SaysOfTwo, PassesOn, PassesAs, OneAnswer, OneOutcome}
 use Rattle.promises.specs.Entries.{outputs, tables, bodyTables, readInto}
 
 pub record BoundaryTaken : Type 0 where
@@ -69,6 +72,8 @@ pub record BoundaryTaken : Type 0 where
   pub flags : Takes fd-change.Asked × Takes fd-sign.Asked × Takes fd-search.Asked
   -- the test for one body
   pub bodies : Takes fd-one-body.Asked
+  -- volumes
+  pub volumes : Takes fd-six-volume.Asked
 
 pub record Boundary : Type 0 where
   pub rank-passes : PassesOn fd-rank.Post rank.Post
@@ -93,6 +98,8 @@ pub record Boundary : Type 0 where
   pub class-passes : SaysOfTwo fd-class.Post class.Post (λ a r x c b y. a .0 ≡ c .0 → r ≡ bandNo b)
   -- the sign of the orientation that the byte stands for
   pub sign-passes : SaysOfTwo fd-sign.Post sign.Post (λ a r x c s y. ofByte (a .0) ≡ c .0 → r ≡ s)
+  -- the volume, in numbers
+  pub six-volume-passes : PassesAs measuredOf fd-six-volume.Post six-volume.Post
   -- the next event, in numbers
   pub next-event-passes : (at count place at′ : ℕ) (s : Said) → SaidStep at count place at′ s
       → (e : Event) × Stepped at count place at′ e × (s ≡ saidOf e)
@@ -112,6 +119,7 @@ pub record BoundaryOnce : Type 0 where
   pub one-fd-sign : OneAnswer fd-sign.Post
   pub one-fd-search : OneOutcome fd-search.Post tables
   pub one-fd-one-body : OneOutcome fd-one-body.Post bodyTables
+  pub one-fd-six-volume : OneOutcome fd-six-volume.Post tables
   pub one-fd-duopyramid : OneOutcome fd-duopyramid.Post outputs
   pub one-fd-duoprism : OneOutcome fd-duoprism.Post outputs
   pub one-fd-duotegum : OneOutcome fd-duotegum.Post outputs

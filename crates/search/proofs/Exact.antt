@@ -77,7 +77,7 @@ module _ (m : Limits) (L : Listing) (first : List ℕ) (mask : ℕ) (table bytes
   full-number : Searchable m L first mask → S .overflow ≡ true → r .answer .no ≡ moreFlags
   full-number T o = ap (λ x. x .answer .no) (sym (said-full T table bytes o .answer))
 
-  fine-number : Searchable m L first mask → S .overflow ≡ false → r .answer .no ≡ 0
+  pub fine-number : Searchable m L first mask → S .overflow ≡ false → r .answer .no ≡ 0
   fine-number T o = ap (λ x. x .answer .no) (sym (said-fine T table bytes o .answer))
 
   full-case : r .answer .no ≡ moreFlags → Searchable m L first mask × (S .overflow ≡ true)

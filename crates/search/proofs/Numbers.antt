@@ -16,11 +16,11 @@ use Rattle.flag_change.specs.Rules.{flagRule}
 use Rattle.flag_change.proofs.StartBroken.{start-then}
 
 -- the numbers of a row of rules are at most n
-unfoldable Most : ℕ → List Rule → Type 0
+unfoldable pub Most : ℕ → List Rule → Type 0
 Most n [] = 0 ≤ n
 Most n (w ∷ l) = (w .high ≤ n) × Most n l
 
-broken-most : (n k : ℕ) (l : List Rule) → Most n l → FirstBroken l k → k ≤ n
+pub broken-most : (n k : ℕ) (l : List Rule) → Most n l → FirstBroken l k → k ≤ n
 unfolding Most FirstBroken
 broken-most n k [] h e = omega arith
 broken-most n k (w ∷ l) h (inl b) = omega (arith, b .2, h .0)

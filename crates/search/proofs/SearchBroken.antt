@@ -4,7 +4,7 @@ use mathlib.Core.Path.{_≡_, refl, sym, ap, _∙_}
 use mathlib.Core.Logic.{_≢_, ⊎-elim}
 use mathlib.Core.Bool.{Bool, true, false, true≢false}
 use mathlib.Core.List.{List}
-use Prim.Native.Nat.{ℕ, suc}
+use Prim.Native.Nat.{ℕ, suc, _≤_}
 use native.Mathlib.Omega.{arith}
 use Rattle.listing.specs.declared.Answer.{Answer}
 use Rattle.listing.specs.Refusals.{outsideRanks, moreFlags}
@@ -23,6 +23,7 @@ use Rattle.search.specs.Rules.{searchRules}
 use Rattle.search.specs.Promised.{roomIn}
 use Rattle.search.proofs.Leads.{overflow-more}
 use Rattle.search.proofs.Cases.{answer-none, answer-some}
+use Rattle.search.proofs.Numbers.{Most, broken-most}
 
 -- the answer of a search is the first refusal
 pub answer-of : (a : Answer) (s : State (List ℕ)) → searchedOf a s .answer ≡ a
@@ -32,7 +33,7 @@ answer-of a s =
 
 module _ (m : Limits) (L : Listing) (first : List ℕ) (mask : ℕ) where
   -- 22 exactly if more flags are reachable than there is room for
-  overflow-tested : (room : ℕ) → Searchable m L first mask
+  pub overflow-tested : (room : ℕ) → Searchable m L first mask
       → Tests moreFlags moreFlags (¬ AtLeast (suc room) (Leads L mask) first)
       (on (foundBy L first mask room .overflow) (plain moreFlags))
   overflow-tested room T =
@@ -53,6 +54,13 @@ module _ (m : Limits) (L : Listing) (first : List ℕ) (mask : ℕ) where
       (fits-exact (rank L) mask .1))
       (on (foundBy L first mask room .overflow) (plain moreFlags))
       (λ I. broken-last (overflow-tested room (record { closed = C; is-flag = F; inner = I }))))
+
+  -- It is at most 22.
+  pub search-most : (room : ℕ) → searchTest m L first mask room .no ≤ moreFlags
+  unfolding Most
+  search-most room =
+      broken-most moreFlags (searchTest m L first mask room .no) (searchRules m L first mask room) (omega arith)
+      (search-broken room)
 
   module _ (table bytes : List ℕ) where
     pub said : searchedBy m L first mask table bytes .answer ≡ searchTest m L first mask (roomIn m L table bytes)

@@ -1,1 +1,4 @@
 pub mod Cases
+pub mod VolumeBroken
+pub mod Exact
+pub mod TwoCalls

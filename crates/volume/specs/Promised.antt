@@ -7,11 +7,14 @@
 -- VolumePromised   which refusal comes when; in the slices stands what a search with every change leaves, which is
 --                  refused as six_volume is, or else answered, so that at 50 to 53 and at 0 they hold its flags; and
 --                  answered with 0, r is what the even ones of the flags in the table add
+-- Negated          of two answers one is an integer and the other its negative, and so they are as floats, but for 0,
+--                  where both are the positive zero
 use mathlib.Core.Path.{_≡_}
+use mathlib.Core.Logic.{_≢_}
 use mathlib.Core.List.{List, List·Memᴰ}
 use Prim.Native.Nat.{ℕ, _+_, _≤_, _<_}
-use lib.IntN.{pos}
-use lib.Ieee.{Float, binary64, ofBits, ofInt}
+use lib.IntN.{ℤ, pos, negℤ}
+use lib.Ieee.{Float, binary64, ofBits, ofInt, neg}
 use Rattle.listing.specs.Refusals.{notRankFour}
 use Rattle.listing.specs.Listing.{Listing, Limits, rank}
 use Rattle.listing.specs.Rules.{FirstBroken}
@@ -24,7 +27,7 @@ use Rattle.volume_metres.specs.Formulas.{inFloats, inWhole, NoRounding}
 use Rattle.volume_theory.specs.Six.{vertexAt, edgeAt, faceAt, otherVertex, lowestOf, sixOf, sixFormula, OtherEnd, LowestIn}
 use Rattle.volume.specs.declared.Volume.{Volume}
 use Rattle.volume.specs.declared.Volume.the-variants.{Six}
-use Rattle.volume.specs.Volumes.{numberOf}
+use Rattle.volume.specs.Volumes.{numberOf, sixFold}
 use Rattle.volume.specs.Rules.{volumeRules}
 
 pub record Summed (L : Listing) (xs : List Float) (flags : List (List ℕ)) (r : Volume) : Type 0 where
@@ -44,3 +47,9 @@ pub record VolumePromised (m : Limits) (L : Listing) (first : List ℕ) (xs : Li
   pub as-searched : numberOf r < notRankFour → numberOf r ≡ search .answer .no
   pub found : notRankFour ≤ numberOf r → search .answer .no ≡ 0
   pub sum : numberOf r ≡ 0 → Summed L xs (evens (rows (rank L + 1) table′ (search .count)) bytes′) r
+
+pub record Negated (r s : Volume) : Type 0 where
+  pub six : ℤ
+  pub this : r ≡ Six (ofInt binary64 six)
+  pub other : s ≡ Six (ofInt binary64 (negℤ six))
+  pub opposite : six ≢ pos 0 → sixFold s ≡ neg (sixFold r)
