@@ -56,8 +56,9 @@ case $command in
 test) cargo test --release "$@" ;;
 examples)
     cargo run --release --example prism
+    cargo run --release --example volume
     printf 'rank=1\ncount=1\nsubs=\ncount=1\nsubs=0\n' | cargo run --release --example check
-    for example in cell text body; do
+    for example in cell text body volume; do
         "$CC" -std=c99 -Wall -Wextra -pedantic -Werror -I../include flumedrac/examples/$example.c \
             "${FLUMEDRAC_LIB:-../target/staticlib}/libflumedrac.a" -o target/$target/$example
         $FLUMEDRAC_RUN target/$target/$example

@@ -1,5 +1,6 @@
 /*
- * Flumedrac: tests of cells, the four products, flag changes and the oriented flag search; cells read from a text.
+ * Flumedrac: tests of cells, the four products, flag changes and the oriented flag search; cells read from a text; the
+ * volume of a cell.
  *
  * What is proved, for every input, are the contracts of the functions in crates/flumedrac: that they end, stay inside
  * the slices they are lent, and answer and write what the contracts say. This header says the same in words for C and
@@ -36,16 +37,18 @@
  * overlap no other slice of the call; slices that are only read may be the same. The caller sees to this: it cannot be
  * tested here.
  *
- * WRITING: on success the prefix of each slice that the returned lengths name is written and nothing else. A refusal
- * writes nothing at all, with two exceptions, FD_MORE_FLAGS and FD_SEVERAL_PARTS: see fd_search and fd_one_body.
+ * WRITING: on success the prefix of each slice that the returned lengths name is written and nothing else; of
+ * fd_six_volume, which returns none, what fd_search writes. A refusal writes nothing at all, with these exceptions:
+ * FD_MORE_FLAGS, FD_SEVERAL_PARTS, and the numbers from FD_NOT_RANK_FOUR on. See fd_search, fd_one_body, fd_six_volume.
  *
  * What follows is no part of what is proved; it is so by the language and by the code as it stands. The language has
  * no heap and no global state: no function allocates, keeps a pointer or touches anything but its slices, and all may
  * run in several threads at once, as long as no slice that one writes is lent to another. On the stack fd_search takes
- * about 70 KB, of which 64 KB are two arrays, its index of the flags; fd_one_body takes 8 KB more, to count flags; a
- * product about 25 KB, of which 24 KB are three arrays; fd_is_dyadic, fd_is_valid, fd_closed and fd_change about 4 KB,
- * the tally of the diamond; fd_read_text about 88 KB, what it notes of the text, and fd_check_text about 170 KB, the
- * listing that it reads besides; the others next to nothing.
+ * about 70 KB, of which 64 KB are two arrays, its index of the flags; fd_one_body takes 8 KB more, to count flags, and
+ * fd_six_volume 8 KB more, for the lowest vertex of each face; a product about 25 KB, of which 24 KB are three arrays;
+ * fd_is_dyadic, fd_is_valid, fd_closed and fd_change about 4 KB, the tally of the diamond; fd_read_text about 88 KB,
+ * what it notes of the text, and fd_check_text about 170 KB, the listing that it reads besides; the others next to
+ * nothing.
  */
 #ifndef FLUMEDRAC_H
 #define FLUMEDRAC_H
@@ -69,6 +72,7 @@ extern "C" {
 #define FD_MAX_INCIDENCES 32768 /* numbers in inc */
 #define FD_MAX_FLAGS 16384      /* flags that a search finds */
 #define FD_MAX_TEXT 65536       /* bytes of a text */
+#define FD_MAX_METRES 1000      /* metres of a coordinate, either way from 0 */
 
 /*
  * The numbers of the refusals, with the fields (a, b, c, d) of fd_answer that they carry. Fields not named are 0.
@@ -103,7 +107,7 @@ enum {
     /* Flags. */
     FD_NOT_A_FLAG = 20,    /* the numbers given are no flag of the listing: see fd_change */
     FD_OUTSIDE_RANKS = 21, /* a change or a bit of the mask outside 1 to rank - 1 */
-    FD_MORE_FLAGS = 22,    /* more flags than there is room for: see fd_search and fd_one_body */
+    FD_MORE_FLAGS = 22,    /* more flags than there is room for: see fd_search, fd_one_body and fd_six_volume */
     FD_SEVERAL_PARTS = 25, /* the flags are in several parts: see fd_one_body */
 
     /* Products. */
@@ -119,7 +123,13 @@ enum {
     FD_WRONG_KEY = 40,  /* a line does not begin with its key, or is not there */
     FD_BAD_LINE = 41,   /* a line has a bad number, or no newline */
     FD_LONG_TEXT = 42,  /* more than FD_MAX_TEXT bytes */
-    FD_MORE_BYTES = 43  /* bytes after the last line */
+    FD_MORE_BYTES = 43, /* bytes after the last line */
+
+    /* Volumes: see fd_six_volume. */
+    FD_NOT_RANK_FOUR = 50,     /* the rank is not 4 */
+    FD_NOT_ORIENTABLE = 51,    /* the search says "not orientable" */
+    FD_WRONG_COORDINATES = 52, /* not three coordinates for each vertex */
+    FD_NOT_IN_METRES = 53      /* a coordinate that is not whole, or not from -FD_MAX_METRES to FD_MAX_METRES */
 };
 
 /* The classes of refusals, as fd_class answers them. */
@@ -166,6 +176,12 @@ typedef struct {
     fd_answer answer;
     uint16_t counts, ends, inc;
 } fd_built;
+
+/* no is FD_ACCEPTED or a refusal's number; six is six times the volume, 0.0 on a refusal. */
+typedef struct {
+    uint16_t no;
+    double six;
+} fd_volume;
 
 /* Where an iteration over events stands; begin with 0. */
 typedef struct {
@@ -255,6 +271,34 @@ fd_searched fd_search(FD_LISTING(), const uint16_t *first, size_t first_len, uin
  * as they do on success: flags of one part, as far as there was room.
  */
 fd_searched fd_one_body(FD_LISTING(), uint16_t *table, size_t table_len, uint8_t *orientations,
+                        size_t orientations_len);
+
+/*
+ * Six times the volume of a cell of rank 4. coordinates has three numbers for each vertex, x, y and z, the vertices in
+ * the order of their indices; each is a whole number of metres from -1,000 to 1,000.
+ *
+ * The cell is searched by every change, bits 1 to rank - 1 of the mask, from the first flag. For each flag found that
+ * is FD_EVEN, with vertex v, edge e and face f, the determinant of three vertices is taken: the lowest-numbered one of
+ * f, v, and the other one of e. six is their sum. It is exact, a whole number; a zero is always 0.0 and never -0.0.
+ * From the first flag changed once it is the same with the other sign, zero apart. With all vertices moved by the same
+ * whole metres it is the same, as long as they stay in range.
+ *
+ * No more is promised. By geometry, which is not proved here, it is six times the volume of what was searched if each
+ * face is one ring of edges in a plane and the faces do not run through each other, which is not tested. It is then
+ * positive if the first flag's edge, seen from outside and with right-handed axes, leads from its vertex
+ * counterclockwise around its face. Of several cells under one top, which fd_one_body refuses, it is that of the one
+ * which the first flag belongs to. A cube of side 10 gives 6,000 or -6,000; with two opposite faces written as one,
+ * which is closed and one body all the same, 4,000 or -4,000.
+ *
+ * Room, and what stands in table and orientations afterwards, are those of fd_search. Refusals, by their number alone:
+ * those of fd_closed, then FD_NOT_A_FLAG, then FD_MORE_FLAGS, all as fd_search gives them; then FD_NOT_RANK_FOUR,
+ * FD_NOT_ORIENTABLE, FD_WRONG_COORDINATES if coordinates_len is not three times the number of vertices, and
+ * FD_NOT_IN_METRES for a coordinate that is not whole or out of range, as NaN is and infinities are; -0.0 is whole.
+ * FD_MORE_FLAGS leaves the flags found until there was no more room; those after it leave all flags of the search; the
+ * others write nothing. Where the listing is refused, fd_closed says where.
+ */
+fd_volume fd_six_volume(FD_LISTING(), const uint16_t *first, size_t first_len, const double *coordinates,
+                        size_t coordinates_len, uint16_t *table, size_t table_len, uint8_t *orientations,
                         size_t orientations_len);
 
 /* The sign of an orientation byte: 1.0 for FD_EVEN, -1.0 for any other byte. */
@@ -370,6 +414,10 @@ FD_INLINE const char *fd_refusal_text(uint16_t no)
     case FD_BAD_LINE: return "a line of the text has a bad number, or does not end with a newline";
     case FD_LONG_TEXT: return "the text has more than 65,536 bytes";
     case FD_MORE_BYTES: return "the text goes on after its last line";
+    case FD_NOT_RANK_FOUR: return "the cell's rank is not 4";
+    case FD_NOT_ORIENTABLE: return "the cell is not orientable";
+    case FD_WRONG_COORDINATES: return "there are not three coordinates for each vertex";
+    case FD_NOT_IN_METRES: return "a coordinate is not a whole number of metres from -1,000 to 1,000";
     default: return "unknown number";
     }
 }
@@ -396,6 +444,12 @@ FD_INLINE const uint8_t *fd_lent_text(const uint8_t *text, size_t length)
 {
     static const uint8_t none = 0;
     return length == 0 ? &none : text;
+}
+
+FD_INLINE const double *fd_lent_coordinates(const double *coordinates, size_t length)
+{
+    static const double none = 0.0;
+    return length == 0 ? &none : coordinates;
 }
 
 FD_INLINE uint8_t *fd_lent_bytes(uint8_t *bytes, size_t length)
@@ -468,6 +522,16 @@ FD_INLINE fd_searched fd_one_body_guarded(FD_LISTING(), uint16_t *table, size_t 
                        fd_lent_bytes(orientations, orientations_len), orientations_len);
 }
 
+FD_INLINE fd_volume fd_six_volume_guarded(FD_LISTING(), const uint16_t *first, size_t first_len,
+                                          const double *coordinates, size_t coordinates_len, uint16_t *table,
+                                          size_t table_len, uint8_t *orientations, size_t orientations_len)
+{
+    return fd_six_volume(FD_LENT_LISTING(), fd_lent_numbers(first, first_len), first_len,
+                         fd_lent_coordinates(coordinates, coordinates_len), coordinates_len,
+                         fd_lent_room(table, table_len), table_len, fd_lent_bytes(orientations, orientations_len),
+                         orientations_len);
+}
+
 FD_INLINE fd_built fd_read_text_guarded(const uint8_t *text, size_t text_len, FD_OUTPUT)
 {
     return fd_read_text(fd_lent_text(text, text_len), text_len, FD_LENT_OUTPUT);
@@ -490,6 +554,7 @@ FD_INLINE uint16_t fd_check_text_guarded(const uint8_t *text, size_t text_len)
 #define fd_change(...) fd_change_guarded(__VA_ARGS__)
 #define fd_search(...) fd_search_guarded(__VA_ARGS__)
 #define fd_one_body(...) fd_one_body_guarded(__VA_ARGS__)
+#define fd_six_volume(...) fd_six_volume_guarded(__VA_ARGS__)
 #define fd_duopyramid(...) fd_duopyramid_guarded(__VA_ARGS__)
 #define fd_duoprism(...) fd_duoprism_guarded(__VA_ARGS__)
 #define fd_duotegum(...) fd_duotegum_guarded(__VA_ARGS__)

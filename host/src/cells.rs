@@ -103,6 +103,18 @@ pub fn grid(n: u16, m: u16, klein: bool) -> Listing {
     ])
 }
 
+/// Two groups of `n` vertices, from 2, each joined to each of the other group, and `n` faces that have all vertices: of
+/// all orientable cells of rank 4 with so few elements it has about the most flags, four for each edge. Vertex i of the
+/// first group and vertex j of the second are joined by edge n i + j, which lies in faces i + j and i + j - 1 around.
+pub fn joined(n: u16) -> Listing {
+    let pairs = || (0..n).flat_map(|i| (0..n).map(move |j| (i, j)));
+    let edges = pairs().map(|(i, j)| vec![i, n + j]).collect();
+    let lies_in = |k: u16, i: u16, j: u16| [k, (k + 1) % n].contains(&((i + j) % n));
+    let face = |k: u16| pairs().filter(|&(i, j)| lies_in(k, i, j)).map(|(i, j)| n * i + j).collect();
+    let faces = (0..n).map(face).collect();
+    listing(vec![vec![vec![]], vec![vec![0]; 2 * usize::from(n)], edges, faces, vec![(0..n).collect()]])
+}
+
 /// Polygons one upon another: each vertex of one lies over all edges of the one before. There are as many flags as the
 /// polygons' numbers multiplied, and each polygon has two for each side.
 pub fn stacked(sides: &[u16]) -> Listing {

@@ -6,7 +6,7 @@
 
 use std::ptr;
 
-use flumedrac::ffi::{Answer, Built, Changed, Cursor, Event, Number, Searched};
+use flumedrac::ffi::{Answer, Built, Changed, Cursor, Event, Number, Searched, Volume};
 use flumedrac::Slices;
 
 use crate::library::{Archive, Kind, Library, Outputs, Test};
@@ -89,12 +89,12 @@ impl Guarded {
 
     /// What a search answers at either place, with its table and its orientations in areas behind those of a listing
     /// and a flag; they get what stands in the copies afterwards.
-    fn searched(
+    fn searched<A: PartialEq>(
         &self,
         table: &mut [u16],
         orientations: &mut [u8],
-        search: impl Fn(Place, &mut [u16], &mut [u8]) -> Searched,
-    ) -> Searched {
+        search: impl Fn(Place, &mut [u16], &mut [u8]) -> A,
+    ) -> A {
         let (searched, new_table, new_orientations) = both(|at| {
             let (table, orientations) = (self.lend(4, at, table), self.lend(5, at, orientations));
             let searched = search(at, table, orientations);
@@ -187,6 +187,25 @@ impl Library for Guarded {
             unchanged(lent, l);
             searched
         })
+    }
+
+    fn six_volume(
+        &self,
+        l: Slices<'_>,
+        first: &[u16],
+        coordinates: &[f64],
+        table: &mut [u16],
+        orientations: &mut [u8],
+    ) -> Volume {
+        // Bits are compared, not numbers: a zero has two signs, and a NaN is not equal to itself.
+        let bits = |numbers: &[f64]| -> Vec<u64> { numbers.iter().map(|x| x.to_bits()).collect() };
+        let (no, six) = self.searched(table, orientations, |at, table, orientations| {
+            let lent = (self.listing(0, at, l), self.read(3, at, first), self.read(6, at, coordinates));
+            let volume = Archive.six_volume(lent.0, lent.1, lent.2, table, orientations);
+            unchanged((lent.0, lent.1, bits(lent.2)), (l, first, bits(coordinates)));
+            (volume.no, volume.six.to_bits())
+        });
+        Volume { no, six: f64::from_bits(six) }
     }
 
     fn sign(&self, orientation: u8) -> f64 {

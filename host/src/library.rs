@@ -1,6 +1,6 @@
 //! What a library answers, on lent slices.
 
-use flumedrac::ffi::{Answer, Built, Changed, Cursor, Event, Number, Searched};
+use flumedrac::ffi::{Answer, Built, Changed, Cursor, Event, Number, Searched, Volume};
 use flumedrac::{raw, Listing, Slices, MAX_ELEMENTS, MAX_INCIDENCES, MAX_RANKS};
 
 use crate::Raw;
@@ -75,6 +75,14 @@ pub trait Library {
     fn change(&self, l: Slices<'_>, flag: &[u16], r: u16) -> Changed;
     fn search(&self, l: Slices<'_>, first: &[u16], mask: u16, table: &mut [u16], orientations: &mut [u8]) -> Searched;
     fn one_body(&self, l: Slices<'_>, table: &mut [u16], orientations: &mut [u8]) -> Searched;
+    fn six_volume(
+        &self,
+        l: Slices<'_>,
+        first: &[u16],
+        coordinates: &[f64],
+        table: &mut [u16],
+        orientations: &mut [u8],
+    ) -> Volume;
     fn sign(&self, orientation: u8) -> f64;
     fn next_event(&self, cursor: &mut Cursor, count: u16, place: u16) -> Event;
     fn product(&self, kind: Kind, p: Slices<'_>, q: Slices<'_>, outputs: Outputs<'_>) -> Built;
@@ -145,6 +153,17 @@ impl Library for Archive {
 
     fn one_body(&self, l: Slices<'_>, table: &mut [u16], orientations: &mut [u8]) -> Searched {
         raw::one_body(l, table, orientations)
+    }
+
+    fn six_volume(
+        &self,
+        l: Slices<'_>,
+        first: &[u16],
+        coordinates: &[f64],
+        table: &mut [u16],
+        orientations: &mut [u8],
+    ) -> Volume {
+        raw::six_volume(l, first, coordinates, table, orientations)
     }
 
     fn sign(&self, orientation: u8) -> f64 {

@@ -1,6 +1,6 @@
 //! One question to a library, and its reply.
 
-use flumedrac::ffi::{Answer, Built, Cursor, Number, Searched};
+use flumedrac::ffi::{Answer, Built, Cursor, Number, Searched, Volume};
 use flumedrac::{MAX_FLAGS, MAX_RANKS};
 
 use crate::library::{Kind, Library, Outputs, Test};
@@ -35,6 +35,14 @@ pub enum Question<L> {
     /// Whether a cell is one body, with the lengths of the table and of the orientations.
     OneBody {
         cell: L,
+        table: usize,
+        orientations: usize,
+    },
+    /// Six times the volume of a cell, with the lengths of the table and of the orientations.
+    SixVolume {
+        cell: L,
+        first: Vec<u16>,
+        coordinates: Vec<f64>,
         table: usize,
         orientations: usize,
     },
@@ -112,6 +120,16 @@ pub fn answer_numbers(answer: Answer) -> Vec<i64> {
     [no, a, b, c, d].map(i64::from).to_vec()
 }
 
+/// The numbers of a volume: a refusal's, and the six-fold volume. One that is -0.0 or not whole is told by a third, its
+/// bits, and has 0 in its place.
+pub fn volume_numbers(volume: Volume) -> Vec<i64> {
+    let whole = volume.six as i64;
+    match (whole as f64).to_bits() == volume.six.to_bits() {
+        true => vec![volume.no.into(), whole],
+        false => vec![volume.no.into(), 0, volume.six.to_bits() as i64],
+    }
+}
+
 impl Reply {
     pub fn of(numbers: Vec<i64>) -> Self {
         Self { numbers, ..Self::default() }
@@ -121,15 +139,22 @@ impl Reply {
         Self::of(vec![number.no.into(), number.value as i64])
     }
 
-    /// What a search found, and the slices of these lengths that it was lent: the table and the orientations.
-    fn searched(table: usize, orientations: usize, search: impl FnOnce(&mut [u16], &mut [u8]) -> Searched) -> Self {
+    /// The numbers of an answer, and the slices of these lengths that were lent for it: a table and orientations.
+    fn lent(table: usize, orientations: usize, ask: impl FnOnce(&mut [u16], &mut [u8]) -> Vec<i64>) -> Self {
         let (mut table, mut orientations) = (words(table), bytes(orientations));
-        let searched = search(table.slice(), orientations.slice());
-        let mut numbers = answer_numbers(searched.answer);
-        numbers.extend([searched.count, searched.place, searched.orientable.into()].map(i64::from));
+        let numbers = ask(table.slice(), orientations.slice());
         let spilled = table.spilled() || orientations.spilled();
         let wide = orientations.slice().iter().map(|&byte| byte.into()).collect();
         Reply { numbers, slices: vec![table.slice().to_vec(), wide], spilled }
+    }
+
+    /// What a search found, and the slices of these lengths that it was lent.
+    fn searched(table: usize, orientations: usize, search: impl FnOnce(&mut [u16], &mut [u8]) -> Searched) -> Self {
+        Self::lent(table, orientations, |table, odd| {
+            let searched = search(table, odd);
+            let found = [searched.count, searched.place, searched.orientable.into()].map(i64::from);
+            [answer_numbers(searched.answer), found.to_vec()].concat()
+        })
     }
 
     /// The lengths and the slices of a listing that is built in slices of these lengths.
@@ -158,6 +183,7 @@ impl<L: AsRef<Raw>> Question<L> {
             Question::Change { .. } => "change",
             Question::Search { .. } => "search",
             Question::OneBody { .. } => "one_body",
+            Question::SixVolume { .. } => "six_volume",
             Question::Events { .. } => "events",
             Question::Product { kind, .. } => kind.name(),
             Question::ReadText { .. } => "read_text",
@@ -191,6 +217,11 @@ impl<L: AsRef<Raw>> Question<L> {
             Question::OneBody { cell, table, orientations } => {
                 let cell = cell.as_ref().slices();
                 Reply::searched(*table, *orientations, |table, odd| library.one_body(cell, table, odd))
+            }
+            Question::SixVolume { cell, first, coordinates, table, orientations } => {
+                let cell = cell.as_ref().slices();
+                let ask = |table: &mut [u16], odd: &mut [u8]| library.six_volume(cell, first, coordinates, table, odd);
+                Reply::lent(*table, *orientations, |table, odd| volume_numbers(ask(table, odd)))
             }
             Question::Events { cell, first, mask } => events(library, cell.as_ref(), first, *mask),
             Question::Product { kind, p, q, room } => {
@@ -276,5 +307,15 @@ mod tests {
             lent.0[at] = 7;
             assert!(lent.spilled());
         }
+    }
+
+    /// No two volumes have the same numbers, though most have two only.
+    #[test]
+    fn volumes_are_told_apart() {
+        let numbers = |six| volume_numbers(Volume { no: 0, six });
+        assert_eq!([0.0, -6000.0].map(numbers), [vec![0, 0], vec![0, -6000]]);
+        assert_eq!(numbers(-0.0), [0, 0, i64::MIN]);
+        let others = [0.5, f64::MIN_POSITIVE, 1e300, f64::NAN, f64::INFINITY];
+        assert!(others.map(numbers).iter().zip(others).all(|(told, six)| *told == [0, 0, six.to_bits() as i64]));
     }
 }

@@ -40,6 +40,46 @@ impl Display for List<'_> {
     }
 }
 
+/// Coordinates in brackets, each as one number: metres from -2,000 to 2,000 with 2,000 added, or 4,001 and on for
+/// others that are worth a number. All that have none are an x and their bits; the program `replay` knows no such.
+struct Coordinates<'a>(&'a [f64]);
+
+/// What is added to metres; the number of the first of the others, and these.
+const ADDED: f64 = 2000.0;
+const FIRST_OTHER: u16 = 4001;
+const OTHERS: [f64; 5] = [f64::NAN, f64::INFINITY, f64::NEG_INFINITY, 0.5, -0.0];
+
+/// The coordinate that a number stands for, if there is one.
+fn coordinate(number: u16) -> Option<f64> {
+    match number.checked_sub(FIRST_OTHER) {
+        None => Some(f64::from(number) - ADDED),
+        Some(other) => OTHERS.get(usize::from(other)).copied(),
+    }
+}
+
+/// A coordinate as it is written in a list.
+fn written_coordinate(x: f64) -> String {
+    let near = (x + ADDED) as u16;
+    let stands_for = |number: &u16| coordinate(*number).map(f64::to_bits) == Some(x.to_bits());
+    let number = [near].into_iter().chain(FIRST_OTHER..).take(1 + OTHERS.len()).find(stands_for);
+    number.map_or(format!("x{:016x}", x.to_bits()), |number| number.to_string())
+}
+
+/// A coordinate read from a list.
+fn read_coordinate(item: &str) -> Option<f64> {
+    match item.strip_prefix('x') {
+        Some(bits) => u64::from_str_radix(bits, 16).ok().map(f64::from_bits),
+        None => coordinate(item.parse().ok()?),
+    }
+}
+
+impl Display for Coordinates<'_> {
+    fn fmt(&self, f: &mut fmt::Formatter<'_>) -> fmt::Result {
+        let written: Vec<String> = self.0.iter().map(|&x| written_coordinate(x)).collect();
+        write!(f, "[{}]", written.join(" "))
+    }
+}
+
 /// Bytes in quotes, escaped as in Rust. The program `replay` knows `\n` alone: there, other bytes stand for themselves.
 struct Quoted<'a>(&'a [u8]);
 
@@ -72,6 +112,10 @@ impl<L: AsRef<Raw>> Display for Question<L> {
                 write!(f, "{} {} {mask} {table} {orientations}", cell.as_ref(), List(first))
             }
             Question::OneBody { cell, table, orientations } => write!(f, "{} {table} {orientations}", cell.as_ref()),
+            Question::SixVolume { cell, first, coordinates, table, orientations } => {
+                let (cell, first, coordinates) = (cell.as_ref(), List(first), Coordinates(coordinates));
+                write!(f, "{cell} {first} {coordinates} {table} {orientations}")
+            }
             Question::Events { cell, first, mask } => write!(f, "{} {} {mask}", cell.as_ref(), List(first)),
             Question::Product { p, q, room: [counts, ends, inc], .. } => {
                 write!(f, "{} {} {counts} {ends} {inc}", p.as_ref(), q.as_ref())
@@ -116,15 +160,20 @@ impl<'a> Words<'a> {
         self.word()?.parse().ok()
     }
 
-    /// Numbers in brackets, where `5*3` stands for `5 5 5`.
-    fn list(&mut self) -> Option<Vec<u16>> {
+    /// What stands in brackets, where `5*3` stands for `5 5 5`.
+    fn items<T: Clone>(&mut self, read: impl Fn(&str) -> Option<T>) -> Option<Vec<T>> {
         let inside = self.word()?.strip_prefix('[')?.strip_suffix(']')?;
         let mut list = vec![];
         for item in inside.split_whitespace() {
             let (number, times) = item.split_once('*').unwrap_or((item, "1"));
-            list.extend(std::iter::repeat_n(number.parse::<u16>().ok()?, times.parse().ok()?));
+            list.extend(std::iter::repeat_n(read(number)?, times.parse().ok()?));
         }
         Some(list)
+    }
+
+    /// Numbers in brackets.
+    fn list(&mut self) -> Option<Vec<u16>> {
+        self.items(|number| number.parse().ok())
     }
 
     fn raw(&mut self) -> Option<Raw> {
@@ -221,6 +270,13 @@ impl Question<Raw> {
             "one_body" => {
                 Question::OneBody { cell: words.raw()?, table: words.number()?, orientations: words.number()? }
             }
+            "six_volume" => Question::SixVolume {
+                cell: words.raw()?,
+                first: words.list()?,
+                coordinates: words.items(read_coordinate)?,
+                table: words.number()?,
+                orientations: words.number()?,
+            },
             "events" => Question::Events { cell: words.raw()?, first: words.list()?, mask: words.number()? },
             "read_text" => Question::ReadText { text: words.bytes()?, room: words.room()? },
             "check_text" => Question::CheckText(words.bytes()?),
@@ -268,6 +324,13 @@ mod tests {
             Question::Change { cell: cell(), flag: vec![0; 4], r: 1 },
             Question::Search { cell: cell(), first: vec![0; 4], mask: 6, table: 25, orientations: 7 },
             Question::OneBody { cell: cell(), table: 25, orientations: 7 },
+            Question::SixVolume {
+                cell: cell(),
+                first: vec![0; 4],
+                coordinates: vec![0.0; 9],
+                table: 25,
+                orientations: 7,
+            },
             Question::Events { cell: cell(), first: vec![0; 4], mask: 6 },
             Question::Product { kind: Kind::Duoprism, p: cell(), q: Raw::default(), room: [0, 1, 2] },
             Question::ReadText { text: b"rank=0\ncount=1\nsubs=\n".to_vec(), room: [1, 2, 0] },
@@ -280,6 +343,14 @@ mod tests {
             assert_eq!(read.to_string(), text);
             assert_eq!(read.ask(&Model::default()), reply);
             assert_eq!(Reply::read(&reply.to_string()), Some(reply));
+        }
+        let metres = "six_volume [1] [0 0] [] [0] [0 1999 2000*2 4000 4001 4002 4003 4004 4005 x40a0010000000000] 1 1";
+        let Some(Question::SixVolume { coordinates, .. }) = Question::read(metres) else { panic!("no question") };
+        let expected = [-2000.0, -1.0, 0.0, 0.0, 2000.0, f64::NAN, f64::INFINITY, f64::NEG_INFINITY, 0.5, -0.0, 2048.5];
+        assert_eq!(coordinates.iter().map(|x| x.to_bits()).collect::<Vec<_>>(), expected.map(f64::to_bits));
+        assert_eq!(Question::read(metres).unwrap().to_string(), metres.replace("2000*2", "2000 2000"));
+        for bad in ["4006", "-1", "65535", "0.5", "x", "nan"] {
+            assert!(Question::read(&format!("six_volume [1] [0 0] [] [0] [{bad}] 1 1")).is_none(), "{bad}");
         }
         let pieces = Question::read(r#"check_text "a"*2"\n"" b"*0"c""#).expect("a text in pieces");
         assert_eq!(pieces.to_string(), r#"check_text "aa\nc""#);

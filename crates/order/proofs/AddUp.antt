@@ -1,13 +1,10 @@
--- Integers of the things of a list, added up: over ++, term by term, and how large the sum can be.
+-- Integers of the things of a list, added up, term by term.
 -- Assumes nothing.
-use mathlib.Core.Path.{_≡_, refl, sym, ap, ap₂, _∙_}
-use mathlib.Core.List.{List, [], _∷_, _++_, List·Memᴰ, List·Memᴰ·head, List·Memᴰ·tail}
-use Prim.Native.Nat.{ℕ, _+_, _*_, _≤_}
-use native.Mathlib.Omega.{arith}
-use lib.ListN.{length}
-use lib.IntN.{ℤ, pos, negℤ, natAbs, _+ℤ_, +ℤ-assoc, +ℤ-comm, +ℤ-idl, negℤ-+ℤ}
+use mathlib.Core.Path.{_≡_, refl, sym, ap₂}
+use mathlib.Core.List.{List, [], _∷_, List·Memᴰ, List·Memᴰ·head, List·Memᴰ·tail}
+use lib.IntN.{ℤ, pos, negℤ, _+ℤ_, +ℤ-assoc, +ℤ-comm, negℤ-+ℤ}
 use Rattle.order.specs.Sums.{addUp}
-use Rattle.order.proofs.Integers.{+ℤ-left, abs-add}
+use Rattle.order.proofs.Integers.{+ℤ-left}
 
 module _ {A : Type 0} where
   pub add-up-none : (f : A → ℤ) → addUp f [] ≡ pos 0
@@ -17,11 +14,6 @@ module _ {A : Type 0} where
   pub add-up-first : (f : A → ℤ) (x : A) (l : List A) → addUp f (x ∷ l) ≡ f x +ℤ addUp f l
   unfolding addUp
   add-up-first f x l = refl
-
-  pub add-up-append : (f : A → ℤ) (l m : List A) → addUp f (l ++ m) ≡ addUp f l +ℤ addUp f m
-  unfolding addUp
-  add-up-append f [] m = sym (+ℤ-idl (addUp f m))
-  add-up-append f (x ∷ l) m = rw (add-up-append f l m) (sym (+ℤ-assoc (f x) (addUp f l) (addUp f m)))
 
   -- equal terms
   pub add-up-same : (f g : A → ℤ) (l : List A) → ((x : A) → List·Memᴰ x l → f x ≡ g x) → addUp f l ≡ addUp g l
@@ -41,16 +33,3 @@ module _ {A : Type 0} where
   unfolding addUp
   add-up-neg f [] = refl
   add-up-neg f (x ∷ l) = rw (add-up-neg f l) (sym (negℤ-+ℤ (f x) (addUp f l)))
-
-  -- where no term is larger than n, the sum is not larger than as many times n as there are terms
-  pub add-up-small : (f : A → ℤ) (n : ℕ) (l : List A) → ((x : A) → List·Memᴰ x l → natAbs (f x) ≤ n)
-      → natAbs (addUp f l) ≤ length l * n
-  unfolding addUp
-  add-up-small f n [] h = omega arith
-  add-up-small f n (x ∷ l) h =
-      omega (
-        arith,
-        abs-add (f x) (addUp f l),
-        h x (List·Memᴰ·head refl),
-        add-up-small f n l (λ y m. h y (List·Memᴰ·tail m)),
-      )

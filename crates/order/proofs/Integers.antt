@@ -7,8 +7,8 @@ use native.Mathlib.Nat.{zero-mul}
 use native.Mathlib.Omega.{arith}
 use borrow.Author.Tests.{ltb-true, ltb-false}
 use lib.Dec.{ltb}
-use lib.IntN.{ℤ, pos, negsuc, negℤ, sucℤ, predℤ, natAbs, _+ℤ_, _-ℤ_, _*ℤ_, +ℤ-idl, +ℤ-idr, +ℤ-sucℤ, +ℤ-predℤ}
-use lib.IntN.{+ℤ-assoc, +ℤ-comm, +ℤ-invl, +ℤ-invr, sucℤ-*ℤ, predℤ-*ℤ, zero-*ℤ, *ℤ-comm, negℤ-+ℤ, negℤ-negℤ}
+use lib.IntN.{ℤ, pos, negsuc, negℤ, sucℤ, predℤ, natAbs, _+ℤ_, _*ℤ_, +ℤ-idl, +ℤ-idr, +ℤ-sucℤ, +ℤ-predℤ}
+use lib.IntN.{+ℤ-assoc, +ℤ-comm, +ℤ-invl, +ℤ-invr, sucℤ-*ℤ, predℤ-*ℤ, zero-*ℤ, *ℤ-comm, negℤ-negℤ}
 
 -- ---- signs
 

@@ -7,7 +7,7 @@ use mathlib.Core.List.{List, [], _∷_, List·Memᴰ, List·Memᴰ·head, List·
 use mathlib.Core.List.{List·Memᴰ·cases-cons, Memᴰ·cast}
 use lib.IntN.{ℤ, _+ℤ_}
 use Rattle.order.specs.Sums.{addUp}
-use Rattle.order.proofs.AddUp.{add-up-none, add-up-first, add-up-same}
+use Rattle.order.proofs.AddUp.{add-up-none, add-up-first}
 use Rattle.order.proofs.Integers.{+ℤ-left}
 use Rattle.search_theory.specs.Search.{Once}
 

@@ -2,17 +2,16 @@
 -- what the sum stands on.
 -- Assumes nothing.
 use mathlib.Core.Path.{_≡_, refl, sym, ap, _∙_}
-use mathlib.Core.Bool.{true, false, not, cond}
+use mathlib.Core.Bool.{false, not, cond}
 use mathlib.Core.Logic.{_≢_, _⊎_, inl, inr}
 use mathlib.Core.List.{List, List·Memᴰ}
-use Prim.Native.Nat.{ℕ, zero, suc, _+_, _-_, _*_, _≤_, _<_}
+use Prim.Native.Nat.{ℕ, zero, suc, _+_, _-_, _*_, _≤_}
 use native.Mathlib.Nat.{mul-le-mul-right}
 use native.Mathlib.Omega.{arith}
 use borrow.Author.Tests.{eqb-true, eqb-false, ne-eqb, not-false}
 use lib.Dec.{eqb}
-use lib.ListN.{length, getD}
-use lib.Ieee.{Float, binary64, ofInt}
-use Rattle.listing.specs.Refusals.{notRankFour, notOrientable, wrongCoordinates, notInMetres}
+use lib.ListN.{length}
+use lib.Ieee.{Float}
 use Rattle.order.specs.Lists.{over}
 use Rattle.listing.specs.Answers.{fine}
 use Rattle.listing.specs.Listing.{Listing, limits, rank, count}
@@ -30,9 +29,9 @@ use Rattle.search_masks.specs.Masks.{everyRank}
 use Rattle.search_walk.specs.Searched.{maskChanges, foundBy}
 use Rattle.search_walk.specs.Ready.{AllFlags}
 use Rattle.search.specs.declared.Searched.{Searched}
-use Rattle.search.specs.SearchedBy.{refusedAs, foundAs, roomOf, searchedBy, tableAfter, bytesAfter}
+use Rattle.search.specs.SearchedBy.{foundAs, roomOf, searchedBy, tableAfter, bytesAfter}
 use Rattle.search.specs.Exact.{Searchable, Holds}
-use Rattle.search.specs.Promised.{roomIn, Promised}
+use Rattle.search.specs.Promised.{roomIn}
 use Rattle.search.proofs.Cases.{Ends, room-fits, ends-start, said-fine}
 use Rattle.search.proofs.Contents.{rows-are}
 use Rattle.search.proofs.Exact.{fine-case, promised}
@@ -42,9 +41,8 @@ use Rattle.volume_metres.specs.Formulas.{inFloats}
 use Rattle.volume_theory.specs.Six.{cellRank, evenFlags, sixFormula}
 use Rattle.volume_theory.proofs.EvenFlags.{Oriented, even-flag}
 use Rattle.volume_theory.proofs.Exactly.{six-exact}
-use Rattle.volume.specs.declared.Volume.{Volume}
 use Rattle.volume.specs.declared.Volume.the-variants.{Six, Refused}
-use Rattle.volume.specs.Volumes.{volumeTest, volumeAs, volumeBy}
+use Rattle.volume.specs.Volumes.{volumeTest, volumeBy}
 
 -- ---- the mask
 

@@ -1,19 +1,15 @@
 -- What is promised of six_volume holds: which refusal comes when, what the slices then hold, and what is answered.
 -- Assumes nothing.
-use mathlib.Core.Path.{_≡_, refl, sym, ap, _∙_}
+use mathlib.Core.Path.{_≡_, sym, ap, _∙_}
 use mathlib.Core.List.{List}
-use Prim.Native.Nat.{ℕ, _+_}
-use lib.ListN.{length}
-use lib.IntN.{pos}
+use Prim.Native.Nat.{ℕ}
 use lib.Ieee.{Float, binary64, ofInt}
 use Rattle.listing.specs.Listing.{Listing, limits, rank}
-use Rattle.search_theory.specs.Search.{evens}
-use Rattle.search_index.specs.Rows.{rows}
 use Rattle.search_masks.specs.Masks.{everyRank}
 use Rattle.search.specs.Promised.{roomIn}
 use Rattle.search.proofs.Exact.{promised}
 use Rattle.volume_metres.proofs.Running.{zero-literal}
-use Rattle.volume_theory.specs.Six.{faceAt, evenFlags, sixOf, sixFormula}
+use Rattle.volume_theory.specs.Six.{faceAt, evenFlags, sixOf}
 use Rattle.volume_theory.proofs.Vertices.{face-there, other-end}
 use Rattle.volume_theory.proofs.Lowest.{lowest-in}
 use Rattle.volume_theory.proofs.Exactly.{six-whole, six-no-rounding, six-exact}
@@ -21,7 +17,7 @@ use Rattle.volume.specs.declared.Volume.{Volume}
 use Rattle.volume.specs.declared.Volume.the-variants.{Six}
 use Rattle.volume.specs.Volumes.{numberOf, volumeTest, volumeBy, volumeTableAfter, volumeBytesAfter}
 use Rattle.volume.specs.Promised.{Summed, VolumePromised}
-use Rattle.volume.proofs.Cases.{said, left, turns, Answered, answered, evens-left, evens-flags, few}
+use Rattle.volume.proofs.Cases.{said, Answered, answered, evens-left, evens-flags, few}
 use Rattle.volume.proofs.VolumeBroken.{number-is, volume-broken, as-searched, searched-first}
 
 module _ (L : Listing) (first : List ℕ) (xs : List Float) (table bytes : List ℕ) where

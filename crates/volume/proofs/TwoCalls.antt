@@ -1,10 +1,9 @@
 -- Two calls of six_volume on one listing: from flags one change apart, and with all vertices moved alike.
 -- Assumes nothing.
 use mathlib.Core.Path.{_≡_, sym, ap, _∙_}
-use mathlib.Core.Logic.{_≢_}
 use mathlib.Core.List.{List}
 use Prim.Native.Nat.{ℕ, _<_}
-use lib.IntN.{ℤ, pos, negℤ}
+use lib.IntN.{ℤ, negℤ}
 use lib.Ieee.{Float, binary64, ofInt, neg}
 use Rattle.listing.specs.Listing.{Listing, limits}
 use Rattle.flag_change.specs.Change.{changeAt}

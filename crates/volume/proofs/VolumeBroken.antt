@@ -35,7 +35,6 @@ use Rattle.search.proofs.Exact.{fine-number, promised}
 use Rattle.volume_metres.specs.Whole.{AllCoordinates, allCoordinates}
 use Rattle.volume_metres.proofs.Coordinates.{all-exact}
 use Rattle.volume_theory.specs.Six.{cellRank}
-use Rattle.volume.specs.declared.Volume.{Volume}
 use Rattle.volume.specs.declared.Volume.the-variants.{Six, Refused}
 use Rattle.volume.specs.Volumes.{numberOf, volumeTest, volumeAs, volumeBy}
 use Rattle.volume.specs.Rules.{volumeRules}

@@ -1,29 +1,22 @@
 -- The test of a coordinate is exact, and so is that of all; the whole number that a coordinate is.
 -- Assumes nothing.
-use mathlib.Core.Path.{_≡_, refl, ap, _∙_}
+use mathlib.Core.Path.{_≡_, refl, ap}
 use mathlib.Core.Bool.{true, false≢true}
 use mathlib.Core.Logic.{_↔_}
 use mathlib.Core.List.{List}
 use Prim.Native.Nat.{_*_, _/_, _%_, _≤_}
-use native.Mathlib.Nat.{mul-div-cancel, mul-mod-left, mul-le-mul-right, div-le-of-le-mul, div-add-mod'}
+use native.Mathlib.Nat.{mul-mod-left, mul-le-mul-right, div-le-of-le-mul, div-add-mod'}
 use native.Mathlib.Omega.{arith}
 use borrow.Author.Tests.{leb-true, eqb-true, le-leb}
 use lib.ListN.{length, getD}
 use lib.IntN.{ℤ, natAbs}
 use lib.Ieee.{Float, nan, inf, fin, up, down}
-use lib.Ieee.Fits.{down-pos}
 use Rattle.order.proofs.Tests.{and-true, every-each, every-all}
-use Rattle.volume_metres.specs.Whole.{signed, IsWhole, farthest, IsCoordinate, coordinate, metresOf}
+use Rattle.volume_metres.specs.Whole.{IsWhole, farthest, IsCoordinate, coordinate, metresOf}
 use Rattle.volume_metres.specs.Whole.{AllCoordinates, allCoordinates}
 use Rattle.volume_metres.proofs.Signs.{abs-signed}
 
--- a float is one whole number only
-pub metres-unique : (x : Float) (z : ℤ) → IsWhole x z → metresOf x ≡ z
-unfolding metresOf
-metres-unique (fin s m e) z (n, p, u) =
-    let f : m * up e / down e ≡ n = ap (λ k. k / down e) p ∙ mul-div-cancel n (down-pos e) in ap (signed s) f ∙ u
-
-pub coordinate-metres : (x : Float) → coordinate x ≡ true → IsWhole x (metresOf x) × (natAbs (metresOf x) ≤ farthest)
+coordinate-metres : (x : Float) → coordinate x ≡ true → IsWhole x (metresOf x) × (natAbs (metresOf x) ≤ farthest)
 unfolding coordinate metresOf
 coordinate-metres nan h = absurd (false≢true h)
 coordinate-metres (inf s) h = absurd (false≢true h)
@@ -42,7 +35,7 @@ near-passes (fin s m e) z (n, p, u) h =
     let l : n ≤ farthest = omega (arith, abs-signed s n, ap natAbs u) in
     rw (p, le-leb (n * down e) (farthest * down e) (mul-le-mul-right (down e) l), mul-mod-left n (down e))
 
-pub coordinate-exact : (x : Float) → (coordinate x ≡ true) ↔ IsCoordinate x
+coordinate-exact : (x : Float) → (coordinate x ≡ true) ↔ IsCoordinate x
 coordinate-exact x = (
   λ h. let p = coordinate-metres x h in record { metres = metresOf x; whole = p .0; near = p .1 },
   λ c. near-passes x (c .metres) (c .whole) (c .near),

@@ -1,13 +1,10 @@
--- The determinant of three places: exchanged, moved, and how large it can be.
+-- The determinant of three places: two exchanged, and all moved.
 -- Assumes nothing.
 use mathlib.Core.Path.{_≡_, sym, ap, ap₂, _∙_}
-use Prim.Native.Nat.{_*_, _≤_}
-use lib.IntN.{ℤ, pos, negℤ, natAbs, _+ℤ_, _-ℤ_, _*ℤ_, +ℤ-assoc, +ℤ-comm, +ℤ-idr, +ℤ-invr}
+use lib.IntN.{ℤ, pos, negℤ, _+ℤ_, _-ℤ_, _*ℤ_, +ℤ-assoc, +ℤ-comm, +ℤ-idr, +ℤ-invr}
 use lib.IntN.{*ℤ-comm, zero-*ℤ, negℤ-+ℤ, negℤ-negℤ}
 use Rattle.order.proofs.Integers.{mul-neg, +ℤ-*ℤ, *ℤ-+ℤ, +ℤ-left, *ℤ-left, plus-neg}
-use Rattle.volume_metres.specs.Whole.{farthest}
 use Rattle.volume_metres.specs.Points.{Site, det, moved}
-use Rattle.volume_metres.proofs.Small.{small-plus, small-minus, small-times}
 
 -- ---- a determinant's three terms: a coordinate times a minor
 
@@ -92,25 +89,3 @@ det-moved t a b c =
       twice-first t (moved t c),
     )
     (simp (+ℤ-idr, +ℤ-assoc))
-
--- ---- how large it can be
-
--- a place of which no coordinate is larger than a coordinate may be
-pub record Near (a : Site) : Type 0 where
-  pub x : natAbs (a .x) ≤ farthest
-  pub y : natAbs (a .y) ≤ farthest
-  pub z : natAbs (a .z) ≤ farthest
-
-term-small : (k p q r s : ℤ) → natAbs k ≤ farthest → natAbs p ≤ farthest → natAbs q ≤ farthest
-    → natAbs r ≤ farthest → natAbs s ≤ farthest → natAbs (term k p q r s) ≤ 2 * (farthest * farthest * farthest)
-term-small k p q r s hk hp hq hr hs =
-    small-times k (p *ℤ s -ℤ q *ℤ r) hk
-    (small-minus (p *ℤ s) (q *ℤ r) (small-times p s hp hs) (small-times q r hq hr))
-
-pub det-small : (a b c : Site) → Near a → Near b → Near c → natAbs (det a b c) ≤ 6 * (farthest * farthest * farthest)
-unfolding det
-det-small a b c p q r =
-    let f = term-small (a .x) (b .y) (b .z) (c .y) (c .z) (p .x) (q .y) (q .z) (r .y) (r .z) in
-    let g = term-small (a .y) (b .x) (b .z) (c .x) (c .z) (p .y) (q .x) (q .z) (r .x) (r .z) in
-    let h = term-small (a .z) (b .x) (b .y) (c .x) (c .y) (p .z) (q .x) (q .y) (r .x) (r .y) in
-    small-plus (first a b c -ℤ second a b c) (third a b c) (small-minus (first a b c) (second a b c) f g) h

@@ -24,7 +24,6 @@ use Rattle.volume_metres.specs.Formulas.{NoRounding, detFormula, detIn, 
 use Rattle.volume_metres.proofs.Small.{small-plus, small-minus, small-times}
 use Rattle.volume_metres.proofs.WholeExact.{round-keeps, whole-add, whole-sub, whole-mul}
 use Rattle.volume_metres.proofs.Coordinates.{metres-of}
-use Rattle.volume_metres.proofs.Determinants.{Near}
 
 -- the size of a result, by the sizes of what it is made of
 abbrev sizeBy : Operation → ℕ → ℕ → ℕ
@@ -126,13 +125,6 @@ module _ (xs : List Float) where
   pub det-whole : (a b c : ℕ) → inWhole xs (detFormula a b c) ≡ det (siteOf xs a) (siteOf xs b) (siteOf xs c)
   unfolding inWhole detFormula det
   det-whole a b c = simp add-zero
-
-  pub site-near : (v : ℕ) → AllCoordinates xs → 3 * v + 2 < length xs → Near (siteOf xs v)
-  site-near v all h = record {
-    x = metres-of (all (3 * v) (omega arith)) .1;
-    y = metres-of (all (3 * v + 1) (omega arith)) .1;
-    z = metres-of (all (3 * v + 2) h) .1;
-  }
 
 pub det-size : (a b c : ℕ) → sizeOf (detFormula a b c) ≡ 6 * (farthest * farthest * farthest)
 unfolding sizeOf detFormula

@@ -61,7 +61,7 @@ ltb-mul a b c h = go (ltb (a * c) (b * c)) refl
         sym (le-ltb a b (le-of-mul-le-mul-right {m = b} {n = a} {k = c} (ltb-false (a * c) (b * c) e) h))
 
 -- a sum of whole numbers over one divisor
-pub sum-amount : (s : Bool) (a : ℕ) (t : Bool) (b c : ℕ) → 0 < c
+sum-amount : (s : Bool) (a : ℕ) (t : Bool) (b c : ℕ) → 0 < c
     → sum binary64 s (a * c) t (b * c) c ≡ round binary64 (signOf s a t b) (amountOf s a t b) 1
 unfolding sum
 sum-amount s a t b c h =
@@ -95,7 +95,7 @@ whole-add (fin s m e) (fin t k d) a b (i, p, u) (j, q, v) h =
 
 -- ---- differences
 
-pub whole-neg : (x : Float) (a : ℤ) → IsWhole x a → IsWhole (neg x) (negℤ a)
+whole-neg : (x : Float) (a : ℤ) → IsWhole x a → IsWhole (neg x) (negℤ a)
 unfolding neg
 whole-neg (fin s m e) a (n, p, u) = (n, p, signed-not s n ∙ ap negℤ u)
 

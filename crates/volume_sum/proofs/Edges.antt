@@ -1,6 +1,6 @@
 -- The lowest-numbered vertex of a face, met along its edges.
 -- Assumes nothing.
-use mathlib.Core.Path.{_≡_, refl, sym, ap, _∙_}
+use mathlib.Core.Path.{_≡_}
 use Prim.Native.Nat.{ℕ, _+_, _≤_, _<_}
 use native.Mathlib.Decide.{ℕ-discrete}
 use native.Mathlib.Omega.{arith}
@@ -10,7 +10,7 @@ use Rattle.order.proofs.Least.{least-le, least-in}
 use Rattle.order.proofs.Positions.{in-at, at-in, in-some}
 use Rattle.listing.specs.Listing.{Listing, count, subs}
 use Rattle.valid_incidence.specs.Incidence.{Incident}
-use Rattle.volume_theory.specs.Six.{lowestOf, LowestIn}
+use Rattle.volume_theory.specs.Six.{lowestOf}
 use Rattle.volume_theory.proofs.Lowest.{lowest-only}
 
 module _ (L : Listing) (I : Incident L) where

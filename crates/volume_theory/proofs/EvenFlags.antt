@@ -23,7 +23,6 @@ use Rattle.search_index.specs.Rows.{sameList}
 use Rattle.search_index.proofs.Rows.{same-decides}
 use Rattle.search_masks.specs.Masks.{everyRank}
 use Rattle.search_walk.specs.Searched.{maskChanges, foundBy}
-use Rattle.search.specs.Exact.{Searchable}
 use Rattle.search.proofs.Leads.{of-leads, reach-flag}
 use Rattle.search.proofs.EveryChange.{every-asked, every-searchable}
 use Rattle.volume_theory.specs.Six.{evenFlags}

@@ -7,7 +7,7 @@ use Rattle.order.specs.Lists.{In}
 use Rattle.order.proofs.Least.{least-le, least-in, least-only}
 use Rattle.listing.specs.Listing.{Listing, count}
 use Rattle.valid_incidence.specs.Incidence.{Incident}
-use Rattle.valid_diamond.specs.Dyadic.{walk, LiesBetween}
+use Rattle.valid_diamond.specs.Dyadic.{walk}
 use Rattle.valid_diamond.proofs.DyadicExact.{walk-exact, there}
 use Rattle.volume_theory.specs.Six.{lowestOf, LowestIn}
 

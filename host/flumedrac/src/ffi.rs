@@ -69,6 +69,16 @@ pub struct Built {
     pub inc: u16,
 }
 
+/// Six times the volume of a cell, or a refusal's number. `fd_volume` in C.
+#[repr(C)]
+#[derive(Clone, Copy, Debug, Default, PartialEq)]
+pub struct Volume {
+    /// The refusal's number; 0 where nothing is refused.
+    pub no: u16,
+    /// Six times the volume, a whole number; 0.0 on a refusal.
+    pub six: f64,
+}
+
 /// Where an iteration over events stands. `fd_cursor` in C.
 #[repr(C)]
 #[derive(Clone, Copy, Debug, Default, PartialEq, Eq)]
@@ -125,6 +135,14 @@ macro_rules! functions {
                 inc: *const u16, inc_len: usize,
                 table: *mut u16, table_len: usize, orientations: *mut u8, orientations_len: usize,
             ) -> Searched;
+
+            /// `fd_six_volume` in C: six times the volume of a cell, by a search with every change.
+            pub fn fd_six_volume(
+                counts: *const u16, counts_len: usize, ends: *const u16, ends_len: usize,
+                inc: *const u16, inc_len: usize, first: *const u16, first_len: usize,
+                coordinates: *const f64, coordinates_len: usize,
+                table: *mut u16, table_len: usize, orientations: *mut u8, orientations_len: usize,
+            ) -> Volume;
 
             /// `fd_sign` in C: the sign of an orientation byte.
             pub fn fd_sign(orientation: u8) -> f64;

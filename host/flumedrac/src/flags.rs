@@ -297,11 +297,11 @@ impl<'a> IntoIterator for &'a Search {
 }
 
 #[cfg(test)]
-mod tests {
+pub(crate) mod tests {
     use super::*;
 
     /// Half a cube, which is not orientable: 4 vertices, 6 edges, 3 faces.
-    fn hemicube() -> Listing {
+    pub(crate) fn hemicube() -> Listing {
         Listing::from_subs(&[
             vec![vec![]],
             vec![vec![0]; 4],

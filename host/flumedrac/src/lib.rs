@@ -1,5 +1,5 @@
 //! Flumedrac from Rust: tests of cells, the four products, flag changes and the oriented flag search; cells read from a
-//! text.
+//! text; the volume of a cell.
 //!
 //! The work is done by the archive `libflumedrac.a`, whose functions are proved; this package wraps them. A cell is a
 //! [`Listing`]. What is refused is a [`Refusal`], with the place where the fault was seen first.
@@ -32,9 +32,10 @@ mod flags;
 mod listing;
 mod refusal;
 mod text;
+mod volume;
 
 pub use cell::{duocomb, duoprism, duopyramid, duotegum};
 pub use flags::{Event, Events, Flag, Orientation, Search};
-pub use listing::{Listing, Slices, MAX_ELEMENTS, MAX_FLAGS, MAX_INCIDENCES, MAX_RANKS, MAX_TEXT};
+pub use listing::{Listing, Slices, MAX_ELEMENTS, MAX_FLAGS, MAX_INCIDENCES, MAX_METRES, MAX_RANKS, MAX_TEXT};
 pub use refusal::{Class, Refusal, Section, Side};
 pub use text::check_text;

@@ -15,6 +15,8 @@ pub const MAX_INCIDENCES: usize = 32768;
 pub const MAX_FLAGS: usize = 16384;
 /// The most bytes a text has.
 pub const MAX_TEXT: usize = 65536;
+/// The most metres a coordinate has, either way from 0.
+pub const MAX_METRES: usize = 1000;
 
 /// Three lent slices, whether or not they are a listing.
 #[derive(Clone, Copy, Debug, PartialEq, Eq)]

@@ -3,7 +3,7 @@
 //! Any slices of any length may be given. Each function is called as in `include/flumedrac.h`, where its numbers are
 //! explained; the rest of this package says the same in Rust's words.
 
-use crate::ffi::{self, Answer, Built, Changed, Cursor, Event, Number, Searched};
+use crate::ffi::{self, Answer, Built, Changed, Cursor, Event, Number, Searched, Volume};
 use crate::Slices;
 
 /// The functions that look at counts alone.
@@ -109,6 +109,22 @@ pub fn one_body(l: Slices<'_>, table: &mut [u16], orientations: &mut [u8]) -> Se
     unsafe {
         ffi::fd_one_body(
             l.counts.as_ptr(), l.counts.len(), l.ends.as_ptr(), l.ends.len(), l.inc.as_ptr(), l.inc.len(),
+            table.as_mut_ptr(), table.len(), orientations.as_mut_ptr(), orientations.len(),
+        )
+    }
+}
+
+/// What `fd_six_volume` answers, with the flags found in `table` and their orientations in `orientations`. The
+/// coordinates are three for each vertex, one vertex after another.
+#[rustfmt::skip]
+pub fn six_volume(
+    l: Slices<'_>, first: &[u16], coordinates: &[f64], table: &mut [u16], orientations: &mut [u8],
+) -> Volume {
+    // Safety: each slice is its pointer and its length; those lent to be written overlap no other.
+    unsafe {
+        ffi::fd_six_volume(
+            l.counts.as_ptr(), l.counts.len(), l.ends.as_ptr(), l.ends.len(), l.inc.as_ptr(), l.inc.len(),
+            first.as_ptr(), first.len(), coordinates.as_ptr(), coordinates.len(),
             table.as_mut_ptr(), table.len(), orientations.as_mut_ptr(), orientations.len(),
         )
     }

@@ -1,4 +1,4 @@
-//! Refusals: why a listing, a flag, a product or a text was not taken.
+//! Refusals: why a listing, a flag, a product, a text or a cell's coordinates were not taken.
 
 use std::error::Error;
 use std::fmt;
@@ -31,7 +31,7 @@ pub enum Side {
 #[non_exhaustive]
 #[derive(Clone, Copy, Debug, PartialEq, Eq, Hash)]
 pub enum Class {
-    /// None of the others: a number outside their bands, as those of texts.
+    /// None of the others: a number outside their bands, as those of texts and of volumes.
     Other,
     /// The three slices are no listing.
     Shape,
@@ -173,6 +173,14 @@ pub enum Refusal {
     LongText,
     /// 43: a text goes on after its last line.
     MoreBytes,
+    /// 50: a volume is asked of a cell whose rank is not 4.
+    NotRankFour,
+    /// 51: a volume is asked of a cell that is not orientable.
+    NotOrientable,
+    /// 52: there are not three coordinates for each vertex.
+    WrongCoordinates,
+    /// 53: a coordinate is not whole, or not from -[`MAX_METRES`](crate::MAX_METRES) to it.
+    NotInMetres,
     /// An answer that this package does not know: the archive is of another release.
     Unknown {
         /// The answer as it came.
@@ -217,6 +225,10 @@ impl Refusal {
             BadLine => 41,
             LongText => 42,
             MoreBytes => 43,
+            NotRankFour => 50,
+            NotOrientable => 51,
+            WrongCoordinates => 52,
+            NotInMetres => 53,
             Unknown { answer } => answer.no,
         }
     }
@@ -279,6 +291,10 @@ impl Refusal {
             41 => BadLine,
             42 => LongText,
             43 => MoreBytes,
+            50 => NotRankFour,
+            51 => NotOrientable,
+            52 => WrongCoordinates,
+            53 => NotInMetres,
             _ => Unknown { answer },
         })
     }
@@ -346,6 +362,10 @@ impl fmt::Display for Refusal {
             BadLine => write!(f, "a line of the text has a bad number, or does not end with a newline"),
             LongText => write!(f, "the text has more than 65,536 bytes"),
             MoreBytes => write!(f, "the text goes on after its last line"),
+            NotRankFour => write!(f, "the cell's rank is not 4"),
+            NotOrientable => write!(f, "the cell is not orientable"),
+            WrongCoordinates => write!(f, "there are not three coordinates for each vertex"),
+            NotInMetres => write!(f, "a coordinate is not a whole number of metres from -1,000 to 1,000"),
             Unknown { answer: Answer { no, a, b, c, d } } => {
                 write!(f, "refusal {no}, which this release does not know, with the fields {a}, {b}, {c} and {d}")
             }
@@ -370,7 +390,7 @@ mod tests {
             assert_eq!(refusal.number(), no);
             assert_eq!(refusal.class() as u16, crate::raw::class(no));
             let known = !matches!(refusal, Unknown { .. });
-            assert_eq!(known, matches!(no, 1..=6 | 10..=22 | 25 | 30..=36 | 40..=43));
+            assert_eq!(known, matches!(no, 1..=6 | 10..=22 | 25 | 30..=36 | 40..=43 | 50..=53));
             if known {
                 assert!(seen.insert(refusal.to_string()), "{refusal} is said twice");
             }

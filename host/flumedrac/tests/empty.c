@@ -10,15 +10,18 @@
 #include <vector>
 static const std::vector<uint16_t> none;
 static const std::vector<uint8_t> no_text;
+static const std::vector<double> no_coordinates;
 static std::vector<uint16_t> no_room;
 static std::vector<uint8_t> no_bytes;
 #define NONE none.data(), none.size()
 #define NO_TEXT no_text.data(), no_text.size()
+#define NO_COORDINATES no_coordinates.data(), no_coordinates.size()
 #define NO_ROOM no_room.data(), no_room.size()
 #define NO_BYTES no_bytes.data(), no_bytes.size()
 #else
 #define NONE NULL, 0
 #define NO_TEXT NULL, 0
+#define NO_COORDINATES NULL, 0
 #define NO_ROOM NULL, 0
 #define NO_BYTES NULL, 0
 #endif
@@ -52,7 +55,9 @@ int main(void)
     printf("%d ", fd_search(NOTHING, NONE, 0, NO_ROOM, NO_BYTES).answer.no);
     printf("%d ", fd_search(NULLITOPE, flag, 1, 0, NO_ROOM, NO_BYTES).answer.no);
     printf("%d ", fd_one_body(NOTHING, NO_ROOM, NO_BYTES).answer.no);
-    printf("%d\n", fd_one_body(NULLITOPE, NO_ROOM, NO_BYTES).answer.no);
+    printf("%d ", fd_one_body(NULLITOPE, NO_ROOM, NO_BYTES).answer.no);
+    printf("%d ", fd_six_volume(NOTHING, NONE, NO_COORDINATES, NO_ROOM, NO_BYTES).no);
+    printf("%d\n", fd_six_volume(NULLITOPE, flag, 1, NO_COORDINATES, NO_ROOM, NO_BYTES).no);
     printf("%d ", fd_duopyramid(NULLITOPE, NULLITOPE, NO_OUTPUT).answer.no);
     printf("%d ", fd_duotegum(NULLITOPE, NULLITOPE, NO_OUTPUT).answer.no);
     printf("%d ", fd_duocomb(NOTHING, NULLITOPE, NO_OUTPUT).answer.no);

@@ -10,7 +10,7 @@ use std::path::{Path, PathBuf};
 use std::process::Command;
 
 use flumedrac::ffi::*;
-use flumedrac::{Listing, Refusal, MAX_ELEMENTS, MAX_FLAGS, MAX_INCIDENCES, MAX_RANKS, MAX_TEXT};
+use flumedrac::{Listing, Refusal, MAX_ELEMENTS, MAX_FLAGS, MAX_INCIDENCES, MAX_METRES, MAX_RANKS, MAX_TEXT};
 
 /// The languages that the header is for: the words that choose one, and the variable and usual name of its compiler.
 const C99: Language = Language { standard: "-std=c99", kind: "c", variable: "CC", usual: "cc" };
@@ -121,6 +121,7 @@ fn expected() -> Vec<(String, usize)> {
     layout!("fd_changed" Changed answer flag);
     layout!("fd_searched" Searched answer count place orientable);
     layout!("fd_built" Built answer counts ends inc);
+    layout!("fd_volume" Volume no six);
     layout!("fd_cursor" Cursor at);
     layout!("fd_event" Event kind flag);
     say("FD_MAX_RANKS", MAX_RANKS);
@@ -128,6 +129,7 @@ fn expected() -> Vec<(String, usize)> {
     say("FD_MAX_INCIDENCES", MAX_INCIDENCES);
     say("FD_MAX_FLAGS", MAX_FLAGS);
     say("FD_MAX_TEXT", MAX_TEXT);
+    say("FD_MAX_METRES", MAX_METRES);
     refusals().iter().for_each(|(no, name)| say(name, (*no).into()));
     lines
 }
@@ -218,7 +220,7 @@ fn empty_slices_from_c_and_cpp() {
     for language in [C99, C11, CPP11, CPP17] {
         let (calls, stubs) = (own("tests/empty.c"), own("tests/stubs.c"));
         let said = language.prints(&calls, archive());
-        let numbers = "1 1 1 1\n1 0 1 0 1 0 1 0 1 0\n1 20 1 22 1 22\n36 36 30 0 1 2 0\n40 36 0 1 0 0 40 10\n0 0\n";
+        let numbers = "1 1 1 1\n1 0 1 0 1 0 1 0 1 0\n1 20 1 22 1 22 1 22\n36 36 30 0 1 2 0\n40 36 0 1 0 0 40 10\n0 0\n";
         assert_eq!(said, numbers, "{}", language.standard);
         let given = language.prints(&calls, &stubs);
         assert!(given.split_whitespace().all(|number| number == "0"), "{}: {given}", language.standard);
@@ -259,5 +261,11 @@ fn examples_in_c() {
         "a duoprism: 4 vertices, 4 edges\n  closed: nothing is refused\n  one_body: nothing is refused, 8 flags\n\
          a duocomb: 6 vertices, 6 edges\n  closed: nothing is refused\n  \
          one_body: the flags are in several parts: the cell is not one body\n"
+    );
+    assert_eq!(
+        C99.prints(&own("examples/volume.c"), archive()),
+        "a prism: 60000 cubic metres\n\
+         with one corner half a metre higher: \
+         a coordinate is not a whole number of metres from -1,000 to 1,000 (53)\n"
     );
 }

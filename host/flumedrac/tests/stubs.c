@@ -85,6 +85,16 @@ fd_searched(fd_one_body)(LISTING(), SLICE(uint16_t, table), SLICE(uint8_t, orien
     return found(NO_LISTING() || NO_POINTER(table) || NO_POINTER(orientations));
 }
 
+fd_volume(fd_six_volume)(LISTING(), SLICE(const uint16_t, first), SLICE(const double, coordinates),
+                         SLICE(uint16_t, table), SLICE(uint8_t, orientations))
+{
+    fd_volume volume = {0, 0.0};
+    volume.no = said(NO_LISTING() || NO_POINTER(first) || NO_POINTER(coordinates) || NO_POINTER(table) ||
+                     NO_POINTER(orientations))
+                    .no;
+    return volume;
+}
+
 fd_built(fd_read_text)(SLICE(const uint8_t, text), OUTPUT)
 {
     return wrote(NO_POINTER(text) || NO_LISTING());

@@ -5,13 +5,10 @@ use std::collections::HashSet;
 use flumedrac::ffi::{Answer, Searched};
 use flumedrac::{Slices, MAX_FLAGS};
 
-use super::{layers, Break, Element, Layers, Model};
+use super::{layers, Break, Element, Layers, Model, RIGHT};
 use crate::library::Test;
 
 type Flag = Vec<u16>;
-
-/// What tests, changes and searches here: faults of these are seen where they themselves are asked.
-const RIGHT: Model = Model { fault: None };
 
 impl Model {
     /// The flag of first sups: from the minimal element upward, the first sup each time.
@@ -83,7 +80,7 @@ impl Model {
     }
 
     /// Whether the flags are in several parts.
-    fn in_parts(&self, cell: &Layers<'_>) -> bool {
+    pub(super) fn in_parts(&self, cell: &Layers<'_>) -> bool {
         let rank = cell.len() - 1;
         let mut flags = vec![];
         // The top is element 0 of its rank.

@@ -2,15 +2,16 @@
 //!
 //! It is there to try the harness: without faults it must agree with the Rust files everywhere, and with any one of the
 //! faults in [`Break`] it must be caught. Here are the model, its faults, the counts and the classes; `tests`, `flags`,
-//! `bodies`, `products` and `texts` have the rest.
+//! `bodies`, `volumes`, `products` and `texts` have the rest.
 
 mod bodies;
 mod flags;
 mod products;
 mod tests;
 mod texts;
+mod volumes;
 
-use flumedrac::ffi::{Answer, Built, Changed, Cursor, Event, Number, Searched};
+use flumedrac::ffi::{Answer, Built, Changed, Cursor, Event, Number, Searched, Volume};
 use flumedrac::Slices;
 
 use crate::library::{Kind, Library, Outputs, Test};
@@ -146,6 +147,92 @@ breaks! {
     BodyMoreWritesNothing "body-22-writes-nothing",
     /// Beside 22 and 25 of one_body stand the numbers of the search.
     BodyKeepsNumbers "body-keeps-numbers",
+    /// The sum of six_volume begins at -0.0.
+    VolumeFromMinusZero "volume-from-minus-zero",
+    /// six_volume sums the odd flags.
+    VolumeOfOdd "volume-of-odd",
+    /// six_volume sums all flags, the odd ones with the other sign.
+    VolumeOfAll "volume-of-all",
+    /// six_volume leaves out the first flag.
+    VolumeWithoutFirst "volume-without-first",
+    /// six_volume takes the lowest vertex of the edge and not of the face.
+    LowestOfEdge "lowest-of-edge",
+    /// six_volume takes the lowest vertex of the cell and not of the face.
+    LowestOfCell "lowest-of-cell",
+    /// six_volume takes the highest vertex of the face.
+    HighestOfFace "highest-of-face",
+    /// six_volume takes the first vertex of the face's first edge, which need not be the lowest.
+    FirstOfFace "first-of-face",
+    /// The determinant adds its second product.
+    MinorAdded "minor-added",
+    /// The edge's other vertex comes before the flag's own in the determinant.
+    VolumeTurned "volume-turned",
+    /// six_volume has no sign.
+    VolumeUnsigned "volume-unsigned",
+    /// six_volume answers the volume itself.
+    VolumeItself "volume-itself",
+    /// six_volume sums in 32 bits.
+    VolumeWraps32 "volume-wraps-32",
+    /// six_volume sums in f32.
+    VolumeInSingle "volume-in-f32",
+    /// The search of six_volume leaves out the change at the highest rank.
+    VolumeMaskShort "volume-mask-short",
+    /// six_volume refuses what is not one body.
+    VolumeAsksBody "volume-asks-one-body",
+    /// 50 is not asked of ranks over 4.
+    RankOverFour "50-not-asked-over",
+    /// 50 is not asked of ranks under 4.
+    RankUnderFour "50-not-asked-under",
+    /// 51 comes before 50.
+    OrientableFirst "51-before-50",
+    /// 51 is not asked.
+    OrientableFree "51-not-asked",
+    /// 52 comes before 50.
+    LengthFirst "52-before-50",
+    /// 53 comes before 51.
+    MetresBeforeOrientable "53-before-51",
+    /// 53 comes before 52.
+    MetresBeforeLength "53-before-52",
+    /// 53 is answered for 52 and 52 for 53.
+    LengthForMetres "52-53-exchanged",
+    /// More coordinates than three for each vertex are taken.
+    MoreCoordinates "52-more-taken",
+    /// 52 asks for one coordinate for each vertex.
+    LengthByVertices "52-by-vertices",
+    /// A coordinate of 1,001 is taken.
+    OverMetres "1001-taken",
+    /// A coordinate of -1,001 is taken.
+    UnderMetres "minus-1001-taken",
+    /// Coordinates of 1,000 and -1,000 are refused.
+    MetresOneLess "1000-refused",
+    /// A coordinate need not be whole.
+    FractionTaken "fraction-taken",
+    /// A coordinate that is NaN is taken for 0.
+    NanTaken "nan-taken",
+    /// An infinite coordinate is taken for 0.
+    InfinityTaken "infinity-taken",
+    /// -0.0 is refused.
+    MinusZeroRefused "minus-zero-refused",
+    /// 53 does not look at the last coordinate.
+    LastFree "53-without-last",
+    /// 53 looks at the vertices that the search has met.
+    MetresOfMet "53-of-met",
+    /// 50 writes nothing.
+    RankWritesNothing "50-writes-nothing",
+    /// 51 writes nothing.
+    OrientableWritesNothing "51-writes-nothing",
+    /// 52 writes nothing.
+    LengthWritesNothing "52-writes-nothing",
+    /// 53 writes nothing.
+    MetresWriteNothing "53-writes-nothing",
+    /// 22 of six_volume writes nothing.
+    VolumeMoreWritesNothing "volume-22-writes-nothing",
+    /// 20 of six_volume writes.
+    VolumeFlagWrites "volume-20-writes",
+    /// Beside a refusal of six_volume stands -0.0.
+    VolumeRefusedMinusZero "volume-refused-minus-zero",
+    /// Beside 51 of six_volume stands the sum.
+    VolumeKeepsSum "volume-keeps-sum",
     /// The cursor runs on past the last event.
     CursorRunsOn "cursor-runs-on",
     /// The cursor gives one event and then none.
@@ -256,6 +343,9 @@ pub struct Model {
     pub fault: Option<Break>,
 }
 
+/// What tests, changes and searches within other answers: faults of these are seen where they themselves are asked.
+const RIGHT: Model = Model { fault: None };
+
 /// A refusal, if there is one.
 type Refused = Option<Answer>;
 
@@ -355,6 +445,17 @@ impl Library for Model {
 
     fn one_body(&self, l: Slices<'_>, table: &mut [u16], orientations: &mut [u8]) -> Searched {
         self.answer_body(l, table, orientations)
+    }
+
+    fn six_volume(
+        &self,
+        l: Slices<'_>,
+        first: &[u16],
+        coordinates: &[f64],
+        table: &mut [u16],
+        orientations: &mut [u8],
+    ) -> Volume {
+        self.answer_volume(l, first, coordinates, table, orientations)
     }
 
     fn sign(&self, orientation: u8) -> f64 {

@@ -1,6 +1,6 @@
 -- `numbers`: each arm of the match is a case of the definition.
 -- Assumes nothing.
-use mathlib.Core.Path.{sym, ap, _∙_}
+use mathlib.Core.Path.{sym, ap}
 use borrow.Author.Needs.{needs}
 use lib.Ieee.{ofBits, ofInt}
 use Rattle.volume.specs.Volumes.{numberOf, sixFold, measuredOf}

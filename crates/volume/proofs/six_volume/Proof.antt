@@ -1,7 +1,5 @@
 -- Two returns: a refusal, and the sum. No loop.
 -- Assumes nothing.
-use mathlib.Core.Path.{_≡_, sym, _∙_}
-use Prim.Native.Nat.{ℕ}
 use borrow.Author.Needs.{needs}
 use Rattle.listing.specs.Listing.{Listing, listing, limits, rank}
 use Rattle.search_masks.specs.Masks.{everyRank}

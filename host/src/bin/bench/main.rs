@@ -5,8 +5,8 @@
 //!
 //! Both sides are measured in turn, run after run, so that what else the machine does touches both. The time is the
 //! processor's time for this thread: waiting for a processor that is busy elsewhere does not count. --brief prints one
-//! table, with the ratios and our time alone and without the cells that grow. --model measures the unproved model
-//! instead of the archive, only to try this program.
+//! table in place of the first four, with the ratios and our time alone and without the cells that grow. --model
+//! measures the unproved model instead of the archive, only to try this program.
 //!
 //! --before measures an earlier archive too, in turn with the others, and the tables say how its time is to ours.
 //! PROGRAM is a `bench` that was built with that archive: by FLUMEDRAC_LIB, which names the archive's folder, and by
@@ -14,9 +14,10 @@
 //! prints no tables, but reads the names of rows, a line each, and says how many seconds its own archive takes for
 //! that row, or a dash if it has none of that name.
 //!
-//! The Rust files have no texts: reading one is measured beside a plain parser in Rust. They have no test for one body:
-//! it is measured beside our own search by every change from the same flag, in a table of its own. Where the program
-//! `cellcheck` was made, whole processes are measured too, by the clock on the wall.
+//! The Rust files have no texts: reading one is measured beside a plain parser in Rust. They have no test for one body,
+//! and no volumes in what is built of them: both are measured beside our own search by every change from the same flag,
+//! each in a table of its own. Where the program `cellcheck` was made, whole processes are measured too, by the clock
+//! on the wall.
 
 mod partner;
 mod processes;
@@ -160,13 +161,13 @@ fn full_tables(rows: Rows<'_>, runs: usize, partner: &mut Option<Partner>) -> Re
     Ok(())
 }
 
-/// A table for the test for one body: how many times as long as the search it takes.
-fn body_table(rows: Rows<'_>, runs: usize, partner: &mut Option<Partner>) -> Result<(), String> {
+/// A table for work that contains a search: how many times as long as that it takes.
+fn search_table(title: &str, rows: Vec<Row<'_>>, runs: usize, partner: &mut Option<Partner>) -> Result<(), String> {
     let always = ["times the search", "times the search, least", "ours, median", "the search, median"];
     let columns = columns(&always, &["before / ours", "before / ours, least"], partner);
-    println!("One body, beside the search by every change from the same flag:\n");
+    println!("{title}, beside the search by every change from the same flag:\n");
     head(&columns);
-    for (name, Measured { ours, rust: search, before, .. }) in measured(rows.bodies(), runs, partner)? {
+    for (name, Measured { ours, rust: search, before, .. }) in measured(rows, runs, partner)? {
         let search = search.expect("each is measured beside a search");
         let times = [ours.median / search.median, ours.least / search.least].map(|ratio| format!("{ratio:.2}"));
         let cells = [times, [written(ours.median), written(search.median)], ratios(ours, before, 2)].concat();
@@ -195,11 +196,14 @@ fn tables(library: &dyn Library, options: &Options, partner: &mut Option<Partner
     if options.brief {
         brief_table(rows, runs, partner)?;
         println!();
-        return body_table(rows, runs, partner);
+    } else {
+        full_tables(rows, runs, partner)?;
     }
-    full_tables(rows, runs, partner)?;
-    body_table(rows, runs, partner)?;
-    process_table(runs);
+    search_table("One body", rows.bodies(), runs, partner)?;
+    search_table("Volumes", rows.volumes(), runs, partner)?;
+    if !options.brief {
+        process_table(runs);
+    }
     Ok(())
 }
 

@@ -1,9 +1,9 @@
-//! What is measured: a row for each piece of work, in five groups.
+//! What is measured: a row for each piece of work, in six groups.
 
 use std::hint::black_box;
 
 use flumedrac::{Listing, MAX_FLAGS};
-use flumedrac_trial::{cell_texts, cells, Kind, Library, Test, ALL_ROOM};
+use flumedrac_trial::{cell_texts, cells, Kind, Library, Model, Test, ALL_ROOM};
 
 use crate::partner::Partner;
 use crate::rust;
@@ -129,6 +129,31 @@ impl<'a> Rows<'a> {
         Row { name, ours: Times::new(ours), closed: None, rust: Some(Times::new(search)), before: vec![] }
     }
 
+    /// Six times the volume of an orientable cell of rank 4 that has so many flags, and in the Rust's place our own
+    /// search by every change from the same flag. The vertices are scattered.
+    fn volume(self, name: &str, cell: Listing, flags: u16) -> Row<'a> {
+        let (first, mask) = (cell.first_flag().expect("a closed cell has flags"), cell.all_changes());
+        let mut table = vec![0; MAX_FLAGS * (cell.rank() + 1)];
+        let mut orientations = vec![0; MAX_FLAGS];
+        let (mut other_table, mut other_orientations) = (table.clone(), orientations.clone());
+        let (searched, begun) = (cell.clone(), first.clone());
+        let place = |v: usize| [617 * v, 1_013 * v + v / 2, 1_499 * v + v / 3].map(|x| (x % 2001) as f64 - 1000.0);
+        let coordinates: Vec<f64> = (0..cell.vertex_count()).flat_map(place).collect();
+        let six = Model::default().six_volume(cell.slices(), &first, &coordinates, &mut table, &mut orientations);
+        assert_eq!(six.no, 0);
+        let ours: Work<'a> = Box::new(move |_| {
+            let (cell, coordinates) = (black_box(cell.slices()), black_box(&coordinates));
+            assert_eq!(self.0.six_volume(cell, &first, coordinates, &mut table, &mut orientations), six);
+        });
+        let search: Work<'a> = Box::new(move |_| {
+            let cell = black_box(searched.slices());
+            let search = self.0.search(cell, &begun, mask, &mut other_table, &mut other_orientations);
+            assert_eq!((search.answer.no, search.count, search.orientable), (0, flags, 1));
+        });
+        let name = format!("six_volume of {name}, {flags} flags");
+        Row { name, ours: Times::new(ours), closed: None, rust: Some(Times::new(search)), before: vec![] }
+    }
+
     /// The text of a cell read: by the library, and by the plain parser.
     fn read(self, name: &str, cell: Listing) -> Row<'a> {
         let text = cell_texts::text(cell.slices());
@@ -178,6 +203,20 @@ impl<'a> Rows<'a> {
             self.body("duoprism(22-gon, 31-gon)", prism(polygon(22), &polygon(31)), 16_368),
             self.body("the digonal listing of rank 15", cells::digonal(15), 16_384),
             self.body("duoprism(31-gon, 32-gon)", prism(polygon(31), &polygon(32)), 23_808),
+        ]
+    }
+
+    /// Volumes: of usual cells, of a ring of squares, and of cells at the limits.
+    pub fn volumes(self) -> Vec<Row<'a>> {
+        let prism = |n: u16| cells::product(Kind::Duoprism, &Listing::dyad(), &cells::polygon(n));
+        vec![
+            self.volume("the tetrahedron", cells::simplex(4), 24),
+            self.volume("the box", prism(4), 48),
+            self.volume("the hexagonal prism", prism(6), 72),
+            self.volume("a ring of 8 by 6 squares", cells::grid(8, 6, false), 384),
+            self.volume("a ring of 31 by 33 squares", cells::grid(31, 33, false), 8_184),
+            self.volume("the 682-gonal prism", prism(682), 8_184),
+            self.volume("62 vertices joined to 62", cells::joined(62), 15_376),
         ]
     }
 
@@ -231,6 +270,7 @@ impl<'a> Rows<'a> {
 
     /// The rows of all groups.
     pub fn all(self) -> Vec<Row<'a>> {
-        [self.usual(), self.largest(), self.growth(), self.texts(), self.bodies()].into_iter().flatten().collect()
+        let groups = [self.usual(), self.largest(), self.growth(), self.texts(), self.bodies(), self.volumes()];
+        groups.into_iter().flatten().collect()
     }
 }

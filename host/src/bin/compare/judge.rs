@@ -8,6 +8,7 @@ use crate::oracle::{self, Cell, Event, Product};
 use crate::plain;
 use crate::reading::reading;
 use crate::subject::{refusal, said, By, Doubt, Judged, Subject};
+use crate::volumes;
 
 /// What a library has to reply to a question.
 pub fn judge(question: &Question<&Subject>) -> Judged<Reply> {
@@ -45,6 +46,9 @@ pub fn judge(question: &Question<&Subject>) -> Judged<Reply> {
             search(cell, first, *mask, *table, *orientations)
         }
         Question::OneBody { cell, table, orientations } => Ok((one_body(cell, *table, *orientations)?, By::Plain)),
+        Question::SixVolume { cell, first, coordinates, table, orientations } => {
+            Ok((six_volume(cell, first, coordinates, *table, *orientations)?, By::Plain))
+        }
         Question::Events { cell, first, mask } => events(cell, first, *mask),
         Question::Product { kind, p, q, room } => product(*kind, p, q, *room),
         Question::ReadText { text, room } => Ok((read_text(text, *room), By::Plain)),
@@ -143,6 +147,32 @@ fn one_body(cell: &Subject, table: usize, orientations: usize) -> Result<Reply, 
         false => return Ok(reply),
     };
     reply.numbers = [answer_numbers(refusal(no)), vec![0; 3]].concat();
+    Ok(reply)
+}
+
+/// What the search by every change refuses; else the slices hold it, by the Rust, and its flags and the coordinates
+/// decide.
+fn six_volume(
+    cell: &Subject,
+    first: &[u16],
+    coordinates: &[f64],
+    table: usize,
+    orientations: usize,
+) -> Result<Reply, Doubt> {
+    // What is not closed is refused as such with any mask.
+    let mask = if cell.is_closed()?.0 { plain::every_change(&cell.raw) } else { 0 };
+    let mut reply = search(cell, first, mask, table, orientations)?.0;
+    reply.numbers = match (reply.numbers[0], reply.numbers[5], reply.numbers[7]) {
+        (0, count, orientable) => {
+            let odd = reply.slices[1].iter().map(|&byte| byte == 1);
+            let flags = reply.slices[0].chunks(cell.rank() + 1).zip(odd).take(count as usize);
+            match volumes::answered(&cell.raw, &flags.collect::<Vec<_>>(), orientable == 1, coordinates) {
+                Ok(six) => vec![0, six as i64],
+                Err(no) => vec![no, 0],
+            }
+        }
+        (no, ..) => vec![no, 0],
+    };
     Ok(reply)
 }
 

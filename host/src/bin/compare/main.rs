@@ -23,6 +23,7 @@ mod subject;
 mod supply;
 mod tally;
 mod text_damage;
+mod volumes;
 
 use std::process::ExitCode;
 

@@ -1,7 +1,6 @@
 -- `check_volume`: one return for each refusal, in their order, and one for none. No loop.
 -- Assumes nothing.
 use mathlib.Core.Path.{_≡_, sym, _∙_}
-use mathlib.Core.Logic.{_≢_}
 use mathlib.Core.Bool.{true, false}
 use Prim.Native.Nat.{_-_, _*_}
 use native.Mathlib.Omega.{arith}

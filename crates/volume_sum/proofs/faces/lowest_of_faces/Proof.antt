@@ -1,15 +1,15 @@
 -- Invariant: the first i faces have their lowest vertices in the array. Measure: the faces left.
 -- Assumes nothing.
-use mathlib.Core.Path.{_≡_, refl, _∙_}
+use mathlib.Core.Path.{_≡_, refl}
 use Prim.Native.Nat.{ℕ, _+_, _-_, _≤_, _<_}
 use native.Mathlib.Omega.{arith}
 use borrow.Author.Needs.{needs}
 use lib.ListN.{length, getD, length-set}
 use Rattle.order.proofs.Positions.{set-next}
-use Rattle.listing.specs.Listing.{Listing, listing, limits, rank, before}
+use Rattle.listing.specs.Listing.{Listing, listing, limits, before}
 use Rattle.listing.proofs.Listing.{before-next}
 use Rattle.listing.proofs.Places.{few-before, few-in-rank}
-use Rattle.volume_theory.specs.Six.{cellRank, lowestOf}
+use Rattle.volume_theory.specs.Six.{lowestOf}
 use Rattle.volume_sum.proofs.faces.lowest_of_faces.Statement.{statement}
 use Rattle.volume_sum.proofs.faces.lowest_of_faces.Tie as tie
 

@@ -7,7 +7,7 @@ use native.Mathlib.Omega.{arith}
 use borrow.Author.Needs.{needs}
 use lib.ListN.{length, getD}
 use lib.Seq.{getD-set-same}
-use Rattle.listing.specs.Listing.{Listing, listing, limits, count}
+use Rattle.listing.specs.Listing.{Listing, listing, count}
 use Rattle.listing.proofs.Listing.{before-zero}
 use Rattle.listing.proofs.Places.{few-in-rank}
 use Rattle.flag_change.specs.Flags.{IsFlag}

@@ -8,7 +8,7 @@ use crate::run::{Go, Run};
 use crate::subject::Subject;
 use crate::supply::{catalogue, special};
 
-use super::{little_room_for_body, rooms_for_body};
+use super::{little_room, rooms_for_body};
 
 /// Cells with more flags are asked about at the limits alone.
 const FEW_FLAGS: usize = 600;
@@ -18,7 +18,7 @@ fn ask(run: &mut Run<'_>, cell: &Subject) -> Go {
     let closed = cell.is_closed().is_ok_and(|(closed, _)| closed);
     match closed && cell.flags(FEW_FLAGS) <= FEW_FLAGS {
         true => rooms_for_body(run, cell),
-        false => little_room_for_body(run, cell),
+        false => little_room(run, cell),
     }
 }
 
@@ -59,7 +59,7 @@ fn room_for_flags(run: &mut Run<'_>, cell: &Subject, flags: &[usize]) -> Go {
 
 /// Two of these that have the same rank, side by side: with a vertex in common or without, in order or not. None where
 /// those that are drawn do not go together.
-fn side_by_side(from: &[Listing], random: &mut Random) -> Option<Listing> {
+pub(super) fn side_by_side(from: &[Listing], random: &mut Random) -> Option<Listing> {
     let (p, q) = (random.pick(from), random.pick(from));
     if p.rank() != q.rank() || p.rank() < 2 {
         return None;

@@ -9,7 +9,7 @@ use crate::run::{Go, Run};
 use crate::subject::Subject;
 use crate::supply::{catalogue, listed_back, special};
 
-use super::{little_room_for_body, tests};
+use super::{little_room, tests};
 
 /// Slices whose ranks, elements, ends and incidences are each near a limit, or not, and hold any numbers.
 pub(super) fn random_limits(run: &mut Run<'_>, random: &mut Random, rounds: usize) -> Go {
@@ -31,7 +31,7 @@ pub(super) fn random_limits(run: &mut Run<'_>, random: &mut Random, rounds: usiz
         let inc = (0..incidences).map(|_| random.below(largest) as u16).collect();
         let cell = &Subject::from(Raw { counts, ends, inc });
         tests(run, cell)?;
-        little_room_for_body(run, cell)?;
+        little_room(run, cell)?;
     }
     Ok(())
 }
@@ -48,7 +48,7 @@ pub(super) fn damaged_cells(run: &mut Run<'_>, random: &mut Random, rounds: usiz
         }
         let cell = &Subject::from(raw);
         tests(run, cell)?;
-        little_room_for_body(run, cell)?;
+        little_room(run, cell)?;
         let flag: Vec<u16> = base.counts.iter().map(|&count| random.below(count.into()) as u16).collect();
         if random.once_in(4) {
             let r = random.below(6) as u16;
@@ -83,7 +83,7 @@ pub(super) fn random_slices(run: &mut Run<'_>, random: &mut Random, rounds: usiz
         tests(run, &raw.into())?;
         let cell = &Subject::from(listed_back(random));
         tests(run, cell)?;
-        little_room_for_body(run, cell)?;
+        little_room(run, cell)?;
     }
     Ok(())
 }

@@ -8,7 +8,7 @@ use crate::run::{Go, Run};
 use crate::subject::Subject;
 use crate::supply::{first_flag, padded, special};
 
-use super::{little_room_for_body, reached, room_for_product, tests};
+use super::{little_room, reached, room_for_product, tests};
 
 /// The listings to try of the request.
 pub(super) fn listings_to_try(run: &mut Run<'_>) -> Go {
@@ -65,7 +65,7 @@ fn everything(run: &mut Run<'_>, raw: Raw) -> Go {
         table: 40,
         orientations: 9,
     })?;
-    little_room_for_body(run, cell)?;
+    little_room(run, cell)?;
     for kind in Kind::ALL {
         run.ask(Question::Product { kind, p: cell, q: nullitope, room: ALL_ROOM })?;
         run.ask(Question::Product { kind, p: nullitope, q: cell, room: ALL_ROOM })?;

@@ -6,6 +6,7 @@ mod damaged;
 mod fixed;
 mod small;
 mod texts;
+mod volumes;
 
 use std::collections::BTreeSet;
 
@@ -23,6 +24,7 @@ use damaged::{damaged_cells, random_limits, random_products, random_slices};
 use fixed::{limits, listings_to_try, shapes};
 use small::{counts, numbers, small_listings, small_relations, small_slices};
 use texts::{cell_texts, damaged_texts, text_limits, texts_to_try};
+use volumes::{damaged_volumes, volumes_at_limits, volumes_of_cells, volumes_to_try};
 
 /// How much is asked.
 #[derive(Clone, Copy)]
@@ -47,6 +49,7 @@ pub fn all(run: &mut Run<'_>, scale: Scale, seed: u64) -> Go {
     run.part("listings to try", listings_to_try)?;
     run.choose(false);
     run.part("one body: cells to try", bodies_to_try)?;
+    run.part("volumes: cells to try", volumes_to_try)?;
     run.part("numbers, classes, events", numbers)?;
     run.part("counts", |run| counts(run, random))?;
     run.part("slices of every length around the limits", shapes)?;
@@ -70,16 +73,22 @@ pub fn all(run: &mut Run<'_>, scale: Scale, seed: u64) -> Go {
     let drawn = &mut Random::new(seed);
     run.part("one body: cells, side by side, and products", |run| bodies_of_cells(run, drawn))?;
     run.part("one body: damaged cells", |run| damaged_bodies(run, drawn, scale.rounds / 10))?;
-    run.part("one body: at the limits", bodies_at_limits)
+    run.part("one body: at the limits", bodies_at_limits)?;
+    let drawn = &mut Random::new(seed);
+    run.part("volumes: cells, moved, mirrored, side by side", |run| volumes_of_cells(run, drawn, scale.rounds / 200))?;
+    run.part("volumes: damaged cells", |run| damaged_volumes(run, drawn, scale.rounds / 10))?;
+    run.part("volumes: at the limits", |run| volumes_at_limits(run, drawn))
 }
 
 fn tests(run: &mut Run<'_>, cell: &Subject) -> Go {
     Test::ALL.iter().try_for_each(|&test| run.ask(Question::Test(test, cell)))
 }
 
-/// Whether any slices are one body, with a little room.
-fn little_room_for_body(run: &mut Run<'_>, cell: &Subject) -> Go {
-    run.ask(Question::OneBody { cell, table: 40, orientations: 9 })
+/// Whether any slices are one body, and what their volume is, with a little room.
+fn little_room(run: &mut Run<'_>, cell: &Subject) -> Go {
+    run.ask(Question::OneBody { cell, table: 40, orientations: 9 })?;
+    let first = vec![0; cell.as_ref().counts.len()];
+    run.ask(Question::SixVolume { cell, first, coordinates: vec![1.0; 6], table: 40, orientations: 9 })
 }
 
 /// Whether a closed cell is one body, with room around the flags that a search reaches, and around all.

@@ -9,7 +9,8 @@ use crate::run::{Go, Run};
 use crate::subject::Subject;
 use crate::supply::{related, sequences};
 
-use super::{little_room_for_body, rooms_for_body, tests};
+use super::volumes::small_volumes;
+use super::{little_room, rooms_for_body, tests};
 
 pub(super) fn numbers(run: &mut Run<'_>) -> Go {
     for no in 0..=u16::MAX {
@@ -89,7 +90,7 @@ pub(super) fn small_relations(run: &mut Run<'_>, most: usize) -> Go {
         for relation in 0..1u32 << bits {
             let cell = Subject::from(related(&sizes, relation));
             tests(run, &cell)?;
-            little_room_for_body(run, &cell)?;
+            little_room(run, &cell)?;
             if cell.is_valid().is_ok_and(|(valid, _)| valid) {
                 for (kind, factor) in Kind::ALL.iter().flat_map(|&kind| factors.iter().map(move |q| (kind, q))) {
                     let room = [16, 200, 2000];
@@ -99,8 +100,9 @@ pub(super) fn small_relations(run: &mut Run<'_>, most: usize) -> Go {
             }
             if cell.is_closed().is_ok_and(|(closed, _)| closed) {
                 rooms_for_body(run, &cell)?;
-                let known = related(&sizes, relation);
-                for first in cells::flags(&known, 20) {
+                let flags = cells::flags(&related(&sizes, relation), 20);
+                small_volumes(run, &cell, &flags)?;
+                for first in flags {
                     for mask in 0..1 << cell.rank() {
                         run.ask(Question::Events { cell: &cell, first: first.clone(), mask })?;
                     }
