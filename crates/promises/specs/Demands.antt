@@ -1,7 +1,7 @@
 -- The three demands, and that no second answer fits: each a short record that collects what is promised of each family
--- of entries (OfTests, OfProducts, OfTexts, OfFlags, OfBodies, OfVolumes, OfBoundary). A promise speaks of an entry through its
--- `Post`, the reading of its contract, and so of any slices that the entry is lent. An answer that is an enum is said
--- by the number or values of its case; the events are said both ways.
+-- of entries (OfTests, OfProducts, OfTexts, OfFlags, OfBodies, OfVolumes, OfBoundary). A promise speaks of an entry
+-- through its `Post`, the reading of its contract, and so of any slices that the entry is lent. An answer that is an
+-- enum is said by the number or values of its case; the events are said both ways.
 --
 -- AnyTaken        every entry takes any slices and numbers: no contract asks anything of its caller
 -- RefusalsNamed   a refusal is true of what its fields name, and names the first such thing in order

@@ -42,7 +42,12 @@ fn is_on_flag(line: &[u8]) -> bool {
     }
 }
 
-// A question on one cell, and perhaps a flag: a count, one on the flag, one_body, or another test.
+// Whether the line asks for a volume: six_volume.
+fn is_volume(line: &[u8]) -> bool {
+    text::letter(line, 4) == b'v'
+}
+
+// A question on one cell, and perhaps a flag: a count, one on the flag, six_volume, one_body, or another test.
 fn on_cell(line: &[u8], counts: &[Index], ends: &[Index], inc: &[Index], flag: &[Index]) {
     if is_count(line) {
         cell::count(line, counts);
@@ -50,6 +55,10 @@ fn on_cell(line: &[u8], counts: &[Index], ends: &[Index], inc: &[Index], flag: &
     }
     if is_on_flag(line) {
         on_flag(line, counts, ends, inc, flag);
+        return;
+    }
+    if is_volume(line) {
+        replay_volumes::six_volume(line, counts, ends, inc, flag);
         return;
     }
     if text::letter(line, 0) == b'o' {
@@ -112,14 +121,16 @@ fn ends(line: &[u8], counts: &[Index]) {
     incidences(line, counts, &ends[..n]);
 }
 
-// A question with lists: a cell, and then a flag or the second factor. Lists that the line lacks are empty.
+// A question with lists: a cell, and then a flag or the second factor. Lists that the line lacks are empty. The list of
+// coordinates, which six_volume has besides, is read in replay_volumes.
 fn lists(line: &[u8]) {
     let mut counts = room::few();
     let n = text::list(line, 0, &mut counts);
     ends(line, &counts[..n]);
 }
 
-// Any question: read_text, check_text, class, sign, next_event, or one with lists.
+// Any question: read_text, check_text, class, sign, next_event, or one with lists. Of these six_volume has the third
+// letter of next_event, and is asked for before.
 pub fn ask(line: &[u8]) {
     if text::letter(line, 5) == b't' {
         replay_texts::read_text(line);
@@ -131,6 +142,10 @@ pub fn ask(line: &[u8]) {
     }
     if text::letter(line, 4) == b's' {
         cell::class(line);
+        return;
+    }
+    if is_volume(line) {
+        lists(line);
         return;
     }
     match text::letter(line, 2) {

@@ -131,8 +131,8 @@ module _ (L : Listing) (first : List ℕ) (xs : List Float) (table bytes : List 
         (rule wrongCoordinates (length xs ≡ 3 * count L 1) ∷ rule notInMetres (AllCoordinates xs) ∷ []) (from-52 .no)
     broken-52 =
         broken-step _
-        (tests-not (eqb (length xs) (3 * count L 1)) wrongCoordinates (omega arith) (eqb-true (length xs) (3 * count L 1))
-        (eq-eqb (length xs) (3 * count L 1)))
+        (tests-not (eqb (length xs) (3 * count L 1)) wrongCoordinates (omega arith)
+        (eqb-true (length xs) (3 * count L 1)) (eq-eqb (length xs) (3 * count L 1)))
         last
         (λ e. broken-last (tests-not (allCoordinates xs) notInMetres (omega arith) (all-exact xs .0) (all-exact xs .1)))
 

@@ -1,5 +1,5 @@
--- The refusals of six_volume, in their order: the closed test's, then 20 and 22 of the search with every change, then 50
--- to 53.
+-- The refusals of six_volume, in their order: the closed test's, then 20 and 22 of the search with every change, then
+-- 50 to 53.
 --
 -- volumeRules   a cell with a first flag and coordinates, with room for so many flags
 use mathlib.Core.Path.{_≡_}

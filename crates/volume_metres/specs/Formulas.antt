@@ -9,7 +9,7 @@
 -- inWhole      and over the integers
 -- mostExact    every integer up to this size is a float
 -- Exact        a float is an integer, smaller in size than that
--- NoRounding   so it is at each step of working a formula out, and the integer is what that step gives over the integers
+-- NoRounding   so it is at each step of working a formula out: the integer is what that step gives over the integers
 -- minor        two coordinates of two vertices multiplied crosswise, and subtracted
 -- detFormula   the determinant of where three vertices stand
 -- detIn        the determinant of three points, worked out in floats

@@ -29,7 +29,8 @@ six-none L xs w table bytes = zero-literal
 
 -- one flag more
 six-snoc : (L : Listing) (xs : List Float) (l : List (List ℕ)) (f : List ℕ)
-    → inFloats xs (sixFormula L (l ++ (f ∷ []))) ≡ add binary64 (inFloats xs (sixFormula L l)) (inFloats xs (partFormula L f))
+    → inFloats xs (sixFormula L (l ++ (f ∷ [])))
+    ≡ add binary64 (inFloats xs (sixFormula L l)) (inFloats xs (partFormula L f))
 unfolding sixFormula inFloats
 six-snoc L xs l f =
     ap (λ m. inFloats xs (runningSum nothing m)) (map-append (partFormula L) l (f ∷ []))

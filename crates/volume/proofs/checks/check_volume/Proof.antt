@@ -51,7 +51,9 @@ three-are c =
 
 returns : tie.Need-returns
 unfolding volumeTest _orElse_
-returns c = let s = c .before .before .before .before .before in rw (if-not (s .args .s .answer .no) _ _ (c .if1 .taken))
+returns c =
+    let s = c .before .before .before .before .before in
+    rw (if-not (s .args .s .answer .no) _ _ (c .if1 .taken))
 
 returns-2 : tie.Need-returns-2
 unfolding volumeTest _orElse_

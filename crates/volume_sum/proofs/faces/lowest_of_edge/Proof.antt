@@ -25,7 +25,9 @@ its : (c : tie.After-side-of) → let s = begun c in c .side-of .result .now ≡
 its c = let s = begun c in c .side-of .ensures ∙ side-at (L s) _ _ _ _ (s .pre .1 .0)
 
 some : (c : tie.After-side-of) → 0 < length (c .side-of .result .now)
-some c = let s = begun c in rw (its c) (some-sub (L s) (s .pre .0 .incident) 2 (s .args .e) (omega arith) (s .pre .1 .1))
+some c =
+    let s = begun c in
+    rw (its c) (some-sub (L s) (s .pre .0 .incident) 2 (s .args .e) (omega arith) (s .pre .1 .1))
 
 side-of-requires : tie.Need-side-of-requires
 side-of-requires c κs =

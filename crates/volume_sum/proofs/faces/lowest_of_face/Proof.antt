@@ -57,7 +57,8 @@ edge-exists : (c : tie.After-side-of Inv-loop μ-loop) (k : ℕ) → k < length 
 edge-exists c k h =
     let s = begun c in
     let e = ap (λ l. getD l k 0) (its c) in
-    omega (arith, edge-there (L s) (s .pre .0 .incident) (s .args .i) k (s .pre .1 .1) (omega (arith, ap length (its c))))
+    let i : k < length (subs (L s) 3 (s .args .i)) = omega (arith, ap length (its c)) in
+    omega (arith, edge-there (L s) (s .pre .0 .incident) (s .args .i) k (s .pre .1 .1) i)
 
 -- the lowest vertex of the edge at hand
 at-hand : (c : tie.After-lowest-of-edge2 Inv-loop μ-loop) → let d = face-of (turn c) in let s = begun d in

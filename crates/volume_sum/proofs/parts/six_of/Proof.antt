@@ -1,6 +1,6 @@
 -- Invariant: `six` is what the even ones of the first k rows add, worked out in floats. Measure: the rows left.
 -- Assumes nothing.
-use mathlib.Core.Path.{_≡_, ap, _∙_}
+use mathlib.Core.Path.{_≡_, ap, ap₂, _∙_}
 use mathlib.Core.Logic.{⊎-elim}
 use Prim.Native.Nat.{_+_, _-_, _*_, _≤_, _<_}
 use native.Mathlib.Omega.{arith}
@@ -20,7 +20,8 @@ use Rattle.volume_sum.proofs.parts.six_of.Tie as tie
 abbrev Inv-loop : tie.InvT-loop
 Inv-loop counts ends inc coordinates table orientations n lowest edges w end six₀ k₀ six k =
     (k ≤ end)
-    × (six ≡ inFloats coordinates (sixFormula (listing counts ends inc) (evens (rows (length counts) table k) orientations)))
+    × (six ≡ inFloats coordinates
+    (sixFormula (listing counts ends inc) (evens (rows (length counts) table k) orientations)))
 
 abbrev μ-loop : tie.MeasureT-loop
 μ-loop counts ends inc coordinates table orientations n lowest edges w end six₀ k₀ six k = end - k
@@ -132,9 +133,8 @@ loop-again c =
       search needs,
       ⊎-elim
           (λ a.
-          a .4
-          ∙ (λ j. add binary64 (l .inv .1 j) ((a .3 .ensures ∙ ap (λ f. inFloats xs (partFormula (L s) f)) (row-is t)) j))
-          ∙ six-even (L s) xs _ _ _ (l .k) i (a .0 .taken))
+          let part = a .3 .ensures ∙ ap (λ f. inFloats xs (partFormula (L s) f)) (row-is t) in
+          a .4 ∙ ap₂ (add binary64) (l .inv .1) part ∙ six-even (L s) xs _ _ _ (l .k) i (a .0 .taken))
           (λ a. a .1 ∙ l .inv .1 ∙ six-odd (L s) xs _ _ _ (l .k) i (a .0 .left))
           (c .if1 .came),
     )
