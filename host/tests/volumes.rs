@@ -297,6 +297,10 @@ fn moved_mirrored_and_changed() {
     let changed = |asked: &Asked, map: &dyn Fn(usize, f64) -> f64| {
         asked.with_coordinates(asked.coordinates.iter().enumerate().map(|(i, &x)| map(i % 3, x)).collect())
     };
+    // The model adds up in integers of 128 bits, and the archive gives the same bits.
+    for asked in &asked {
+        assert_eq!(asked.answer(&Archive), asked.answer(&Model::default()));
+    }
     each(|library| {
         let mut not_zero = 0;
         for asked in &asked {

@@ -1,6 +1,5 @@
-// The C boundary: each function passes its numbers and slices on to an entry, of the same name but for the class, the
-// sign, the next event and the volume, which cross as numbers. A slice crosses as a pointer and a length. Nothing is
-// decided here.
+// The C boundary: each function passes its numbers and slices on to the entry of its name. The class, the sign, the next
+// event and the volume cross as numbers. A slice crosses as a pointer and a length. Nothing is decided here.
 use flag::Changed;
 use listing::Answer;
 use listing::Built;

@@ -6,7 +6,7 @@
 -- sumOver  f of each number of a list, added up
 -- addUp    f of each thing of a list, added up, where f gives integers
 -- partAt   the part, among n, that a number falls into, and its place there
--- Placed   what `place` finds: the part is there, the place lies in it, and both lead back to the number
+-- Placed   what `partAt` finds: the part is there, the place lies in it, and both lead back to the number
 use mathlib.Core.Path.{_≡_}
 use mathlib.Core.List.{List, [], _∷_}
 use Prim.Native.Nat.{ℕ, zero, suc, _+_, _-_, _<_}

@@ -25,7 +25,8 @@ use Rattle.volume.specs.Volumes.{numberOf, sixFold}
 use Rattle.volume.specs.Promised.{VolumePromised, Negated}
 use Rattle.volume.proofs.six_volume.Reads as six-volume
 use Rattle.volume.proofs.numbers.Reads as numbers
-use Rattle.promises.specs.Entries.{Takes, Says, SaysOfTwo, OneAnswer, OneOutcome, lent, flag, asked, metres, tables}
+use Rattle.promises.specs.Entries.{Takes, Says, SaysOfTwo, OneAnswer, OneOutcome}
+use Rattle.promises.specs.Entries.{lent, flag, asked, metres, tables}
 
 abbrev pub VolumeSays : (Listing → List ℕ → List Float → List ℕ → List ℕ → Volume → List ℕ → List ℕ → Type 0) → Type 0
 VolumeSays Q = Says six-volume.Post

@@ -25,7 +25,7 @@
 -- Proper      what holds of each state of a search
 -- Colouring   two colours that each step from a reachable thing exchanges
 -- tone        the byte of a colour, seen from the colour of the start: 0 for the same, 1 for the other
--- evens       the even ones of those found: those whose byte is 0
+-- evens       the even ones of those found: those whose byte is 0; what stands past the last byte is left out
 use mathlib.Core.Path.{_≡_}
 use mathlib.Core.Logic.{_↔_}
 use mathlib.Core.Bool.{Bool, true, false, cond, not, _&&_}

@@ -24,7 +24,8 @@ use Rattle.search_masks.specs.Masks.{everyRank}
 use Rattle.search.specs.declared.Searched.{Searched}
 use Rattle.search.specs.Promised.{roomIn, Promised}
 use Rattle.volume_metres.specs.Formulas.{inFloats, inWhole, NoRounding}
-use Rattle.volume_theory.specs.Six.{vertexAt, edgeAt, faceAt, otherVertex, lowestOf, sixOf, sixFormula, OtherEnd, LowestIn}
+use Rattle.volume_theory.specs.Six.{vertexAt, edgeAt, faceAt, otherVertex, lowestOf, sixOf, sixFormula}
+use Rattle.volume_theory.specs.Six.{OtherEnd, LowestIn}
 use Rattle.volume.specs.declared.Volume.{Volume}
 use Rattle.volume.specs.declared.Volume.the-variants.{Six}
 use Rattle.volume.specs.Volumes.{numberOf, sixFold}

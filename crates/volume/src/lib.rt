@@ -20,9 +20,9 @@ pub struct Measured {
     pub six: f64,
 }
 
-// The sum over the even flags that a search with every change finds from the first flag: six times the volume where
-// each face is one ring of edges. From a flag one change away it is negated. What the search leaves in the table and the
-// orientations stays there, whatever is answered after it.
+// The sum over the even flags that a search with every change finds from the first flag; docs/RULE.md says of which
+// cells that is six times the volume. From a flag one change away it is negated. What the search leaves in the table and
+// the orientations stays there, whatever is answered after it.
 pub fn six_volume(
     counts: &[Index],
     ends: &[Index],

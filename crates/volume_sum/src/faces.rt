@@ -11,7 +11,8 @@ ghost use Rattle.valid.specs.Closed.{Closed};
 ghost use Rattle.volume_theory.specs.Six.{cellRank, lowestOf};
 ghost use Rattle.volume_sum.specs.Sums.{LowestOfEach};
 
-// The lowest-numbered vertex of an edge: its subs ascend. The edges begin at place edges.
+// The lowest-numbered vertex of an edge: its subs ascend. The edges begin at place edges; of the counts only the
+// contract speaks.
 fn lowest_of_edge(counts: &[Index], ends: &[Index], inc: &[Index], edges: usize, e: Index) -> Index
     requires { ⌜ Closed limits (held counts ends inc) ⌝ }
     requires { ⌜ (edges ≡ before (now counts) 2) × (e < getD (now counts) 2 0) ⌝ }

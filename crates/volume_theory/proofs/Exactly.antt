@@ -17,7 +17,8 @@ use Rattle.volume_metres.specs.Formulas.{Formula, nothing, inFloats, inWhole, N
 use Rattle.volume_metres.proofs.Rounding.{sizeOf, PlacesBelow, det-whole, det-size, det-places, running-whole}
 use Rattle.volume_metres.proofs.Rounding.{running-no-rounding}
 use Rattle.volume_metres.proofs.Running.{running-is}
-use Rattle.volume_theory.specs.Six.{cellRank, vertexAt, faceAt, otherVertex, lowestOf, sixOf, partFormula, sixFormula}
+use Rattle.volume_theory.specs.Six.{cellRank, vertexAt, faceAt, otherVertex, lowestOf, sixOf}
+use Rattle.volume_theory.specs.Six.{partFormula, sixFormula}
 use Rattle.volume_theory.proofs.Vertices.{vertex-there, face-there, other-there}
 use Rattle.volume_theory.proofs.Lowest.{lowest-there}
 

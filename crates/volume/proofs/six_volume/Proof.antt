@@ -11,10 +11,14 @@ use Rattle.volume.proofs.six_volume.Tie as tie
 abbrev L : tie.Start → Listing
 L s = listing (s .args .counts .now) (s .args .ends .now) (s .args .inc .now)
 
--- ---- points of the code: where it began, seen from where the search has ended; where that is, seen from the test
+-- ---- points of the code: where it began and where the mask is made, seen from where the search has ended; where that
+-- is, seen from the test
+
+abbrev masked : tie.After-search → tie.After-every-change
+masked c = c .before .before .before
 
 abbrev begun : tie.After-search → tie.Start
-begun c = c .before .before .before .before .before .before .before .before .before .before .before
+begun c = let d = masked c in d .before .before .before .before .before .before .before .before
 
 abbrev searched : tie.After-check-volume → tie.After-search
 searched c = c .before .before .before .before .before
@@ -30,8 +34,8 @@ ended : (c : tie.After-search) → let s = begun c in
     (c .search .result) (c .search .last .1 .1 .1 .1 .1 .0) (c .search .last .1 .1 .1 .1 .1 .1 .0)
 ended c =
     let s = begun c in
-    any-mask (L s) (s .args .first .now) (c .before .before .before .every-change .result) (s .args .table .now)
-    (s .args .orientations .now) (c .before .before .before .every-change .ensures)
+    any-mask (L s) (s .args .first .now) (masked c .every-change .result) (s .args .table .now)
+    (s .args .orientations .now) (masked c .every-change .ensures)
     (record { answer = c .search .ensures .0; flags = c .search .ensures .1 .0; turns = c .search .ensures .1 .1 })
 
 -- nothing is refused

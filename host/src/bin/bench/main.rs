@@ -9,10 +9,9 @@
 //! measures the unproved model instead of the archive, only to try this program.
 //!
 //! --before measures an earlier archive too, in turn with the others, and the tables say how its time is to ours.
-//! PROGRAM is a `bench` that was built with that archive: by FLUMEDRAC_LIB, which names the archive's folder, and by
-//! CARGO_TARGET_DIR, which names another folder to build in. It is started with --serve and then is a partner: it
-//! prints no tables, but reads the names of rows, a line each, and says how many seconds its own archive takes for
-//! that row, or a dash if it has none of that name.
+//! PROGRAM is the `bench` of that time, built in a copy of the project with its own archive. It is started with --serve
+//! and then is a partner: it prints no tables, but reads the names of rows, a line each, and says how many seconds its
+//! own archive takes for that row, or a dash if it has none of that name.
 //!
 //! The Rust files have no texts: reading one is measured beside a plain parser in Rust. They have no test for one body,
 //! and no volumes in what is built of them: both are measured beside our own search by every change from the same flag,

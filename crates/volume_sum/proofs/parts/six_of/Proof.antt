@@ -29,10 +29,14 @@ abbrev μ-loop : tie.MeasureT-loop
 abbrev L : tie.Start Inv-loop μ-loop → Listing
 L s = listing (s .args .counts .now) (s .args .ends .now) (s .args .inc .now)
 
--- ---- points of the code: where it began, seen from where the loop begins; a turn of the loop, seen from its test
+-- ---- points of the code: where it began and where the lowest vertices are known, seen from where the loop begins; that
+-- place, seen from a turn of the loop
+
+abbrev known : tie.After-wide Inv-loop μ-loop → tie.After-lowest-of-faces Inv-loop μ-loop
+known c = c .before .before
 
 abbrev begun : tie.After-wide Inv-loop μ-loop → tie.Start Inv-loop μ-loop
-begun c = c .before .before .before .before .before .before .before .before .before
+begun c = let d = known c in d .before .before .before .before .before .before .before
 
 abbrev began : tie.In-loop Inv-loop μ-loop → tie.After-wide Inv-loop μ-loop
 began c = c .before .before
@@ -110,7 +114,7 @@ part-of-requires c κs =
         (
           s .pre .1 .1 .0,
           (
-            d .before .before .lowest-of-faces .ensures,
+            known d .lowest-of-faces .ensures,
             (d .before .elements-before .ensures, rw (row-is t) (s .pre .1 .1 .1 .1 _ (below t))),
           ),
         ),
