@@ -1,20 +1,32 @@
 -- `check_volume`: one return for each refusal, in their order, and one for none. No loop.
 -- Assumes nothing.
 use mathlib.Core.Path.{_≡_, sym, _∙_}
-use mathlib.Core.Bool.{true, false}
-use Prim.Native.Nat.{_-_, _*_}
+use mathlib.Core.Bool.{Bool, true, false, not}
+use mathlib.Core.List.{List}
+use Prim.Native.Nat.{ℕ, _-_, _*_}
 use native.Mathlib.Omega.{arith}
 use borrow.Author.Tests.{eq-eqb, ne-eqb, not-true, not-false}
 use borrow.Author.Needs.{needs}
 use lib.Dec.{eqb}
 use lib.ListN.{length, getD}
-use Rattle.listing.specs.Answers.{_orElse_}
+use lib.Ieee.{Float}
+use Rattle.listing.specs.Refusals.{notInMetres}
+use Rattle.listing.specs.Answers.{plain, on, _orElse_}
 use Rattle.listing.proofs.Answers.{if-not}
+use Rattle.search.specs.declared.Searched.{Searched}
 use Rattle.volume_metres.specs.Whole.{allCoordinates}
 use Rattle.volume_theory.specs.Six.{cellRank}
 use Rattle.volume.specs.Volumes.{volumeTest}
 use Rattle.volume.proofs.checks.check_volume.Statement.{statement}
 use Rattle.volume.proofs.checks.check_volume.Tie as tie
+
+-- where all other tests have passed, the last one answers
+last-test : (counts : List ℕ) (xs : List Float) (s : Searched) → s .answer .no ≡ 0
+    → eqb (length counts - 1) cellRank ≡ true → eqb (s .orientable) 0 ≡ false
+    → eqb (length xs) (3 * getD counts 1 0) ≡ true → {b : Bool} → allCoordinates xs ≡ b
+    → on (not b) (plain notInMetres) .no ≡ volumeTest counts xs s .no
+unfolding volumeTest _orElse_
+last-test counts xs s z r o t e = rw (z, r, o, t, e)
 
 -- ---- points of the code: where it began, where each test has passed
 
@@ -89,25 +101,22 @@ returns-4 c =
 all-coordinates-requires : tie.Need-all-coordinates-requires
 all-coordinates-requires c κs = search needs
 
-returns-5 : tie.Need-returns-5
-unfolding volumeTest _orElse_
-returns-5 c =
-    let f = c .before .before in
-    let d = of-sides (f .before) in
+-- all tests but the last have passed
+last-is : (c : tie.After-all-coordinates) {b : Bool}
+    → let s = begun (of-search (of-rank (of-sides (c .before .before)))) in
+    allCoordinates (s .args .coordinates .now) ≡ b
+    → on (not b) (plain notInMetres) .no
+    ≡ volumeTest (s .args .counts .now) (s .args .coordinates .now) (s .args .s) .no
+last-is c n =
+    let d = of-sides (c .before .before) in
     let e = of-rank d in
-    let n : allCoordinates (begun (of-search e) .args .coordinates .now) ≡ false =
-    sym (c .before .all-coordinates .ensures) ∙ not-true _ (c .if5 .taken) in
-    rw (of-search e .if1 .left, ranks-are e, sides-are d, three-are f, n)
+    last-test _ _ _ (of-search e .if1 .left) (ranks-are e) (sides-are d) (three-are (c .before)) n
+
+returns-5 : tie.Need-returns-5
+returns-5 c = last-is (c .before) (sym (c .before .all-coordinates .ensures) ∙ not-true _ (c .if5 .taken))
 
 returns-6 : tie.Need-returns-6
-unfolding volumeTest _orElse_
-returns-6 c =
-    let f = c .before .before in
-    let d = of-sides (f .before) in
-    let e = of-rank d in
-    let n : allCoordinates (begun (of-search e) .args .coordinates .now) ≡ true =
-    sym (c .before .all-coordinates .ensures) ∙ not-false _ (c .if5 .left) in
-    rw (of-search e .if1 .left, ranks-are e, sides-are d, three-are f, n)
+returns-6 c = last-is (c .before) (sym (c .before .all-coordinates .ensures) ∙ not-false _ (c .if5 .left))
 
 pub check-volume-spec : {M : Type 1} → statement M
 check-volume-spec =

@@ -29,8 +29,8 @@ abbrev μ-loop : tie.MeasureT-loop
 abbrev L : tie.Start Inv-loop μ-loop → Listing
 L s = listing (s .args .counts .now) (s .args .ends .now) (s .args .inc .now)
 
--- ---- points of the code: where it began and where the lowest vertices are known, seen from where the loop begins; that
--- place, seen from a turn of the loop
+-- ---- points of the code: where it began and where the lowest vertices are known, seen from where the loop begins;
+-- that place, seen from a turn of the loop
 
 abbrev known : tie.After-wide Inv-loop μ-loop → tie.After-lowest-of-faces Inv-loop μ-loop
 known c = c .before .before
