@@ -1,6 +1,6 @@
 -- The answer of a change: of its tests, with their exactness, and as a whole.
 -- Assumes nothing.
-use mathlib.Core.Path.{_≡_, refl, ap}
+use mathlib.Core.Path.{_≡_, refl, sym}
 use mathlib.Core.Bool.{Bool, not, _&&_}
 use mathlib.Core.List.{List}
 use mathlib.Core.Logic.{_↔_}
@@ -8,20 +8,17 @@ use Prim.Native.Nat.{ℕ, zero, suc, _≤_, _<_}
 use native.Mathlib.Omega.{arith}
 use borrow.Author.Tests.{lt-ltb, le-ltb, ltb-true, not-false}
 use lib.Dec.{ltb}
-use lib.ListN.{replicate}
 use Rattle.listing.specs.declared.Answer.{Answer}
 use Rattle.listing.specs.Refusals.{outsideRanks}
 use Rattle.listing.specs.Answers.{plain, fine, ifZero}
-use Rattle.listing.specs.Listing.{Listing, Limits, limits, rank}
-use Rattle.listing.proofs.Answers.{or-no, no-or, on-no, on-off, then-go}
+use Rattle.listing.specs.Listing.{Listing, Limits, rank}
+use Rattle.listing.proofs.Answers.{or-no, no-or, on-no, on-off, then-go, if-not}
+use Rattle.listing.proofs.Clear.{Clear, clear-or, clear-plain}
 use Rattle.order.proofs.Tests.{and-true, and-off}
 use Rattle.valid.specs.Closed.{Closed}
 use Rattle.flag_change.specs.Flags.{startTest, IsFlag}
-use Rattle.flag_change.specs.Change.{changeAt, padded, Changes}
 use Rattle.flag_change.proofs.StartExact.{start-exact}
-use Rattle.flag_change.proofs.Changes.{changes}
-use Rattle.flag.specs.declared.Changed.{Changed}
-use Rattle.flag.specs.Changed.{changeTest, changedOf}
+use Rattle.flag.specs.Changed.{changeTest, refusedAs, changedAs, changedOf}
 
 module _ (m : Limits) (L : Listing) (f : List ℕ) (r : ℕ) where
   module _ {a b : Answer} (e : a ≡ startTest m L f) (z : a .no ≡ 0) where
@@ -59,35 +56,24 @@ module _ (m : Limits) (L : Listing) (f : List ℕ) (r : ℕ) where
 
 -- ---- the answer as a whole
 
-abbrev answered : Answer → List ℕ → Changed
-answered a l = record { answer = a; flag = l }
-
 module _ (m : Limits) (L : Listing) (f : List ℕ) (r : ℕ) where
-  -- the numbers that go with the number of the answer
-  abbrev numbers : ℕ → List ℕ
-  numbers n = ifZero n (padded (changeAt L r f)) (replicate (limits .ranks) 0)
+  -- a change that is not refused carries nothing in the fields of its answer
+  pub change-clear : Clear (changeTest m L f r)
+  unfolding changeTest
+  change-clear = clear-or (startTest m L f) (clear-plain (not (ltb 0 r && ltb r (rank L))) outsideRanks)
 
-  module _ {a : Answer} {l : List ℕ} (e : a ≡ changeTest m L f r) where
-    pub changed-none : (a .no ≡ 0 → ⊥) → l ≡ replicate (limits .ranks) 0 → answered a l ≡ changedOf m L f r
-    unfolding changedOf
-    changed-none h k = rw (← e) (go (a .no) h)
-      where
-        go : (n : ℕ) → (n ≡ 0 → ⊥) → answered a l ≡ answered a (numbers n)
-        go zero g = absurd (g refl)
-        go (suc n) g = ap (answered a) k
+  pub changed-answer : changedOf m L f r .answer ≡ changeTest m L f r
+  unfolding changedOf changedAs
+  changed-answer = go (changeTest m L f r .no)
+    where
+      go : (n : ℕ) → let a = changeTest m L f r in ifZero n (changedAs a L f r) (refusedAs a) .answer ≡ a
+      go zero = refl
+      go (suc n) = refl
 
-    pub changed-some : a .no ≡ 0 → l ≡ padded (changeAt L r f) → answered a l ≡ changedOf m L f r
-    unfolding changedOf
-    changed-some h k = rw (← e) (go (a .no) h)
-      where
-        go : (n : ℕ) → n ≡ 0 → answered a l ≡ answered a (numbers n)
-        go zero g = ap (answered a) k
-        go (suc n) g = absurd (omega arith)
-
-  -- Where a change is not refused, its flag is the one and only change there.
-  pub change-changes : changedOf m L f r .answer .no ≡ 0
-      → Changes L f r × (changedOf m L f r .flag ≡ padded (changeAt L r f))
+  pub changed-none : {a : Answer} → a ≡ changeTest m L f r → (a .no ≡ 0 → ⊥) → refusedAs a ≡ changedOf m L f r
   unfolding changedOf
-  change-changes e =
-      let p = change-exact m L f r .0 e in
-      (changes L (p .0) r (p .2) (p .3) f (p .1), ap numbers e)
+  changed-none {a} e h = rw (← e) (sym (if-not (a .no) (changedAs a L f r) (refusedAs a) h))
+
+  pub changed-some : changeTest m L f r .no ≡ 0 → changedAs fine L f r ≡ changedOf m L f r
+  unfolding changedOf
+  changed-some e = rw (change-clear e) refl

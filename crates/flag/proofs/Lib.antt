@@ -1,4 +1,4 @@
 pub mod ChangeAnswers
-pub mod ChangeTwice
+pub mod ChangeMade
 pub mod ChangeBroken
 pub mod FlippedByte

@@ -13,14 +13,15 @@ use Rattle.order.specs.Lists.{In}
 use Rattle.order.specs.Steps.{ChangedAt}
 use Rattle.order.specs.Diamond.{OneOther}
 use Rattle.order.proofs.Renumbering.{OneOther·same}
+use Rattle.order.proofs.Two.{TheTwo·of, TheTwo·same}
 use Rattle.listing.specs.Listing.{Listing, Limits, count, rank, subs}
 use Rattle.valid_incidence.specs.Incidence.{Incident}
 use Rattle.valid_diamond.specs.Dyadic.{LiesBetween, DiamondAt, DiamondUpTo}
 use Rattle.valid.specs.Closed.{Closed}
 use Rattle.flag_change.specs.Flags.{IsFlag}
-use Rattle.flag_change.specs.Change.{other, between, changeAt, Changes}
+use Rattle.flag_change.specs.Change.{other, between, replacedAt, changeAt, Changes, Replaces}
 use Rattle.flag_change.proofs.Common.{common-in, other-same, other-found}
-use Rattle.flag_change.proofs.Replaced.{changed-set, changed-is, changed-apart, between-set, set-flag}
+use Rattle.flag_change.proofs.Replaced.{taken-is, put-is, changed-set, changed-is, changed-apart, between-set, set-flag}
 
 -- ---- the other of two
 
@@ -100,7 +101,7 @@ module _ {m : Limits} (L : Listing) (C : Closed m L) (r : ℕ) (p : 0 < r) (q : 
     new-differs = rw new-is (the-other .differs)
 
     changed-flag : IsFlag L (changeAt L r f)
-    unfolding changeAt
+    unfolding changeAt replacedAt
     changed-flag =
         let e : r + 1 - 1 ≡ r = omega arith in
         let h : In new (between L r f) = rw new-is (the-other .holds) in
@@ -109,7 +110,7 @@ module _ {m : Limits} (L : Listing) (C : Closed m L) (r : ℕ) (p : 0 < r) (q : 
         set-flag L f r p q F new (mid-exists new (b .0)) (b .1) (b .0)
 
     changed-at : ChangedAt r f (changeAt L r f)
-    unfolding changeAt
+    unfolding changeAt replacedAt
     changed-at = changed-set f r new (omega (arith, F .one-each)) (λ e. new-differs (sym e))
 
     -- seen from the new flag, the old element is the other one
@@ -122,15 +123,25 @@ module _ {m : Limits} (L : Listing) (C : Closed m L) (r : ℕ) (p : 0 < r) (q : 
         swap (inl e) = inr e
         swap (inr e) = inl (e ∙ sym new-is)
 
+    -- what the change back takes out, and what it puts in
+    pub back-taken : replacedAt L r (changeAt L r f) .taken ≡ replacedAt L r f .put
+    unfolding changeAt replacedAt
+    back-taken = getD-set-same f r new 0 (omega (arith, F .one-each))
+
+    pub back-put : replacedAt L r (changeAt L r f) .put ≡ replacedAt L r f .taken
+    unfolding changeAt replacedAt
+    back-put =
+        rw (getD-set-same f r new 0 (omega (arith, F .one-each)), between-set L f r p q new) old-is
+
     changed-back : changeAt L r (changeAt L r f) ≡ f
-    unfolding changeAt
+    unfolding changeAt replacedAt
     changed-back =
         rw (getD-set-same f r new 0 (omega (arith, F .one-each)), between-set L f r p q new, old-is, set-set f r)
         (set-getD f r 0)
 
   module _ (f : List ℕ) (F : IsFlag L f) where
     changed-only : (g : List ℕ) → IsFlag L g → ChangedAt r f g → g ≡ changeAt L r f
-    unfolding changeAt
+    unfolding changeAt replacedAt
     changed-only g G c = changed-is c ∙ ap (set f r) (go (the-other f F .only (getD g r 0) between-g))
       where
         between-g : In (getD g r 0) (between L r f)
@@ -139,6 +150,18 @@ module _ {m : Limits} (L : Listing) (C : Closed m L) (r : ℕ) (p : 0 < r) (q : 
         go : (getD g r 0 ≡ getD f r 0) ⊎ (getD g r 0 ≡ the-other f F .other) → getD g r 0 ≡ new f F
         go (inl e) = absurd (changed-apart c e)
         go (inr e) = e ∙ sym (new-is f F)
+
+    -- What a change takes out and puts in are the two elements between the neighbours of its rank.
+    pub replaces : Replaces L f r (changeAt L r f) (replacedAt L r f .taken) (replacedAt L r f .put)
+    unfolding replacedAt
+    replaces = record {
+      taken = taken-is L f r;
+      put = put-is L f r (omega (arith, F .one-each));
+      two =
+          TheTwo·same (λ x. In x (between L r f)) (LiesBetween L (r + 1) (getD f (r + 1) 0) (getD f (r - 1) 0))
+          (λ w. between-is f F w .0) (λ w. between-is f F w .1)
+          (TheTwo·of (λ x. In x (between L r f)) (getD f r 0) (new f F) (stands f F) (the-other f F) (new-is f F));
+    }
 
     -- A flag of a closed listing has exactly one change at each rank between the ends, and making it twice leads back.
     pub changes : Changes L f r

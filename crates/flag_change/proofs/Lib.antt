@@ -4,4 +4,5 @@ pub mod Common
 pub mod Padding
 pub mod Replaced
 pub mod Changes
+pub mod Across
 pub mod StartBroken

@@ -1,4 +1,4 @@
--- Lists that differ at one place, and flags with another number at one rank.
+-- What a change replaces; lists that differ at one place, and flags with another number at one rank.
 -- Assumes nothing.
 use mathlib.Core.Path.{_≡_, refl, sym, ap, _∙_}
 use mathlib.Core.List.{List, [], _∷_}
@@ -13,7 +13,18 @@ use Rattle.order.specs.Lists.{In}
 use Rattle.order.specs.Steps.{ChangedAt, here, there}
 use Rattle.listing.specs.Listing.{Listing, count, rank, subs}
 use Rattle.flag_change.specs.Flags.{IsFlag}
-use Rattle.flag_change.specs.Change.{between, Flanked}
+use Rattle.flag_change.specs.Change.{between, replacedAt, changeAt, Flanked}
+
+-- ---- what is taken out stands in the flag, and what is put in stands in the changed flag
+
+module _ (L : Listing) (f : List ℕ) (r : ℕ) where
+  pub taken-is : replacedAt L r f .taken ≡ getD f r 0
+  unfolding replacedAt
+  taken-is = refl
+
+  pub put-is : r < length f → replacedAt L r f .put ≡ getD (changeAt L r f) r 0
+  unfolding changeAt
+  put-is h = sym (getD-set-same f r _ 0 h)
 
 -- ---- lists that differ at one place are one list with another number there
 

@@ -1,5 +1,5 @@
 // What the entries, and the crates above, call to test a chain of elements and to change it at one rank. Most of these
-// functions ask that the listing is known to be shaped or closed.
+// functions ask that the listing is known to be shaped.
 use listing::Answer;
 use listing::Index;
 use listing::inner;
@@ -8,14 +8,19 @@ use listing::refusal;
 use listing_membership::members;
 ghost use mathlib.Core.Path.{_≡_};
 ghost use Prim.Native.Nat.{_+_, _-_, _≤_, _<_};
-ghost use lib.ListN.{length, getD};
+ghost use lib.ListN.{length};
 ghost use Rattle.order.specs.Lists.{Ascending};
 ghost use Rattle.listing.specs.Listing.{held, limits, before};
 ghost use Rattle.listing.specs.Shape.{Shaped};
 ghost use Rattle.valid.specs.Ascent.{Ascends};
-ghost use Rattle.valid.specs.Closed.{Closed};
-ghost use Rattle.flag_change.specs.Flags.{flagAt, flagTest, startTest, IsFlag};
-ghost use Rattle.flag_change.specs.Change.{common, other, between, changeAt, padded, Flanked};
+ghost use Rattle.flag_change.specs.Flags.{flagAt, flagTest, startTest};
+ghost use Rattle.flag_change.specs.Change.{common, other, replacedAt, padded, Flanked};
+
+// What a change replaces: the index that it takes out of a flag, and the one that it puts in.
+pub struct Replaced {
+    pub taken: Index,
+    pub put: Index,
+}
 
 // Whether an index that exists stands in the flag at rank r, which begins at place here, and over what stands below it.
 fn stands_at(
@@ -79,7 +84,7 @@ pub fn check_flag(counts: &[Index], ends: &[Index], inc: &[Index], flag: &[Index
 }
 
 // The first number of one list that another, ascending one holds too and that is not e; 0 where there is none.
-fn other_among(short: &[Index], long: &[Index], e: u16) -> u16
+fn other_among(short: &[Index], long: &[Index], e: Index) -> Index
     requires { ⌜ Ascending (now long) ⌝ }
     ensures { λ x. ⌜ x ≡ other e (common (now (short .entry)) (now (long .entry))) ⌝ }
 {
@@ -99,7 +104,7 @@ fn other_among(short: &[Index], long: &[Index], e: u16) -> u16
 
 // The first number that two ascending lists share and that is not e; 0 where there is none. The shorter list is walked:
 // the other may be an end's, with thousands of numbers.
-pub fn other_between(below: &[Index], above: &[Index], e: u16) -> u16
+fn other_between(below: &[Index], above: &[Index], e: Index) -> Index
     requires { ⌜ Ascending (now below) ⌝ }
     requires { ⌜ Ascending (now above) ⌝ }
     ensures { λ x. ⌜ x ≡ other e (common (now (below .entry)) (now (above .entry))) ⌝ }
@@ -110,9 +115,9 @@ pub fn other_between(below: &[Index], above: &[Index], e: u16) -> u16
     other_among(above, below, e)
 }
 
-// The index that the change at rank r puts in: the other of the two elements between those at the ranks r - 1, which
-// begins at place low, and r + 1, which begins at place high.
-pub fn change_index(
+// What the change at rank r replaces: the flag's own element there, and the other of the two between those at the ranks
+// r - 1, which begins at place low, and r + 1, which begins at place high.
+pub fn replaced_at(
     counts: &[Index],
     ends: &[Index],
     inc: &[Index],
@@ -120,17 +125,19 @@ pub fn change_index(
     r: usize,
     low: usize,
     high: usize,
-) -> u16
+) -> Replaced
     requires { ⌜ Shaped limits (held counts ends inc) ⌝ }
     requires { ⌜ Ascends (held counts ends inc) ⌝ }
     requires { ⌜ (low ≡ before (now counts) (r - 1)) × (high ≡ before (now counts) (r + 1)) ⌝ }
     requires { ⌜ Flanked (held counts ends inc) (now flag) r ⌝ }
-    ensures { λ x. ⌜ x ≡ other (getD (now (flag .entry)) r 0)
-        (between (held (counts .entry) (ends .entry) (inc .entry)) r (now (flag .entry))) ⌝ }
+    ensures { λ p. ⌜ p ≡ replacedAt (held (counts .entry) (ends .entry) (inc .entry)) r
+        (now (flag .entry)) ⌝ }
 {
     let below = inner::side_of(ends, inc, low, flag[r - 1], 1);
     let above = inner::side_of(ends, inc, high, flag[r + 1], 0);
-    other_between(below, above, flag[r])
+    let taken = flag[r];
+    let put = other_between(below, above, taken);
+    Replaced { taken, put }
 }
 
 // A flag in room for the most ranks, 0 above the top.
@@ -145,26 +152,4 @@ pub fn pad(flag: &[Index]) -> [Index; limit::RANKS]
         k += 1;
     }
     a
-}
-
-// The flag after the change at rank r, in room for the most ranks.
-pub fn changed_at(
-    counts: &[Index],
-    ends: &[Index],
-    inc: &[Index],
-    flag: &[Index],
-    r: usize,
-) -> [Index; limit::RANKS]
-    requires { ⌜ Closed limits (held counts ends inc) ⌝ }
-    requires { ⌜ IsFlag (held counts ends inc) (now flag) ⌝ }
-    requires { ⌜ (0 < r) × (r < length (now counts) - 1) ⌝ }
-    ensures { λ a. ⌜ a ≡ padded (changeAt (held (counts .entry) (ends .entry) (inc .entry)) r
-        (now (flag .entry))) ⌝ }
-{
-    let low = inner::elements_before(counts, r - 1);
-    let high = inner::elements_before(counts, r + 1);
-    let x = change_index(counts, ends, inc, flag, r, low, high);
-    let mut new = pad(flag);
-    new[r] = x;
-    new
 }

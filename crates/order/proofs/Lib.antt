@@ -8,6 +8,7 @@ pub mod Sums
 pub mod Integers
 pub mod AddUp
 pub mod Renumbering
+pub mod Two
 pub mod Pairs
 pub mod PairsCell
 pub mod Added

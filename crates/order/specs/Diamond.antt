@@ -1,6 +1,7 @@
 -- What makes a structure a closed cell, and what is left of it where an end has been taken off.
 --
 -- OneOther     of the things with a property, of which y is one, there is exactly one other
+-- TheTwo       x and y are the two things with a property: both have it, they differ, and no third has it
 -- Between      directly above one element and directly under another
 -- Diamond      whenever some element lies between two others, exactly one other does
 -- LowDiamond   an element right above the lowest rank has exactly two under it: the diamond over a minimal element that
@@ -22,6 +23,12 @@ pub record OneOther {E : Type 0} (P : E → Type 0) (y : E) : Type 0 where
   pub differs : other ≢ y
   pub holds : P other
   pub only : (w : E) → P w → (w ≡ y) ⊎ (w ≡ other)
+
+pub record TheTwo {E : Type 0} (P : E → Type 0) (x y : E) : Type 0 where
+  pub first : P x
+  pub second : P y
+  pub differ : y ≢ x
+  pub only : (w : E) → P w → (w ≡ x) ⊎ (w ≡ y)
 
 abbrev pub Between : (W : Order) → W .Elem → W .Elem → W .Elem → Type 0
 Between W x z w = W .Under x w × W .Under w z

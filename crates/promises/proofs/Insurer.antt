@@ -55,7 +55,7 @@ row k = ap (λ rows. getD rows k (tested leakingBox fine fine)) starred
 -- The cell: is_valid accepts it, and closed says of edge 0 that only one face lies between it and the cell.
 pub let-through : (isValid limits leakingBox ≡ fine) × (closed limits leakingBox ≡ refusal loneBetween 2 0 4 0)
 unfolding answered
-let-through = (ap (λ t. shown t .valid) (row 38), ap (λ t. shown t .last) (row 38))
+let-through = (ap (λ t. shown t .valid) (row 43), ap (λ t. shown t .last) (row 43))
 
 -- The rule that separates the two tests: of a listing that is_valid accepts, with ascending lists, closed asks one
 -- thing more, the diamond at the maximal element.
@@ -91,8 +91,8 @@ pub three-needed : let P = resultOf true true dyad triangle in
     × (productTest limits true true dyad triangle (length (P .counts)) (length (P .ends)) (length (P .inc)) ≡ fine)
 unfolding answered
 three-needed = (
-  body-exact dyad 2 .accepts .0 (ap (λ t. shown t .answer .no) (row 33)) .0,
-  body-exact triangle 6 .accepts .0 (ap (λ t. shown t .answer .no) (row 34)) .0,
+  body-exact dyad 2 .accepts .0 (ap (λ t. shown t .answer .no) (row 38)) .0,
+  body-exact triangle 6 .accepts .0 (ap (λ t. shown t .answer .no) (row 39)) .0,
   parts .0,
   parts .2,
   ap (λ t. shown t .made) (row 16),
@@ -100,4 +100,4 @@ three-needed = (
 )
   where
     parts : Closed limits twoTriangles × (¬ ManyFlags 13 twoTriangles) × (¬ OnePiece twoTriangles)
-    parts = body-exact twoTriangles 12 .parts .0 (ap (λ t. shown t .answer .no) (row 36))
+    parts = body-exact twoTriangles 12 .parts .0 (ap (λ t. shown t .answer .no) (row 41))

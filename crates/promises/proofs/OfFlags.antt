@@ -9,15 +9,16 @@ use native.Mathlib.Omega.{arith}
 use lib.Dec.{ltb}
 use lib.ListN.{replicate}
 use Rattle.listing.specs.declared.Answer.{Answer}
-use Rattle.listing.specs.Answers.{plain, on, ifZero}
+use Rattle.listing.specs.Answers.{plain, on}
 use Rattle.listing.specs.Listing.{Listing, Limits, limits, rank}
 use Rattle.listing.proofs.Answers.{or-stop, no-of}
 use Rattle.listing.proofs.Clear.{Clear, clear-exact, clear-or, clear-plain}
 use Rattle.valid.specs.Tests as tests
 use Rattle.flag_change.specs.Flags.{flagTest, startTest}
-use Rattle.flag_change.specs.Change.{changeAt, padded}
+use Rattle.flag_change.proofs.Across.{across}
 use Rattle.flag.specs.Changed.{changeTest, changedOf}
-use Rattle.flag.proofs.ChangeAnswers.{change-changes}
+use Rattle.flag.proofs.ChangeAnswers.{change-clear, changed-answer, changed-none}
+use Rattle.flag.proofs.ChangeMade.{change-taken, change-changes, change-replaces, change-twice}
 use Rattle.flag.proofs.ChangeBroken.{change-broken}
 use Rattle.search_masks.specs.Masks.{maskFits}
 use Rattle.search_walk.specs.Searched.{foundBy}
@@ -39,20 +40,13 @@ flags-taken = record { flags = (any, any, any, any, any); search = any; events =
 
 -- ---- which refusal comes when
 
--- the flag of a change that is refused
-refused-flag : (m : Limits) (L : Listing) (f : List ℕ) (r : ℕ) → changedOf m L f r .answer .no ≢ 0
-    → changedOf m L f r .flag ≡ replicate (limits .ranks) 0
-unfolding changedOf
-refused-flag m L f r = none (changeTest m L f r .no)
-  where
-    none : (n : ℕ) → n ≢ 0 → ifZero n (padded (changeAt L r f)) (replicate (limits .ranks) 0)
-        ≡ replicate (limits .ranks) 0
-    none zero h = absurd (h refl)
-    none (suc n) h = refl
-
-change-clear : (m : Limits) (L : Listing) (f : List ℕ) (r : ℕ) → Clear (changeTest m L f r)
-unfolding changeTest
-change-clear m L f r = clear-or (startTest m L f) (clear-plain (not (ltb 0 r && ltb r (rank L))) 21)
+-- the numbers of a change that is refused
+refused-numbers : (m : Limits) (L : Listing) (f : List ℕ) (r : ℕ) → let c = changedOf m L f r in
+    c .answer .no ≢ 0 → (c .flag ≡ replicate (limits .ranks) 0) × (c .taken ≡ 0) × (c .put ≡ 0)
+refused-numbers m L f r h =
+    let t = changeTest m L f r in
+    let z : t .no ≢ 0 = rw (changed-answer m L f r) at h in
+    rw (← changed-none m L f r {a = t} refl z) (refl, refl, refl)
 
 search-clear : (m : Limits) (L : Listing) (f : List ℕ) (mask room : ℕ) → Clear (searchTest m L f mask room)
 unfolding searchTest
@@ -60,14 +54,16 @@ search-clear m L f mask room =
     clear-or (startTest m L f) (clear-or _ (clear-plain (foundBy L f mask room .overflow) 22))
 
 pub flags-refuse : FlagsRefuse
-unfolding changedOf
 flags-refuse = record {
-  change-refuses = λ k a r x p. rw p
-      (change-broken limits (lent a) (flag a) (asked a), refused-flag limits (lent a) (flag a) (asked a));
+  change-refuses = λ k a r x p. rw p (
+    rw (changed-answer limits (lent a) (flag a) (asked a)) (change-broken limits (lent a) (flag a) (asked a)),
+    refused-numbers limits (lent a) (flag a) (asked a),
+  );
   search-searches = λ k a r x p. rw (p .0, p .1 .0, p .1 .1)
       (promised limits (lent a) (flag a) (asked a) (tables a .0) (tables a .1));
   answered-fine = (
-    λ k a r x p. rw p (clear-exact (change-clear limits (lent a) (flag a) (asked a))),
+    λ k a r x p. rw (p, changed-answer limits (lent a) (flag a) (asked a))
+        (clear-exact (change-clear limits (lent a) (flag a) (asked a))),
     λ k a r x p. rw (p .0, said limits (lent a) (flag a) (asked a) (tables a .0) (tables a .1))
         (clear-exact (search-clear limits (lent a) (flag a) (asked a) _)),
   );
@@ -121,14 +117,14 @@ module _ (m : Limits) (L : Listing) (f : List ℕ) where
     search-refused mask room = or-stop (startTest m L f) _ start-stops ∙ start-refused
 
 pub flags-named : FlagsNamed
-unfolding changedOf
 flags-named = record {
-  change-as-closed = λ k l a c r s x y p q e. rw (p, q, e)
+  change-as-closed = λ k l a c r s x y p q e. rw (p, q, e, changed-answer limits (lent a) (flag c) (asked c))
       (λ z. change-refused limits (lent a) (flag c) z (asked c));
   search-as-closed = λ k l a c r s x y p q e. rw (p, q .0, e)
       (λ z. said limits (lent a) (flag c) (asked c) (tables c .0) (tables c .1)
       ∙ search-refused limits (lent a) (flag c) z (asked c) _);
-  change-names = λ k a r x p. rw p (change-tells limits (lent a) (flag a) (asked a));
+  change-names = λ k a r x p. rw (p, changed-answer limits (lent a) (flag a) (asked a))
+      (change-tells limits (lent a) (flag a) (asked a));
   search-names = λ k a r x p. rw (p .0, said limits (lent a) (flag a) (asked a) (tables a .0) (tables a .1))
       (search-tells limits (lent a) (flag a) (asked a) _);
 }
@@ -138,6 +134,11 @@ flags-named = record {
 pub flags-answer : FlagsAnswer
 flags-answer = record {
   change-by-the-book = λ k a r x p. rw p (change-changes limits (lent a) (flag a) (asked a));
+  change-replaces = λ k a r x p. rw p (change-replaces limits (lent a) (flag a) (asked a));
+  change-across = λ k a r x p. rw p (λ z t.
+      let h = change-taken limits (lent a) (flag a) (asked a) z in
+      across (h .0) (asked a) t (h .1) (change-replaces limits (lent a) (flag a) (asked a) z));
+  change-back = λ k l a c r s x y p q e d n. rw (q, e, d, n, p) (change-twice limits (lent a) (flag a) (asked a));
   search-by-the-book = λ k a r x p z.
       let P = flags-refuse .search-searches k a r x p in
       (P .holds z, P .finds z);

@@ -31,8 +31,8 @@ use Rattle.text_theory.specs.Said.{formTest, belowIn, sizeBelow, incidencesOf, 
 use Rattle.text.specs.Texts.{readTest, checkTest}
 use Rattle.order.specs.Tests.{every}
 use Rattle.flag_change.specs.Flags.{flagAt, flagTest, startTest}
-use Rattle.flag_change.specs.Change.{common, other, between, changeAt, padded}
-use Rattle.flag.specs.Changed.{changeTest, changedOf}
+use Rattle.flag_change.specs.Change.{common, other, between, replacedAt, changeAt, padded}
+use Rattle.flag.specs.Changed.{changeTest, changedAs, changedOf}
 use Rattle.search_theory.specs.Search.{placeAfter, waits, indexIn, meet, meetAll, work, runFor, run, search}
 use Rattle.search_index.specs.Rows.{sameList}
 use Rattle.search_masks.specs.Masks.{bitsIn}
@@ -50,7 +50,7 @@ unfolding decLt has occurs choose sum partAt _orElse_ firstIn firstFor firstOf b
     elementAscent ascentTest subsOfAll thirdTest seenAfter loneTest sectionsTest dyadicTest isValid closed trimSize
     trimUnder block offset position pairOf pairAt leftSubs rightSubs upTo minSize minUnder maxSize maxUnder
     layerProduct productOf nullCase combCase resultOf shortTest sizeTest factorsTest restTest productTest every flagAt
-    flagTest startTest common other between changeAt padded changeTest changedOf spelled numeral parted commas
+    flagTest startTest common other between replacedAt changeAt padded changeTest changedAs changedOf spelled numeral parted commas
     lineBytes lineOf spot lineAt lineCount afterLine fromLine valuesFrom values countLine said begins numbersFit
     formTest belowIn sizeBelow incidencesOf incidencesTo boundOf boundAt textTest readTest checkTest sumOver placeAfter
     waits indexIn meet meetAll work runFor run search sameList bitsIn maskChanges foundBy chainsTo supAt partsTest

@@ -18,12 +18,13 @@ use mathlib.Core.List.{List, [], _∷_, _++_, map}
 use Prim.Native.Nat.{ℕ, _+_, _-_, _≤_}
 use lib.IntN.{pos, negℤ}
 use lib.Ieee.{Float, binary64, ofInt}
-use lib.ListN.{length, replicate}
+use lib.ListN.{length, getD, take, replicate}
+use Rattle.order.specs.Diamond.{TheTwo}
 use Rattle.listing.specs.Answers.{fine}
 use Rattle.listing.specs.Listing.{Listing, limits, rank}
 use Rattle.listing.specs.Rules.{FirstBroken}
 use Rattle.valid.proofs.closed.Reads as closed
-use Rattle.flag_change.specs.Change.{Changes, changeAt, padded}
+use Rattle.flag_change.specs.Change.{Changes, Replaces, HasUnder, changeAt, padded}
 use Rattle.flag.specs.Orientations.{byteOf}
 use Rattle.flag.specs.Rules.{changeRules}
 use Rattle.search.specs.declared.Searched.{Searched}
@@ -74,10 +75,10 @@ pub record FlagsTaken : Type 0 where
       × Takes numbers.Asked
 
 pub record FlagsRefuse : Type 0 where
-  -- a change refuses as closed does, then with 20 and 21; where it is refused, the flag that it gives is all 0
+  -- a change refuses as closed does, then with 20 and 21; where it is refused, all numbers beside its answer are 0
   pub change-refuses : Says change.Post
       (λ a r x. FirstBroken (changeRules limits (lent a) (flag a) (asked a)) (r .answer .no)
-      × (r .answer .no ≢ 0 → r .flag ≡ replicate (limits .ranks) 0))
+      × (r .answer .no ≢ 0 → (r .flag ≡ replicate (limits .ranks) 0) × (r .taken ≡ 0) × (r .put ≡ 0)))
   -- a search refuses as closed does, then with 20, 21 and 22; nothing is then written, but the first flags at 22
   pub search-searches : SearchSays (Promised limits)
   -- a change or a search that is answered carries nothing but 0s beside what it found
@@ -100,6 +101,19 @@ pub record FlagsAnswer : Type 0 where
   -- a change puts in the other of exactly two elements: the only flag that differs there; the same change leads back
   pub change-by-the-book : Says change.Post (λ a r x. r .answer .no ≡ 0
       → Changes (lent a) (flag a) (asked a) × (r .flag ≡ padded (changeAt (lent a) (asked a) (flag a))))
+  -- it says what it took out and what it put in: the flag's index and the new flag's at its rank, the two elements
+  -- between those next to it, which differ; no third lies between
+  pub change-replaces : Says change.Post (λ a r x. r .answer .no ≡ 0
+      → Replaces (lent a) (flag a) (asked a) (r .flag) (r .taken) (r .put))
+  -- right under the top they are, of all elements of the rank, the two that have the flag's element below directly
+  -- under them; so of cells in a coast of rank 5: across a face of a cell lies exactly one other cell, and this is it
+  pub change-across : Says change.Post (λ a r x. r .answer .no ≡ 0 → rank (lent a) ≡ asked a + 1
+      → TheTwo (HasUnder (lent a) (asked a) (getD (flag a) (asked a - 1) 0)) (r .taken) (r .put))
+  -- the change back is answered too; it gives the old flag, and exchanges the two
+  pub change-back : SaysOfTwo change.Post change.Post
+      (λ a r x c s y. lent c ≡ lent a → flag c ≡ take (rank (lent a) + 1) (r .flag) → asked c ≡ asked a
+      → r .answer .no ≡ 0
+      → s ≡ record { answer = fine; flag = padded (flag a); taken = r .put; put = r .taken })
   -- a search finds all flags that changes lead to, each once and in the order found, counts them, two-colours them
   -- where that can be done, and where not says the place of the event
   pub search-by-the-book : SearchSays (λ L f mask t b r t′ b′. r .answer .no ≡ 0

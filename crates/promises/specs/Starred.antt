@@ -6,6 +6,7 @@
 -- threePyramid  the duopyramid of three vertices under a top with a point: an edge with three vertices
 -- twoTriangles  the duocomb of the dyad with the triangle: two triangles under one top
 -- prism         the duoprism of the dyad with the triangle, in this order
+-- cube          the duoprism of the dyad with the square
 -- twiceListed   an edge whose only vertex stands twice among its subs
 -- twicePyramid  the duopyramid of that with a point
 -- leakingBox    the insurer's cell: a box whose edge 0 is doubled as edge 12, each of the two in one face
@@ -23,7 +24,7 @@
 --               checking it answers
 -- unread        a text without any room; what reading it answers
 -- bodied        a listing, and room for so many flags; what the test for one body answers
--- to            a change that is answered with a flag
+-- to            a change that is answered with a flag, and with what it took out and put in
 -- answered      the row with the answers that computing gives
 -- tried         the rows; beside each name of a refusal stands its number
 use mathlib.Core.Bool.{Bool, true, false}
@@ -34,8 +35,8 @@ use Prim.Native.String.{String, [] as none, _∷_ as _then_}
 use lib.ListN.{length}
 use Rattle.listing.specs.declared.Answer.{Answer}
 use Rattle.listing.specs.Refusals.{noRanks, overRanks, overElements, notBounded, subNotBack, subMissing, thirdBetween}
-use Rattle.listing.specs.Refusals.{loneBetween, notAscending, moreFlags, severalParts, combOfPoint, outputShort}
-use Rattle.listing.specs.Refusals.{wrongKey, badLine, moreBytes}
+use Rattle.listing.specs.Refusals.{loneBetween, notAscending, notAFlag, outsideRanks, moreFlags, severalParts}
+use Rattle.listing.specs.Refusals.{combOfPoint, outputShort, wrongKey, badLine, moreBytes}
 use Rattle.listing.specs.Answers.{refusal, plain, fine}
 use Rattle.listing.specs.Listing.{Listing, listing, limits}
 use Rattle.listing.specs.Cells.{nullitope, point, dyad, triangle, rankless, twoMinimal, threeOnTop, oneOnTop, struck}
@@ -46,7 +47,7 @@ use Rattle.text_theory.specs.Said.{listingIn}
 use Rattle.text.specs.Texts.{readTest, checkTest}
 use Rattle.flag_change.specs.Change.{padded}
 use Rattle.flag.specs.declared.Changed.{Changed}
-use Rattle.flag.specs.Changed.{changedOf}
+use Rattle.flag.specs.Changed.{refusedAs, changedOf}
 use Rattle.body.specs.Body.{bodyTest}
 
 abbrev pub square : Listing
@@ -94,6 +95,9 @@ prism =
     5 ∷ 8 ∷ 0 ∷ 1 ∷ 0 ∷ 2 ∷ 0 ∷ 2 ∷ 0 ∷ 3 ∷ 1 ∷ 2 ∷ 0 ∷ 4 ∷ 3 ∷ 4 ∷ 1 ∷ 2 ∷ 3 ∷ 5 ∷ 1 ∷ 3 ∷ 4 ∷ 5 ∷ 1 ∷ 4 ∷ 0 ∷ 3 ∷ 2
     ∷ 3 ∷ 1 ∷ 4 ∷ 2 ∷ 4 ∷ 2 ∷ 5 ∷ 3 ∷ 4 ∷ 0 ∷ 1 ∷ 2 ∷ 0 ∷ 3 ∷ 4 ∷ 5 ∷ 0 ∷ 0 ∷ 3 ∷ 6 ∷ 7 ∷ 0 ∷ 1 ∷ 4 ∷ 6 ∷ 8 ∷ 0 ∷ 2 ∷
     5 ∷ 7 ∷ 8 ∷ 0 ∷ 0 ∷ 1 ∷ 2 ∷ 3 ∷ 4 ∷ [])
+
+abbrev pub cube : Listing
+cube = resultOf true false dyad square
 
 abbrev pub twiceListed : Listing
 twiceListed =
@@ -163,8 +167,8 @@ answered (unread t a) = unread t (readTest limits t 0 0 0)
 answered (changed L f r c) = changed L f r (changedOf limits L f r)
 answered (bodied L n a) = bodied L n (bodyTest limits L n)
 
-abbrev pub to : List ℕ → Changed
-to f = record { answer = fine; flag = padded f }
+abbrev pub to : List ℕ → ℕ → ℕ → Changed
+to f taken put = record { answer = fine; flag = padded f; taken = taken; put = put }
 
 abbrev pub tried : List Trial
 tried =
@@ -213,8 +217,14 @@ tried =
     -- moreBytes is 43, outputShort is 36
     unread (quoted "rank=0\ncount=1\nsubs=\n\n") (plain moreBytes) ∷
     unread (quoted "rank=0\ncount=1\nsubs=\n") (plain outputShort) ∷
-    changed triangle (0 ∷ 0 ∷ 0 ∷ 0 ∷ []) 1 (to (0 ∷ 1 ∷ 0 ∷ 0 ∷ [])) ∷
-    changed triangle (0 ∷ 0 ∷ 0 ∷ 0 ∷ []) 2 (to (0 ∷ 0 ∷ 1 ∷ 0 ∷ [])) ∷
+    changed triangle (0 ∷ 0 ∷ 0 ∷ 0 ∷ []) 1 (to (0 ∷ 1 ∷ 0 ∷ 0 ∷ []) 0 1) ∷
+    changed triangle (0 ∷ 1 ∷ 0 ∷ 0 ∷ []) 1 (to (0 ∷ 0 ∷ 0 ∷ 0 ∷ []) 1 0) ∷
+    changed triangle (0 ∷ 0 ∷ 0 ∷ 0 ∷ []) 2 (to (0 ∷ 0 ∷ 1 ∷ 0 ∷ []) 0 1) ∷
+    changed cube (0 ∷ 0 ∷ 0 ∷ 0 ∷ 0 ∷ []) 3 (to (0 ∷ 0 ∷ 0 ∷ 2 ∷ 0 ∷ []) 0 2) ∷
+    -- outsideRanks is 21, notAFlag is 20
+    changed triangle (0 ∷ 0 ∷ 0 ∷ 0 ∷ []) 0 (refusedAs (plain outsideRanks)) ∷
+    changed triangle (0 ∷ 0 ∷ 0 ∷ 0 ∷ []) 3 (refusedAs (plain outsideRanks)) ∷
+    changed triangle (0 ∷ 0 ∷ 0 ∷ []) 1 (refusedAs (plain notAFlag)) ∷
     -- moreFlags is 22, severalParts is 25
     bodied nullitope 0 (plain moreFlags) ∷
     bodied nullitope 1 fine ∷

@@ -15,6 +15,8 @@ pub fn change(line: &[u8], counts: &[Index], ends: &[Index], inc: &[Index], flag
     let r = text::narrow(text::plain(line, 0));
     let c = flag::change(counts, ends, inc, flag, r);
     say::answer(c.answer);
+    say::number(c.taken as u64);
+    say::number(c.put as u64);
     let f = c.flag;
     say::list(&f);
 }

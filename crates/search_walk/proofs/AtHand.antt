@@ -10,7 +10,9 @@ use Rattle.order.specs.Lists.{over}
 use Rattle.order.proofs.Over.{over-length, over-first}
 use Rattle.listing.specs.Listing.{Listing, limits, rank, subs, sups}
 use Rattle.valid.specs.Closed.{Closed}
-use Rattle.flag_change.specs.Change.{common, other, between, changeAt, Flanked}
+use Rattle.flag_change.specs.declared.chain.Replaced.{Replaced}
+use Rattle.flag_change.specs.Change.{common, other, between, replacedAt, changeAt, Flanked}
+use Rattle.flag_change.proofs.Replaced.{taken-is}
 use Rattle.search_index.specs.Hash.{hashes, weight, hashOf}
 use Rattle.search_index.proofs.Hash.{old-inside, hash-changed}
 use Rattle.search_walk.specs.Ready.{AtHand}
@@ -25,8 +27,8 @@ module _ (w : ℕ) (row : List ℕ) (e : length row ≡ w) (h : w ≤ limits .ra
   pub array-first : take w (over row (replicate (limits .ranks) 0)) ≡ row
   array-first = over-first row (replicate (limits .ranks) 0) w e
 
-module _ {L : Listing} (C : Closed limits L) {flag : List ℕ} {sum : ℕ} (H : AtHand L flag sum) (r : ℕ) (p : 0 < r)
-    (q : r < rank L) where
+module _ {L : Listing} (C : Closed limits L) {flag : List ℕ} {sum : ℕ} (H : AtHand L flag sum) (r : ℕ) (h : 0 < r)
+    (k : r < rank L) where
   -- how many numbers the flag has, and the flag itself
   abbrev w : ℕ
   w = length (L .counts)
@@ -40,12 +42,12 @@ module _ {L : Listing} (C : Closed limits L) {flag : List ℕ} {sum : ℕ} (H : 
   f-long : length f ≡ w
   f-long = length-take-le w flag short
 
-  at-w : (k : ℕ) → k < w → getD f k 0 ≡ getD flag k 0
-  at-w k h = getD-take w flag k 0 h
+  at-w : (q : ℕ) → q < w → getD f q 0 ≡ getD flag q 0
+  at-w q l = getD-take w flag q 0 l
 
   pub hand-neighbours : Flanked L flag r
   hand-neighbours = record {
-    over-lowest = p;
+    over-lowest = h;
     under-highest = omega (arith, short);
     lower = rw (← at-w (r - 1) (omega arith)) (H .is-flag .exists (r - 1) (omega (arith, f-long)));
     upper = rw (← at-w (r + 1) (omega arith)) (H .is-flag .exists (r + 1) (omega (arith, f-long)));
@@ -57,24 +59,30 @@ module _ {L : Listing} (C : Closed limits L) {flag : List ℕ} {sum : ℕ} (H : 
       ap₂ common (ap (sups L (r - 1)) (sym (at-w (r - 1) (omega arith))))
       (ap (subs L (r + 1)) (sym (at-w (r + 1) (omega arith))))
 
-  -- the flag with the number that the change puts in
-  pub hand-changed : (x : ℕ) → x ≡ other (getD flag r 0) (between L r flag) → take w (set flag r x) ≡ changeAt L r f
-  unfolding changeAt
-  hand-changed x e =
-      let z : x ≡ other (getD f r 0) (between L r f) =
-      e ∙ ap₂ other (sym (at-w r (omega arith))) between-same in
-      take-set-lt w flag r x (omega arith) ∙ ap (set f r) z
+  -- what the change replaces
+  module _ {p : Replaced} (e : p ≡ replacedAt L r flag) where
+    hand-taken : p .taken ≡ getD flag r 0
+    hand-taken = ap (λ (x : Replaced). x .taken) e ∙ taken-is L flag r
 
-  module _ (x v : ℕ) (e : v ≡ weight r) where
-    pub hand-old : getD flag r 0 * v ≤ sum + x * v
-    hand-old =
-        rw (e, H .sum-is, ← at-w r (omega arith)) (old-inside f r x (omega (arith, f-long)))
+    -- the flag with what is put in
+    pub hand-changed : take w (set flag r (p .put)) ≡ changeAt L r f
+    unfolding changeAt replacedAt
+    hand-changed =
+        let z : p .put ≡ other (getD f r 0) (between L r f) =
+        ap (λ (x : Replaced). x .put) e ∙ ap₂ other (sym (at-w r (omega arith))) between-same in
+        take-set-lt w flag r (p .put) (omega arith) ∙ ap (set f r) z
 
-    pub hand-hash : (sum + x * v - getD flag r 0 * v) % hashes ≡ hashOf (take w (set flag r x))
-    hand-hash =
-        rw (e, H .sum-is, ← at-w r (omega arith))
-        (hash-changed f r x (omega (arith, f-long)) ∙ ap hashOf (sym (take-set-lt w flag r x (omega arith))))
+    module _ (v : ℕ) (d : v ≡ weight r) where
+      pub hand-old : p .taken * v ≤ sum + p .put * v
+      hand-old =
+          rw (d, H .sum-is, hand-taken, ← at-w r (omega arith)) (old-inside f r (p .put) (omega (arith, f-long)))
 
--- put back, the flag is as it was
-pub put-back : (l : List ℕ) (r x : ℕ) → set (set l r x) r (getD l r 0) ≡ l
-put-back l r x = set-set l r x (getD l r 0) ∙ set-getD l r 0
+      pub hand-hash : (sum + p .put * v - p .taken * v) % hashes ≡ hashOf (take w (set flag r (p .put)))
+      hand-hash =
+          rw (d, H .sum-is, hand-taken, ← at-w r (omega arith))
+          (hash-changed f r (p .put) (omega (arith, f-long))
+          ∙ ap hashOf (sym (take-set-lt w flag r (p .put) (omega arith))))
+
+    -- with what was taken out put back, the flag is as it was
+    pub hand-back : set (set flag r (p .put)) r (p .taken) ≡ flag
+    hand-back = rw hand-taken (set-set flag r (p .put) (getD flag r 0) ∙ set-getD flag r 0)

@@ -74,8 +74,7 @@ fn try_next(
 {
     let w = counts.len();
     let at = inner::wide(r);
-    let old = flag[at];
-    let new = chain::change_index(
+    let p = chain::replaced_at(
         counts,
         ends,
         inc,
@@ -84,10 +83,10 @@ fn try_next(
         places[at - 1],
         places[at + 1],
     );
-    let h = index::hash_changed(sum, weights[at], old, new);
-    flag[at] = new;
+    let h = index::hash_changed(sum, weights[at], p.taken, p.put);
+    flag[at] = p.put;
     let t = found::meet(table, bytes, heads, next, flag, w, h, byte, room, s);
-    flag[at] = old;
+    flag[at] = p.taken;
     t
 }
 

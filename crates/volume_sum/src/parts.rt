@@ -38,11 +38,12 @@ fn part_of(
     ensures { λ d. ⌜ d ≡ inFloats (now (coordinates .entry))
         (partFormula (held (counts .entry) (ends .entry) (inc .entry)) (now (flag .entry))) ⌝ }
 {
-    let other = chain::change_index(counts, ends, inc, flag, 1, 0, edges);
+    // The change at rank 1 takes out the vertex of the flag, and puts in the other one of its edge.
+    let p = chain::replaced_at(counts, ends, inc, flag, 1, 0, edges);
     let face = inner::wide(flag[3]);
     let a = point::point_of(coordinates, lowest[face]);
-    let b = point::point_of(coordinates, flag[1]);
-    let c = point::point_of(coordinates, other);
+    let b = point::point_of(coordinates, p.taken);
+    let c = point::point_of(coordinates, p.put);
     point::det(a, b, c)
 }
 

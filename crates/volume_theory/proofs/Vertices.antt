@@ -14,7 +14,7 @@ use Rattle.valid_incidence.specs.Incidence.{Incident}
 use Rattle.valid_diamond.specs.Dyadic.{LiesBetween, DiamondAt, DiamondUpTo}
 use Rattle.valid.specs.Closed.{Closed}
 use Rattle.flag_change.specs.Flags.{IsFlag}
-use Rattle.flag_change.specs.Change.{other, between, changeAt, Changes}
+use Rattle.flag_change.specs.Change.{between, replacedAt, changeAt, Changes}
 use Rattle.flag_change.proofs.Changes.{changes}
 use Rattle.flag_change.proofs.Replaced.{changed-apart}
 use Rattle.volume_theory.specs.Six.{cellRank, vertexAt, edgeAt, faceAt, otherVertex, OtherEnd}
@@ -27,7 +27,7 @@ kept L f r q d = getD-set-other f r q _ 0 d
 -- the other vertex goes by what stands at the ranks 0 to 2
 other-same : (L : Listing) (f g : List ℕ) → 1 < length f → 1 < length g → getD f 0 0 ≡ getD g 0 0
     → vertexAt f ≡ vertexAt g → edgeAt f ≡ edgeAt g → otherVertex L f ≡ otherVertex L g
-unfolding changeAt between
+unfolding changeAt replacedAt between
 other-same L f g h k a b c = rw (getD-set-same f 1 _ 0 h, getD-set-same g 1 _ 0 k, a, b, c)
 
 module _ {L : Listing} (C : Closed limits L) (R : rank L ≡ cellRank) where

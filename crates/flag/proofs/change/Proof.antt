@@ -1,11 +1,11 @@
 -- `change`: the refusal of check_change with a flag of 0s, or the changed flag.
 -- Assumes nothing.
-use mathlib.Core.Path.{refl, ap, _∙_}
-use Prim.Native.Nat.{ℕ}
+use mathlib.Core.Path.{ap, _∙_}
 use borrow.Author.Needs.{needs}
+use Rattle.listing.specs.Answers.{fine}
 use Rattle.listing.specs.Listing.{Listing, listing, limits}
 use Rattle.listing.proofs.Answers.{no-of}
-use Rattle.flag_change.specs.Change.{changeAt, padded}
+use Rattle.flag.specs.Changed.{changedAs}
 use Rattle.flag.proofs.ChangeAnswers.{change-exact, changed-none, changed-some}
 use Rattle.flag.proofs.change.Statement.{statement}
 use Rattle.flag.proofs.change.Tie as tie
@@ -21,7 +21,7 @@ check-change-requires : tie.Need-check-change-requires
 check-change-requires c κs = search needs
 
 returns : tie.Need-returns
-returns c = changed-none _ _ _ _ (c .before .before .check-change .ensures) (c .if1 .taken) refl
+returns c = changed-none _ _ _ _ (c .before .before .check-change .ensures) (c .if1 .taken)
 
 wide-requires : tie.Need-wide-requires
 wide-requires c κs = search needs
@@ -39,9 +39,9 @@ returns-2 c =
     let d = c .before .before in
     let s = begun d in
     let f = s .args .flag .now in
-    let new = ap (λ (k : ℕ). padded (changeAt (L s) k f)) (c .before .wide .ensures .0) in
-    changed-some limits (L s) f (s .args .r) (d .before .before .check-change .ensures) (d .if1 .left)
-    (c .changed-at .ensures ∙ new)
+    let z = no-of (d .before .before .check-change .ensures) (d .if1 .left) in
+    c .changed-at .ensures ∙ ap (changedAs fine (L s) f) (c .before .wide .ensures .0)
+    ∙ changed-some limits (L s) f (s .args .r) z
 
 pub change-spec : {M : Type 1} → statement M
 change-spec =

@@ -7,22 +7,22 @@ use native.Mathlib.Omega.{arith}
 use borrow.Author.Needs.{needs}
 use lib.ListN.{length, getD, length-set}
 use Rattle.listing.specs.Listing.{listing, limits}
-use Rattle.flag_change.specs.Change.{other, between}
+use Rattle.flag_change.specs.Change.{replacedAt}
 use Rattle.search_index.specs.Hash.{weight}
 use Rattle.search_index.proofs.Hash.{weights-small}
-use Rattle.search_walk.proofs.AtHand.{hand-neighbours, hand-changed, hand-old, hand-hash, put-back}
+use Rattle.search_walk.proofs.AtHand.{hand-neighbours, hand-changed, hand-old, hand-hash, hand-back}
 use Rattle.search_walk.proofs.walk.try_next.Statement.{statement}
 use Rattle.search_walk.proofs.walk.try_next.Tie as tie
 
--- ---- points of the code: where it began, where the rank was widened, where the other number was found
+-- ---- points of the code: where it began, where the rank was widened, where it is known what is replaced
 
 abbrev begun : tie.After-slice-known2 → tie.Start
 begun c = c .before .before .before .before .before
 
-abbrev widened : tie.After-change-index → tie.After-wide
-widened c = c .before .before .before .before .before .before
+abbrev widened : tie.After-replaced-at → tie.After-wide
+widened c = c .before .before .before .before .before
 
-abbrev changed : tie.After-meet-arg5 → tie.After-change-index
+abbrev changed : tie.After-meet-arg5 → tie.After-replaced-at
 changed c = c .before .before .before .before .before .before .before
 
 -- ---- what holds there
@@ -34,45 +34,38 @@ few s = s .pre .0 .closed .shaped .few-ranks
 weighs : (s : tie.Start) → getD (s .args .weights .now) (s .args .r) 0 ≡ weight (s .args .r)
 weighs s = s .pre .0 .weighs .each (s .args .r) (omega (arith, few s, s .pre .1 .1 .0 .1))
 
--- the number that the change puts in
-put-in : (c : tie.After-change-index) → let s = begun (c .before .before .before .before .before .before .before) in
+-- what the change replaces
+replaced : (c : tie.After-replaced-at) → let s = begun (widened c .before) in
     let L = listing (s .args .counts .now) (s .args .ends .now) (s .args .inc .now) in
-    c .change-index .result
-    ≡ other (getD (s .args .flag .now) (s .args .r) 0) (between L (s .args .r) (s .args .flag .now))
-put-in c = rw (c .before .before .before .before .before .before .wide .ensures .0) at (c .change-index .ensures)
+    c .replaced-at .result ≡ replacedAt L (s .args .r) (s .args .flag .now)
+replaced c = rw (widened c .wide .ensures .0) at (c .replaced-at .ensures)
 
 -- ---- the needs
 
 wide-requires : tie.Need-wide-requires
 wide-requires c κs = search needs
 
-mul-old : tie.Need-mul-old
-mul-old c = search needs
+sub-replaced-at : tie.Need-sub-replaced-at
+sub-replaced-at c = search needs
 
-element-copy-out-old : tie.Need-element-copy-out-old
-element-copy-out-old c = search needs
+mul-replaced-at : tie.Need-mul-replaced-at
+mul-replaced-at c = search needs
 
-sub-change-index : tie.Need-sub-change-index
-sub-change-index c = search needs
+element-copy-out-replaced-at : tie.Need-element-copy-out-replaced-at
+element-copy-out-replaced-at c = search needs
 
-mul-change-index : tie.Need-mul-change-index
-mul-change-index c = search needs
+add-replaced-at : tie.Need-add-replaced-at
+add-replaced-at c = search needs
 
-element-copy-out-change-index : tie.Need-element-copy-out-change-index
-element-copy-out-change-index c = search needs
+mul-replaced-at-2 : tie.Need-mul-replaced-at-2
+mul-replaced-at-2 c = search needs
 
-add-change-index : tie.Need-add-change-index
-add-change-index c = search needs
+element-copy-out-replaced-at-2 : tie.Need-element-copy-out-replaced-at-2
+element-copy-out-replaced-at-2 c = search needs
 
-mul-change-index-2 : tie.Need-mul-change-index-2
-mul-change-index-2 c = search needs
-
-element-copy-out-change-index-2 : tie.Need-element-copy-out-change-index-2
-element-copy-out-change-index-2 c = search needs
-
-change-index-requires : tie.Need-change-index-requires
-change-index-requires c κs =
-    let e = c .before .before .before .before .before in
+replaced-at-requires : tie.Need-replaced-at-requires
+replaced-at-requires c κs =
+    let e = c .before .before .before .before in
     let s = begun (e .before) in
     let R = s .pre .0 in
     let q = s .pre .1 .1 .0 in
@@ -102,7 +95,7 @@ hash-changed-requires c κs =
     rw (e .wide .ensures .0) (
       omega (arith, s .pre .1 .0 .small, few s),
       weights-small (s .args .weights .now) (R .weighs) (s .args .r) (omega (arith, few s)),
-      hand-old (R .closed) (s .pre .1 .0) (s .args .r) (q .0) (q .1) _ _ (weighs s),
+      hand-old (R .closed) (s .pre .1 .0) (s .args .r) (q .0) (q .1) (replaced (c .before)) _ (weighs s),
     )
 
 mul-flag : tie.Need-mul-flag
@@ -122,7 +115,7 @@ meet-requires c κs =
         few s,
         length-set (s .args .flag .now) _ _ ∙ s .pre .1 .0 .long,
         (rw z at (c .before .before .before .before .before .hash-changed .ensures))
-            ∙ hand-hash (s .pre .0 .closed) (s .pre .1 .0) (s .args .r) (q .0) (q .1) _ _ (weighs s),
+            ∙ hand-hash (s .pre .0 .closed) (s .pre .1 .0) (s .args .r) (q .0) (q .1) (replaced d) _ (weighs s),
       ),
       (s .pre .1 .1 .1 .0, s .pre .1 .1 .1 .1),
     )
@@ -144,27 +137,25 @@ same-length-2 c = search needs
 returns : tie.Need-returns
 returns c =
     let d = changed (c .before .before .before .before .before) in
+    let z = widened d .wide .ensures .0 in
     let s = begun (widened d .before) in
-    let q = s .pre .1 .1 .0 in (
-      put-back (s .args .flag .now) _ _,
-      rw (hand-changed (s .pre .0 .closed) (s .pre .1 .0) (s .args .r) (q .0) (q .1) (d .change-index .result)
-          (put-in d)) at (rw (widened d .wide .ensures .0) at (c .before .before .before .before .meet .ensures)),
-    )
+    let q = s .pre .1 .1 .0 in
+    let back = hand-back (s .pre .0 .closed) (s .pre .1 .0) (s .args .r) (q .0) (q .1) (replaced d) in
+    let new = hand-changed (s .pre .0 .closed) (s .pre .1 .0) (s .args .r) (q .0) (q .1) (replaced d) in
+    (rw z back, rw new at (rw z at (c .before .before .before .before .meet .ensures)))
 
 pub try-next-spec : {M : Type 1} → statement M
 try-next-spec =
     tie.close
     (tie.spec
     wide-requires
-    mul-old
-    element-copy-out-old
-    sub-change-index
-    mul-change-index
-    element-copy-out-change-index
-    add-change-index
-    mul-change-index-2
-    element-copy-out-change-index-2
-    change-index-requires
+    sub-replaced-at
+    mul-replaced-at
+    element-copy-out-replaced-at
+    add-replaced-at
+    mul-replaced-at-2
+    element-copy-out-replaced-at-2
+    replaced-at-requires
     mul-hash-changed
     element-copy-out-hash-changed
     hash-changed-requires

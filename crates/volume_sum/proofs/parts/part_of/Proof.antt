@@ -6,13 +6,12 @@ use Prim.Native.Nat.{ℕ, _+_, _*_, _<_}
 use native.Mathlib.Omega.{arith}
 use borrow.Author.Needs.{needs}
 use lib.ListN.{length, getD}
-use lib.Seq.{getD-set-same}
 use Rattle.listing.specs.Listing.{Listing, listing, count}
 use Rattle.listing.proofs.Listing.{before-zero}
 use Rattle.listing.proofs.Places.{few-in-rank}
 use Rattle.flag_change.specs.Flags.{IsFlag}
-use Rattle.flag_change.specs.Change.{changeAt}
-use Rattle.flag_change.proofs.Replaced.{flag-flanked}
+use Rattle.flag_change.specs.declared.chain.Replaced.{Replaced}
+use Rattle.flag_change.proofs.Replaced.{taken-is, put-is, flag-flanked}
 use Rattle.volume_metres.specs.Points.{pointOf}
 use Rattle.volume_metres.specs.Formulas.{detIn}
 use Rattle.volume_metres.proofs.Rounding.{det-in}
@@ -37,7 +36,7 @@ three s h = omega (arith, s .pre .1 .1 .0)
 
 -- ---- points of the code: where it began, seen from where the vertices are found
 
-abbrev begun : tie.After-change-index → tie.Start
+abbrev begun : tie.After-replaced-at → tie.Start
 begun c = c .before .before .before .before .before .before
 
 abbrev faced : tie.After-point-of-arg → tie.After-wide
@@ -45,12 +44,15 @@ faced c = c .before
 
 -- ---- what holds there
 
--- the other vertex
-other-is : (c : tie.After-change-index) → c .change-index .result ≡ otherVertex (L (begun c)) (flag (begun c))
-unfolding changeAt
+-- the vertex of the flag, and the other one of its edge
+vertex-is : (c : tie.After-replaced-at) → c .replaced-at .result .taken ≡ vertexAt (flag (begun c))
+vertex-is c = ap (λ (p : Replaced). p .taken) (c .replaced-at .ensures) ∙ taken-is (L (begun c)) (flag (begun c)) 1
+
+other-is : (c : tie.After-replaced-at) → c .replaced-at .result .put ≡ otherVertex (L (begun c)) (flag (begun c))
 other-is c =
     let s = begun c in
-    c .change-index .ensures ∙ sym (getD-set-same (flag s) 1 _ 0 (omega (arith, is-flag s .one-each, s .pre .1 .0)))
+    ap (λ (p : Replaced). p .put) (c .replaced-at .ensures)
+    ∙ put-is (L s) (flag s) 1 (omega (arith, is-flag s .one-each, s .pre .1 .0))
 
 -- the face
 face-is : (c : tie.After-wide) → c .wide .result ≡ faceAt (flag (begun (c .before .before)))
@@ -63,8 +65,8 @@ lowest-is c =
     let s = begun (c .before .before) in
     rw (face-is c) (s .pre .1 .1 .1 .0 (faceAt (flag s)) (face-there (s .pre .0) (s .pre .1 .0) (is-flag s)))
 
-change-index-requires : tie.Need-change-index-requires
-change-index-requires c κs =
+replaced-at-requires : tie.Need-replaced-at-requires
+replaced-at-requires c κs =
     let s = c .before .before .before .before .before in
     let i = inner (s .pre .0) (s .pre .1 .0) 1 (omega arith) (omega arith) in (
       s .pre .0 .shaped,
@@ -97,17 +99,15 @@ point-of-requires c κs =
     let h = face-there (s .pre .0) (s .pre .1 .0) (is-flag s) in
     three s (rw (lowest-is (faced c)) (lowest-there (L s) (s .pre .0 .incident) (faceAt (flag s)) h))
 
-shared-slice-read-point-of : tie.Need-shared-slice-read-point-of
-shared-slice-read-point-of c = search needs
-
 point-of-requires-2 : tie.Need-point-of-requires-2
 point-of-requires-2 c κs =
-    let s = begun (faced (c .before .before) .before .before) in
-    three s (vertex-there (s .pre .0) (s .pre .1 .0) (is-flag s))
+    let d = faced (c .before) .before .before in
+    let s = begun d in
+    omega (arith, vertex-is d, three s (vertex-there (s .pre .0) (s .pre .1 .0) (is-flag s)))
 
 point-of-requires-3 : tie.Need-point-of-requires-3
 point-of-requires-3 c κs =
-    let d = faced (c .before .before .before) .before .before in
+    let d = faced (c .before .before) .before .before in
     let s = begun d in
     omega (arith, other-is d, three s (other-there (s .pre .0) (s .pre .1 .0) (is-flag s)))
 
@@ -116,12 +116,12 @@ det-requires c κs = search needs
 
 returns : tie.Need-returns
 returns c =
-    let f = faced (c .before .before .before .before .before) in
+    let f = faced (c .before .before .before .before) in
     let d = f .before .before in
     let s = begun d in
     let xs = s .args .coordinates .now in
-    let low = c .before .before .before .before .point-of .ensures ∙ ap (pointOf xs) (lowest-is f) in
-    let here = c .before .before .point-of2 .ensures in
+    let low = c .before .before .before .point-of .ensures ∙ ap (pointOf xs) (lowest-is f) in
+    let here = c .before .before .point-of2 .ensures ∙ ap (pointOf xs) (vertex-is d) in
     let beyond = c .before .point-of3 .ensures ∙ ap (pointOf xs) (other-is d) in
     c .det .ensures ∙ (λ i. detIn (low i) (here i) (beyond i))
     ∙ det-in xs (lowestOf (L s) (faceAt (flag s))) (vertexAt (flag s)) (otherVertex (L s) (flag s))
@@ -130,13 +130,12 @@ pub part-of-spec : {M : Type 1} → statement M
 part-of-spec =
     tie.close
     (tie.spec
-    change-index-requires
+    replaced-at-requires
     shared-slice-read-wide
     wide-requires
     mul-point-of
     element-copy-out-point-of
     point-of-requires
-    shared-slice-read-point-of
     point-of-requires-2
     point-of-requires-3
     det-requires

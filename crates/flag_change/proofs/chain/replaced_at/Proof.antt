@@ -1,15 +1,17 @@
--- `change_index`: the two lists are the sups of the lower neighbour and the subs of the upper one, and both ascend.
+-- `replaced_at`: the two lists are the sups of the lower neighbour and the subs of the upper one, and both ascend.
 -- Assumes nothing.
-use mathlib.Core.Path.{_∙_}
+use mathlib.Core.Path.{_≡_, _∙_}
+use Prim.Native.Nat.{_+_, _-_}
 use native.Mathlib.Omega.{arith}
 use borrow.Author.Needs.{needs}
-use Rattle.listing.specs.Listing.{Listing, listing}
+use lib.ListN.{getD}
+use Rattle.listing.specs.Listing.{Listing, listing, subs, sups}
 use Rattle.listing.proofs.ShapeExact.{shaped-ends}
 use Rattle.listing.proofs.Places.{side-fits, side-at}
 use Rattle.valid.specs.Ascent.{Ascends}
-use Rattle.flag_change.specs.Change.{between, Flanked}
-use Rattle.flag_change.proofs.chain.change_index.Statement.{statement}
-use Rattle.flag_change.proofs.chain.change_index.Tie as tie
+use Rattle.flag_change.specs.Change.{between, replacedAt, Flanked}
+use Rattle.flag_change.proofs.chain.replaced_at.Statement.{statement}
+use Rattle.flag_change.proofs.chain.replaced_at.Tie as tie
 
 abbrev L : tie.Start → Listing
 L s = listing (s .args .counts .now) (s .args .ends .now) (s .args .inc .now)
@@ -20,6 +22,18 @@ near s = s .pre .1 .1 .1
 -- where the function began, seen from the sups of the lower element
 abbrev begun : tie.After-side-of → tie.Start
 begun c = c .before .before .before .before .before .before
+
+-- ---- the two lists
+
+below-is : (c : tie.After-side-of) → let s = begun c in
+    c .side-of .result .now ≡ sups (L s) (s .args .r - 1) (getD (s .args .flag .now) (s .args .r - 1) 0)
+below-is c = c .side-of .ensures ∙ side-at (L (begun c)) _ _ _ _ (begun c .pre .1 .1 .0 .0)
+
+above-is : (c : tie.After-side-of2) → let s = begun (c .before .before) in
+    c .side-of2 .result .now ≡ subs (L s) (s .args .r + 1) (getD (s .args .flag .now) (s .args .r + 1) 0)
+above-is c =
+    let s = begun (c .before .before) in
+    c .side-of2 .ensures ∙ side-at (L s) _ _ _ _ (s .pre .1 .1 .0 .1)
 
 sub-side-of : tie.Need-sub-side-of
 sub-side-of c = search needs
@@ -53,34 +67,32 @@ side-of-requires-2 c κs =
       rw (s .pre .1 .1 .0 .1) (side-fits (L s) (s .pre .0) _ _ 0 (near s .upper) (omega arith)),
     )
 
-mul-other-between : tie.Need-mul-other-between
-mul-other-between c = search needs
+mul-taken : tie.Need-mul-taken
+mul-taken c = search needs
 
-shared-slice-read-other-between : tie.Need-shared-slice-read-other-between
-shared-slice-read-other-between c = search needs
+shared-slice-read-taken : tie.Need-shared-slice-read-taken
+shared-slice-read-taken c = search needs
 
 other-between-requires : tie.Need-other-between-requires
 unfolding Ascends
 other-between-requires c κs =
     let d = c .before .before .before in
-    let s = begun d in
-    let l = d .side-of .ensures ∙ side-at (L s) _ _ _ _ (s .pre .1 .1 .0 .0) in
-    let h = c .before .side-of2 .ensures ∙ side-at (L s) _ _ _ _ (s .pre .1 .1 .0 .1) in (
-      rw l (s .pre .1 .0 _ _ (near s .lower) 1 (omega arith)),
-      rw h (s .pre .1 .0 _ _ (near s .upper) 0 (omega arith)),
+    let s = begun d in (
+      rw (below-is d) (s .pre .1 .0 _ _ (near s .lower) 1 (omega arith)),
+      rw (above-is (c .before)) (s .pre .1 .0 _ _ (near s .upper) 0 (omega arith)),
     )
 
 returns : tie.Need-returns
-unfolding between
+unfolding replacedAt between
 returns c =
     let d = c .before .before .before .before in
     let s = begun d in
-    let l = d .side-of .ensures ∙ side-at (L s) _ _ _ _ (s .pre .1 .1 .0 .0) in
-    let h = c .before .before .side-of2 .ensures ∙ side-at (L s) _ _ _ _ (s .pre .1 .1 .0 .1) in
-    rw (← l, ← h) (c .other-between .ensures)
+    let e = getD (s .args .flag .now) (s .args .r) 0 in
+    let put = rw (below-is d, above-is (c .before .before)) at (c .other-between .ensures) in
+    λ i. record { taken = e; put = put i }
 
-pub change-index-spec : {M : Type 1} → statement M
-change-index-spec =
+pub replaced-at-spec : {M : Type 1} → statement M
+replaced-at-spec =
     tie.close
     (tie.spec
     sub-side-of
@@ -91,7 +103,7 @@ change-index-spec =
     mul-side-of-2
     shared-slice-read-side-of-2
     side-of-requires-2
-    mul-other-between
-    shared-slice-read-other-between
+    mul-taken
+    shared-slice-read-taken
     other-between-requires
     returns)

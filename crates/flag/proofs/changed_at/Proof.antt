@@ -1,15 +1,17 @@
--- `changed_at`: the flag as a record, with the number that change_index gives at rank r.
+-- `changed_at`: the flag as a record, with the number at rank r that is put in.
 -- Assumes nothing.
 use native.Mathlib.Omega.{arith}
 use borrow.Author.Needs.{needs}
+use Rattle.listing.specs.Answers.{fine}
 use Rattle.listing.specs.Listing.{Listing, listing, limits}
 use Rattle.valid.specs.Closed.{Closed}
 use Rattle.flag_change.specs.Flags.{IsFlag}
-use Rattle.flag_change.specs.Change.{changeAt}
+use Rattle.flag_change.specs.Change.{replacedAt, changeAt}
 use Rattle.flag_change.proofs.Padding.{padded-set}
 use Rattle.flag_change.proofs.Replaced.{flag-flanked}
-use Rattle.flag_change.proofs.chain.changed_at.Statement.{statement}
-use Rattle.flag_change.proofs.chain.changed_at.Tie as tie
+use Rattle.flag.specs.Changed.{changedAs}
+use Rattle.flag.proofs.changed_at.Statement.{statement}
+use Rattle.flag.proofs.changed_at.Tie as tie
 
 abbrev L : tie.Start → Listing
 L s = listing (s .args .counts .now) (s .args .ends .now) (s .args .inc .now)
@@ -40,15 +42,18 @@ elements-before-requires-2 c κs =
     let s = c .before .before .before .before .before in
     omega (arith, cell s .shaped)
 
-change-index-requires : tie.Need-change-index-requires
-change-index-requires c κs =
+replaced-at-requires : tie.Need-replaced-at-requires
+replaced-at-requires c κs =
     let s = begun c in
     let n = flag-flanked (L s) _ _ (s .pre .1 .1 .0) (s .pre .1 .1 .1) (chain s) in
     (cell s .shaped, (cell s .ascends, ((c .before .elements-before .ensures, c .elements-before2 .ensures), n)))
 
+plain-requires : tie.Need-plain-requires
+plain-requires c κs = search needs
+
 pad-requires : tie.Need-pad-requires
 pad-requires c κs =
-    let s = begun (c .before) in
+    let s = begun (c .before .before) in
     omega (arith, cell s .shaped, chain s .one-each)
 
 mul-new : tie.Need-mul-new
@@ -58,11 +63,15 @@ array-write-new : tie.Need-array-write-new
 array-write-new c = search needs
 
 returns : tie.Need-returns
-unfolding changeAt
+unfolding changedAs changeAt
 returns c =
-    let s = begun (c .before .before) in
-    rw (c .pad .ensures, c .before .change-index .ensures)
-    (padded-set (s .args .flag .now) _ _ (omega (arith, chain s .one-each)))
+    let d = c .before .before in
+    let s = begun (d .before) in
+    let f = s .args .flag .now in
+    let p = replacedAt (L s) (s .args .r) f in
+    let new = padded-set f (s .args .r) (p .put) (omega (arith, chain s .one-each)) in
+    rw (c .pad .ensures, c .before .plain .ensures, d .replaced-at .ensures)
+    (λ i. record { answer = fine; flag = new i; taken = p .taken; put = p .put })
 
 pub changed-at-spec : {M : Type 1} → statement M
 changed-at-spec =
@@ -72,7 +81,8 @@ changed-at-spec =
     elements-before-requires
     add-elements-before
     elements-before-requires-2
-    change-index-requires
+    replaced-at-requires
+    plain-requires
     pad-requires
     mul-new
     array-write-new
