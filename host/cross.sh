@@ -57,8 +57,9 @@ test) cargo test --release "$@" ;;
 examples)
     cargo run --release --example prism
     cargo run --release --example volume
+    cargo run --release --example round
     printf 'rank=1\ncount=1\nsubs=\ncount=1\nsubs=0\n' | cargo run --release --example check
-    for example in cell text body volume; do
+    for example in cell text body volume round; do
         "$CC" -std=c99 -Wall -Wextra -pedantic -Werror -I../include flumedrac/examples/$example.c \
             "${FLUMEDRAC_LIB:-../target/staticlib}/libflumedrac.a" -o target/$target/$example
         $FLUMEDRAC_RUN target/$target/$example

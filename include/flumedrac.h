@@ -60,11 +60,14 @@
 extern "C" {
 #endif
 
-/* The release that this header belongs to. */
+/*
+ * The release that this header belongs to, and its archive. In 0.2.0 fd_changed became longer, by taken and put: a
+ * program that calls fd_change and was compiled with an earlier header must be compiled anew.
+ */
 #define FD_VERSION_MAJOR 0
-#define FD_VERSION_MINOR 1
+#define FD_VERSION_MINOR 2
 #define FD_VERSION_PATCH 0
-#define FD_VERSION "0.1.0"
+#define FD_VERSION "0.2.0"
 
 /* The limits. */
 #define FD_MAX_RANKS 16         /* numbers in counts: ranks 0 to 15 */
@@ -155,10 +158,14 @@ typedef struct {
     size_t value;
 } fd_number;
 
-/* The new flag, one index for each rank, then 0s; all 0 on a refusal. */
+/*
+ * flag: the new flag, one index for each rank, then 0s. taken: the index that the change took out, which the old flag
+ * has at its rank. put: the index that it put in, which the new flag has there. All 0 on a refusal.
+ */
 typedef struct {
     fd_answer answer;
     uint16_t flag[FD_MAX_RANKS];
+    uint16_t taken, put;
 } fd_changed;
 
 /*
@@ -239,7 +246,14 @@ fd_answer fd_closed(FD_LISTING());
 /*
  * The flag with another element at rank r: of the two elements between flag[r - 1] and flag[r + 1] the other one.
  * A flag has one number for each rank: the index of an element that is there and is listed as a sub by the next.
- * Refusals: fd_closed's, then FD_NOT_A_FLAG, then FD_OUTSIDE_RANKS.
+ *
+ * taken and put are those two elements, and there is no third: taken is flag[r], put is what stands there in the new
+ * flag. They are never the same. The same change again, of the new flag, gives the flag begun with, and taken and put
+ * exchanged. In a listing of rank 5, whose elements of rank 4 are cells, the change at rank 4 leads across the flag's
+ * face: out of the cell taken and into the cell put, the only other one that has this face. The change at rank 3 stays
+ * in the cell and leads from one face to the other at the flag's edge.
+ *
+ * Refusals: fd_closed's, then FD_NOT_A_FLAG, then FD_OUTSIDE_RANKS. On a refusal taken and put are both 0.
  */
 fd_changed fd_change(FD_LISTING(), const uint16_t *flag, size_t flag_len, uint16_t r);
 

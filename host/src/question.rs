@@ -120,6 +120,11 @@ pub fn answer_numbers(answer: Answer) -> Vec<i64> {
     [no, a, b, c, d].map(i64::from).to_vec()
 }
 
+/// The numbers of a change, but for the flag: those of its answer, then what was taken out and what was put in.
+pub fn changed_numbers(answer: Answer, taken: u16, put: u16) -> Vec<i64> {
+    [answer_numbers(answer), [taken, put].map(i64::from).to_vec()].concat()
+}
+
 /// The numbers of a volume: a refusal's, and the six-fold volume. One that is -0.0 or not whole is told by a third, its
 /// bits, and has 0 in its place.
 pub fn volume_numbers(volume: Volume) -> Vec<i64> {
@@ -208,7 +213,8 @@ impl<L: AsRef<Raw>> Question<L> {
             Question::Test(test, cell) => Reply::of(answer_numbers(library.test(*test, cell.as_ref().slices()))),
             Question::Change { cell, flag, r } => {
                 let changed = library.change(cell.as_ref().slices(), flag, *r);
-                Reply { numbers: answer_numbers(changed.answer), slices: vec![changed.flag.to_vec()], spilled: false }
+                let numbers = changed_numbers(changed.answer, changed.taken, changed.put);
+                Reply { numbers, slices: vec![changed.flag.to_vec()], spilled: false }
             }
             Question::Search { cell, first, mask, table, orientations } => {
                 let cell = cell.as_ref().slices();

@@ -7,7 +7,7 @@ use mathlib.Core.List.{List, [], _∷_, _++_, map, List·Memᴰ, List·Memᴰ·h
 use mathlib.Core.List.{List·Memᴰ·eq-of-singleton, Memᴰ·append-left, Memᴰ·append-right, Memᴰ·map, Memᴰ·of-map, Memᴰ·cast}
 use Prim.Native.Nat.{ℕ, zero, suc, _+_, _≤_, _<_}
 use native.Mathlib.Nat.{eq-or-lt-of-le}
-use native.Mathlib.Numerals.{add-one, sub-one}
+use native.Mathlib.Numerals.{add-one}
 use native.Mathlib.Omega.{arith}
 use lib.ListN.{length, getD, take, length-append, length-map, List·getD-append}
 use lib.Seq.{take-all, take-suc, take-at, getD-at, getD-take, length-take-le}
@@ -15,6 +15,7 @@ use Rattle.order.specs.Lists.{In, Ascending}
 use Rattle.order.specs.Sums.{sumOver}
 use Rattle.listing.specs.Listing.{Listing, count, subs}
 use Rattle.valid_incidence.specs.Incidence.{Incident}
+use Rattle.valid_incidence.proofs.Below.{sub-there}
 use Rattle.valid.specs.Ascent.{Ascends}
 use Rattle.search_theory.specs.Search.{Once}
 use Rattle.search_theory.proofs.Once.{length-snoc, once-append, once-map}
@@ -173,8 +174,7 @@ module _ (L : Listing) where
   module _ (I : Incident L) where
     -- a sub exists
     sub-exists : (r i x : ℕ) → i < count L (suc r) → In x (subs L (suc r) i) → x < count L r
-    unfolding Incident
-    sub-exists r i x h m = rw sub-one at (I (suc r) i h .lower .each x m .1)
+    sub-exists r i x h m = sub-there L I (suc r) r i x (omega arith) h m
 
     -- The list of chains to an element has exactly the chains to it.
     pub chains-exact : (r i : ℕ) → i < count L r → (f : List ℕ) → List·Memᴰ f (chains L r i) ↔ ChainTo L r i f

@@ -18,7 +18,7 @@ use Rattle.order.proofs.Tests.{and-true, and-off}
 use Rattle.valid.specs.Closed.{Closed}
 use Rattle.flag_change.specs.Flags.{startTest, IsFlag}
 use Rattle.flag_change.proofs.StartExact.{start-exact}
-use Rattle.flag.specs.Changed.{changeTest, refusedAs, changedAs, changedOf}
+use Rattle.flag.specs.Changed.{changeTest, changedAs, unchangedAs, changedOf}
 
 module _ (m : Limits) (L : Listing) (f : List ℕ) (r : ℕ) where
   module _ {a b : Answer} (e : a ≡ startTest m L f) (z : a .no ≡ 0) where
@@ -66,13 +66,13 @@ module _ (m : Limits) (L : Listing) (f : List ℕ) (r : ℕ) where
   unfolding changedOf changedAs
   changed-answer = go (changeTest m L f r .no)
     where
-      go : (n : ℕ) → let a = changeTest m L f r in ifZero n (changedAs a L f r) (refusedAs a) .answer ≡ a
+      go : (n : ℕ) → let a = changeTest m L f r in ifZero n (changedAs a L f r) (unchangedAs a) .answer ≡ a
       go zero = refl
       go (suc n) = refl
 
-  pub changed-none : {a : Answer} → a ≡ changeTest m L f r → (a .no ≡ 0 → ⊥) → refusedAs a ≡ changedOf m L f r
+  pub changed-none : {a : Answer} → a ≡ changeTest m L f r → (a .no ≡ 0 → ⊥) → unchangedAs a ≡ changedOf m L f r
   unfolding changedOf
-  changed-none {a} e h = rw (← e) (sym (if-not (a .no) (changedAs a L f r) (refusedAs a) h))
+  changed-none {a} e h = rw (← e) (sym (if-not (a .no) (changedAs a L f r) (unchangedAs a) h))
 
   pub changed-some : changeTest m L f r .no ≡ 0 → changedAs fine L f r ≡ changedOf m L f r
   unfolding changedOf

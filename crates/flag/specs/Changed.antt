@@ -1,9 +1,9 @@
 -- What a change answers.
 --
 -- changeTest  the refusals of a change: those of startTest, then 21
--- refusedAs   the answer of a refusal: all numbers are 0
 -- changedAs   the answer of a change that is made: the new flag, and what was taken out and put in
--- changedOf   the answer: a refusal's, or that of the change
+-- unchangedAs the answer of a change that is refused: all numbers beside it are 0
+-- changedOf   the answer: that of the change, or a refusal's
 use mathlib.Core.Bool.{not, _&&_}
 use mathlib.Core.List.{List}
 use Prim.Native.Nat.{ℕ}
@@ -20,15 +20,15 @@ use Rattle.flag.specs.declared.Changed.{Changed}
 unfoldable pub changeTest : Limits → Listing → List ℕ → ℕ → Answer
 changeTest m L f r = startTest m L f orElse on (not (ltb 0 r && ltb r (rank L))) (plain outsideRanks)
 
-abbrev pub refusedAs : Answer → Changed
-refusedAs a = record { answer = a; flag = replicate (limits .ranks) 0; taken = 0; put = 0 }
-
 unfoldable pub changedAs : Answer → Listing → List ℕ → ℕ → Changed
 changedAs a L f r =
     let p = replacedAt L r f in
     record { answer = a; flag = padded (changeAt L r f); taken = p .taken; put = p .put }
 
+abbrev pub unchangedAs : Answer → Changed
+unchangedAs a = record { answer = a; flag = replicate (limits .ranks) 0; taken = 0; put = 0 }
+
 unfoldable pub changedOf : Limits → Listing → List ℕ → ℕ → Changed
 changedOf m L f r =
     let a = changeTest m L f r in
-    ifZero (a .no) (changedAs a L f r) (refusedAs a)
+    ifZero (a .no) (changedAs a L f r) (unchangedAs a)

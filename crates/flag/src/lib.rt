@@ -1,4 +1,5 @@
 // Flags: chains of elements from the lowest rank to the highest. Here are the change of a flag and its orientation.
+pub mod made;
 pub mod parity;
 
 use flag_change::chain;
@@ -8,16 +9,12 @@ use listing::inner;
 use listing::limit;
 use listing::refusal;
 ghost use mathlib.Core.Path.{_≡_};
-ghost use Prim.Native.Nat.{_<_};
-ghost use Rattle.listing.specs.Answers.{fine};
-ghost use Rattle.listing.specs.Listing.{held, limits, rank};
-ghost use Rattle.valid.specs.Closed.{Closed};
-ghost use Rattle.flag_change.specs.Flags.{IsFlag};
-ghost use Rattle.flag.specs.Changed.{changeTest, changedAs, changedOf};
+ghost use Rattle.listing.specs.Listing.{held, limits};
+ghost use Rattle.flag.specs.Changed.{changeTest, changedOf};
 ghost use Rattle.flag.specs.Orientations.{byteOf, ofByte, flipOf, signOf};
 
-// What a change answers: a refusal or 0, the new flag, 0 above the top, and what was replaced: the index that the change
-// took out, and the one that it put in.
+// What a change answers: a refusal or 0; the new flag, 0 above the top; and what was replaced, the index that the change
+// took out and the one that it put in.
 #[repr(C)]
 pub struct Changed {
     pub answer: Answer,
@@ -45,28 +42,6 @@ fn check_change(counts: &[Index], ends: &[Index], inc: &[Index], flag: &[Index],
     inner::plain(0)
 }
 
-// The change at rank r of a flag of a closed listing.
-fn changed_at(counts: &[Index], ends: &[Index], inc: &[Index], flag: &[Index], r: usize) -> Changed
-    requires { ⌜ Closed limits (held counts ends inc) ⌝ }
-    requires { ⌜ IsFlag (held counts ends inc) (now flag) ⌝ }
-    requires { ⌜ (0 < r) × (r < rank (held counts ends inc)) ⌝ }
-    ensures { λ a. ⌜ a ≡ changedAs fine (held (counts .entry) (ends .entry) (inc .entry))
-        (now (flag .entry)) r ⌝ }
-{
-    let low = inner::elements_before(counts, r - 1);
-    let high = inner::elements_before(counts, r + 1);
-    let p = chain::replaced_at(counts, ends, inc, flag, r, low, high);
-    let answer = inner::plain(0);
-    let mut new = chain::pad(flag);
-    new[r] = p.put;
-    Changed {
-        answer,
-        flag: new,
-        taken: p.taken,
-        put: p.put,
-    }
-}
-
 // The change of a flag at rank r: of the two elements between those at the ranks r - 1 and r + 1, the other one is put
 // in. The new flag has room for the most ranks, 0 above the top; on a refusal all numbers are 0.
 pub fn change(counts: &[Index], ends: &[Index], inc: &[Index], flag: &[Index], r: u16) -> Changed
@@ -83,7 +58,7 @@ pub fn change(counts: &[Index], ends: &[Index], inc: &[Index], flag: &[Index], r
             put: 0,
         };
     }
-    changed_at(counts, ends, inc, flag, inner::wide(r))
+    made::changed_at(counts, ends, inc, flag, inner::wide(r))
 }
 
 // The parity of a flag, which each change flips.

@@ -11,6 +11,7 @@ use Rattle.order.specs.Diamond.{TheTwo}
 use Rattle.order.proofs.Two.{TheTwo·same}
 use Rattle.listing.specs.Listing.{Listing, Limits, count, rank, subs}
 use Rattle.valid_incidence.specs.Incidence.{Incident}
+use Rattle.valid_incidence.proofs.Below.{sub-there}
 use Rattle.valid_diamond.specs.Dyadic.{LiesBetween}
 use Rattle.valid.specs.Closed.{Closed}
 use Rattle.flag_change.specs.Flags.{IsFlag}
@@ -21,7 +22,7 @@ module _ {m : Limits} {L : Listing} (C : Closed m L) (r : ℕ) (t : rank L ≡ r
   top-only : (i : ℕ) → i < count L (r + 1) → i ≡ 0
   top-only i h = let o = rw t at (C .bounded .one-maximal) in omega (arith, o)
 
-  -- it has every element of the rank below directly under it, and nothing else
+  -- it has every element of the rank below directly under it
   under-top : (x : ℕ) → x < count L r → In x (subs L (r + 1) 0)
   unfolding Incident
   under-top x h =
@@ -30,12 +31,11 @@ module _ {m : Limits} {L : Listing} (C : Closed m L) (r : ℕ) (t : rank L ≡ r
       let b = u .each (s .0) (s .1) in
       rw (top-only (s .0) (b .0)) at (b .1)
 
+  -- and nothing else
   there : (x : ℕ) → In x (subs L (r + 1) 0) → x < count L r
-  unfolding Incident
   there x i =
       let o = rw t at (C .bounded .one-maximal) in
-      let e : r + 1 - 1 ≡ r = omega arith in
-      rw e at (C .incident (r + 1) 0 (omega (arith, o)) .lower .each x i .1)
+      sub-there L (C .incident) (r + 1) r 0 x (omega arith) (omega (arith, o)) i
 
   pub across : {f g : List ℕ} {x y : ℕ} → IsFlag L f → Replaces L f r g x y
       → TheTwo (HasUnder L r (getD f (r - 1) 0)) x y

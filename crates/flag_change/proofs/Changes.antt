@@ -1,5 +1,5 @@
 -- The change of a flag of a closed listing: between the neighbours of each rank lie exactly two elements, the flag's
--- and one other, and the change puts that one in.
+-- and one other; the change takes the one out and puts the other in, and the change back exchanges them.
 -- Assumes nothing.
 use mathlib.Core.Path.{_≡_, refl, sym, ap, _∙_}
 use mathlib.Core.List.{List, [], _∷_}
@@ -16,12 +16,14 @@ use Rattle.order.proofs.Renumbering.{OneOther·same}
 use Rattle.order.proofs.Two.{TheTwo·of, TheTwo·same}
 use Rattle.listing.specs.Listing.{Listing, Limits, count, rank, subs}
 use Rattle.valid_incidence.specs.Incidence.{Incident}
+use Rattle.valid_incidence.proofs.Below.{sub-there}
 use Rattle.valid_diamond.specs.Dyadic.{LiesBetween, DiamondAt, DiamondUpTo}
 use Rattle.valid.specs.Closed.{Closed}
 use Rattle.flag_change.specs.Flags.{IsFlag}
 use Rattle.flag_change.specs.Change.{other, between, replacedAt, changeAt, Changes, Replaces}
 use Rattle.flag_change.proofs.Common.{common-in, other-same, other-found}
-use Rattle.flag_change.proofs.Replaced.{taken-is, put-is, changed-set, changed-is, changed-apart, between-set, set-flag}
+use Rattle.flag_change.proofs.Replaced.{taken-is, put-is}
+use Rattle.flag_change.proofs.Replaced.{changed-set, changed-is, changed-apart, between-set, set-flag}
 
 -- ---- the other of two
 
@@ -50,10 +52,7 @@ module _ {m : Limits} (L : Listing) (C : Closed m L) (r : ℕ) (p : 0 < r) (q : 
 
     -- an element under the upper neighbour exists
     mid-exists : (x : ℕ) → In x (subs L (r + 1) (getD f (r + 1) 0)) → x < count L r
-    unfolding Incident
-    mid-exists x h =
-        let e : r + 1 - 1 ≡ r = omega arith in
-        rw e at (C .incident (r + 1) (getD f (r + 1) 0) high-exists .lower .each x h .1)
+    mid-exists x h = sub-there L (C .incident) (r + 1) r _ x (omega arith) high-exists h
 
     -- the elements between the neighbours, as the diamond has them
     between-is : (x : ℕ) → In x (between L r f) ↔ LiesBetween L (r + 1) (getD f (r + 1) 0) (getD f (r - 1) 0) x

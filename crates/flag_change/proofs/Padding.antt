@@ -1,12 +1,12 @@
--- A flag in room for the most ranks: filled one number at a time, changed at a place, its length.
+-- A flag in room for the most ranks: filled one number at a time, changed at a place, its length, its numbers.
 -- Assumes nothing.
 use mathlib.Core.Path.{_≡_, sym, _∙_}
 use mathlib.Core.List.{List, _++_}
 use Prim.Native.Nat.{ℕ, suc, _+_, _-_, _≤_, _<_}
 use native.Mathlib.Numerals.{add-one}
 use native.Mathlib.Omega.{arith}
-use lib.ListN.{length, getD, take, set, replicate, length-append, length-replicate, length-set}
-use lib.Seq.{length-take-le, take-length, take-suc, append-snoc, set-at, set-append-left}
+use lib.ListN.{length, getD, take, set, replicate, length-append, length-replicate, length-set, List·getD-append}
+use lib.Seq.{length-take-le, take-length, take-at, take-suc, append-snoc, set-at, set-append-left}
 use Rattle.listing.specs.Listing.{limits}
 use Rattle.flag_change.specs.Change.{padded}
 
@@ -35,3 +35,11 @@ module _ (f : List ℕ) where
   pub padded-set : (r x : ℕ) → r < length f → set (padded f) r x ≡ padded (set f r x)
   unfolding padded
   padded-set r x h = rw (length-set f r x) (set-append-left f (replicate (limits .ranks - length f) 0) r x h)
+
+  pub padded-at : (r : ℕ) → r < length f → getD (padded f) r 0 ≡ getD f r 0
+  unfolding padded
+  padded-at r h = List·getD-append f (replicate (limits .ranks - length f) 0) 0 r h
+
+  pub padded-first : (n : ℕ) → length f ≡ n → take n (padded f) ≡ f
+  unfolding padded
+  padded-first n e = take-at f (replicate (limits .ranks - length f) 0) n e

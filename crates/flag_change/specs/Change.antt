@@ -10,9 +10,9 @@
 -- Changes     the flag's element at rank r is one of those between, and there is exactly one other; the change is a
 --             flag again, differs from it at rank r exactly, leads back when it is made again, and is the only flag
 --             that differs so
--- Replaces    t and p are what a change at rank r of the flag f to the flag g takes out and puts in: they are the two
---             elements between the flag's elements at the ranks r - 1 and r + 1
--- HasUnder    element x of rank r exists, and has b directly under it
+-- Replaces    x is the number of the flag f at rank r, y that of the flag g; they are the two elements between those of f
+--             at the ranks r - 1 and r + 1
+-- HasUnder    element i of rank r exists, and has x directly under it
 -- padded      a flag in room for the most ranks, 0 above the top
 use mathlib.Core.Path.{_≡_}
 use mathlib.Core.Bool.{cond}
@@ -59,13 +59,13 @@ pub record Changes (L : Listing) (f : List ℕ) (r : ℕ) : Type 0 where
   pub back : changeAt L r (changeAt L r f) ≡ f
   pub only : (g : List ℕ) → IsFlag L g → ChangedAt r f g → g ≡ changeAt L r f
 
-pub record Replaces (L : Listing) (f : List ℕ) (r : ℕ) (g : List ℕ) (t p : ℕ) : Type 0 where
-  pub taken : t ≡ getD f r 0
-  pub put : p ≡ getD g r 0
-  pub two : TheTwo (LiesBetween L (r + 1) (getD f (r + 1) 0) (getD f (r - 1) 0)) t p
+pub record Replaces (L : Listing) (f : List ℕ) (r : ℕ) (g : List ℕ) (x y : ℕ) : Type 0 where
+  pub taken : x ≡ getD f r 0
+  pub put : y ≡ getD g r 0
+  pub two : TheTwo (LiesBetween L (r + 1) (getD f (r + 1) 0) (getD f (r - 1) 0)) x y
 
 abbrev pub HasUnder : Listing → ℕ → ℕ → ℕ → Type 0
-HasUnder L r b x = (x < count L r) × In b (subs L r x)
+HasUnder L r x i = (i < count L r) × In x (subs L r i)
 
 unfoldable pub padded : List ℕ → List ℕ
 padded f = f ++ replicate (limits .ranks - length f) 0

@@ -1,4 +1,4 @@
-// What the entries, and the crates above, call to test a chain of elements and to change it at one rank. Most of these
+// What the entries, and the crates above, call to test a chain of elements and to change it at one rank. Some of these
 // functions ask that the listing is known to be shaped.
 use listing::Answer;
 use listing::Index;

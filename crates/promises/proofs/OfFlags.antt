@@ -4,7 +4,7 @@ use mathlib.Core.Path.{_≡_, refl, _∙_}
 use mathlib.Core.Logic.{_≢_}
 use mathlib.Core.Bool.{Bool, not, _&&_}
 use mathlib.Core.List.{List}
-use Prim.Native.Nat.{ℕ, zero, suc, _≤_}
+use Prim.Native.Nat.{ℕ, _≤_}
 use native.Mathlib.Omega.{arith}
 use lib.Dec.{ltb}
 use lib.ListN.{replicate}
@@ -18,7 +18,7 @@ use Rattle.flag_change.specs.Flags.{flagTest, startTest}
 use Rattle.flag_change.proofs.Across.{across}
 use Rattle.flag.specs.Changed.{changeTest, changedOf}
 use Rattle.flag.proofs.ChangeAnswers.{change-clear, changed-answer, changed-none}
-use Rattle.flag.proofs.ChangeMade.{change-taken, change-changes, change-replaces, change-twice}
+use Rattle.flag.proofs.ChangeMade.{change-asked, change-changes, change-replaces, change-twice}
 use Rattle.flag.proofs.ChangeBroken.{change-broken}
 use Rattle.search_masks.specs.Masks.{maskFits}
 use Rattle.search_walk.specs.Searched.{foundBy}
@@ -136,7 +136,7 @@ flags-answer = record {
   change-by-the-book = λ k a r x p. rw p (change-changes limits (lent a) (flag a) (asked a));
   change-replaces = λ k a r x p. rw p (change-replaces limits (lent a) (flag a) (asked a));
   change-across = λ k a r x p. rw p (λ z t.
-      let h = change-taken limits (lent a) (flag a) (asked a) z in
+      let h = change-asked limits (lent a) (flag a) (asked a) z in
       across (h .0) (asked a) t (h .1) (change-replaces limits (lent a) (flag a) (asked a) z));
   change-back = λ k l a c r s x y p q e d n. rw (q, e, d, n, p) (change-twice limits (lent a) (flag a) (asked a));
   search-by-the-book = λ k a r x p z.

@@ -46,13 +46,12 @@ use Rattle.promises.specs.Starred.{quoted, answered, tried}
 pub starred : map answered tried ≡ tried
 unfolding decLt has occurs choose sum partAt _orElse_ firstIn firstFor firstOf before entries fills shapeTest gather
     derived joined tabulated listAt nth written boundedTest entryTest alongTest listTest elementTest incidencesTest
-    climbs
-    elementAscent ascentTest subsOfAll thirdTest seenAfter loneTest sectionsTest dyadicTest isValid closed trimSize
-    trimUnder block offset position pairOf pairAt leftSubs rightSubs upTo minSize minUnder maxSize maxUnder
+    climbs elementAscent ascentTest subsOfAll thirdTest seenAfter loneTest sectionsTest dyadicTest isValid closed
+    trimSize trimUnder block offset position pairOf pairAt leftSubs rightSubs upTo minSize minUnder maxSize maxUnder
     layerProduct productOf nullCase combCase resultOf shortTest sizeTest factorsTest restTest productTest every flagAt
-    flagTest startTest common other between replacedAt changeAt padded changeTest changedAs changedOf spelled numeral parted commas
-    lineBytes lineOf spot lineAt lineCount afterLine fromLine valuesFrom values countLine said begins numbersFit
-    formTest belowIn sizeBelow incidencesOf incidencesTo boundOf boundAt textTest readTest checkTest sumOver placeAfter
-    waits indexIn meet meetAll work runFor run search sameList bitsIn maskChanges foundBy chainsTo supAt partsTest
-    bodyTest quoted answered
+    flagTest startTest common other between replacedAt changeAt padded changeTest changedAs changedOf spelled numeral
+    parted commas lineBytes lineOf spot lineAt lineCount afterLine fromLine valuesFrom values countLine said begins
+    numbersFit formTest belowIn sizeBelow incidencesOf incidencesTo boundOf boundAt textTest readTest checkTest
+    sumOver placeAfter waits indexIn meet meetAll work runFor run search sameList bitsIn maskChanges foundBy chainsTo
+    supAt partsTest bodyTest quoted answered
 starred = refl

@@ -45,7 +45,7 @@ use Rattle.search_events.proofs.event_at.Reads as event-at
 use Rattle.search_events.proofs.events_in.Reads as events-in
 use Rattle.search_events.proofs.next_at.Reads as next-at
 use Rattle.search_events.proofs.numbers.Reads as numbers
-use Rattle.promises.specs.Entries.{Takes, Says, SaysOfTwo, OneAnswer, OneOutcome, Three, lent, flag, asked, tables}
+use Rattle.promises.specs.Entries.{Takes, Says, SaysOfTwo, OneAnswer, OneOutcome, lent, flag, asked, tables}
 use Rattle.promises.specs.Named.{Named}
 
 pub record SignAt (b : ℕ) (x : Float) : Type 0 where

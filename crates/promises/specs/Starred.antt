@@ -47,7 +47,7 @@ use Rattle.text_theory.specs.Said.{listingIn}
 use Rattle.text.specs.Texts.{readTest, checkTest}
 use Rattle.flag_change.specs.Change.{padded}
 use Rattle.flag.specs.declared.Changed.{Changed}
-use Rattle.flag.specs.Changed.{refusedAs, changedOf}
+use Rattle.flag.specs.Changed.{unchangedAs, changedOf}
 use Rattle.body.specs.Body.{bodyTest}
 
 abbrev pub square : Listing
@@ -222,9 +222,9 @@ tried =
     changed triangle (0 ∷ 0 ∷ 0 ∷ 0 ∷ []) 2 (to (0 ∷ 0 ∷ 1 ∷ 0 ∷ []) 0 1) ∷
     changed cube (0 ∷ 0 ∷ 0 ∷ 0 ∷ 0 ∷ []) 3 (to (0 ∷ 0 ∷ 0 ∷ 2 ∷ 0 ∷ []) 0 2) ∷
     -- outsideRanks is 21, notAFlag is 20
-    changed triangle (0 ∷ 0 ∷ 0 ∷ 0 ∷ []) 0 (refusedAs (plain outsideRanks)) ∷
-    changed triangle (0 ∷ 0 ∷ 0 ∷ 0 ∷ []) 3 (refusedAs (plain outsideRanks)) ∷
-    changed triangle (0 ∷ 0 ∷ 0 ∷ []) 1 (refusedAs (plain notAFlag)) ∷
+    changed triangle (0 ∷ 0 ∷ 0 ∷ 0 ∷ []) 0 (unchangedAs (plain outsideRanks)) ∷
+    changed triangle (0 ∷ 0 ∷ 0 ∷ 0 ∷ []) 3 (unchangedAs (plain outsideRanks)) ∷
+    changed triangle (0 ∷ 0 ∷ 0 ∷ []) 1 (unchangedAs (plain notAFlag)) ∷
     -- moreFlags is 22, severalParts is 25
     bodied nullitope 0 (plain moreFlags) ∷
     bodied nullitope 1 fine ∷

@@ -1,4 +1,5 @@
--- The flag at hand, at the beginning of an array: it is a row of the table, and one number of it is changed.
+-- The flag at hand, at the beginning of an array: it is a row of the table, and one number of it is changed and put
+-- back.
 -- Assumes nothing.
 use mathlib.Core.Path.{_≡_, sym, ap, ap₂, _∙_}
 use mathlib.Core.List.{List}

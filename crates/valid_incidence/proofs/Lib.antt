@@ -1,3 +1,4 @@
 pub mod Ways
 pub mod Entries
 pub mod IncidenceExact
+pub mod Below

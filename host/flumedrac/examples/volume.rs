@@ -19,7 +19,7 @@ fn main() -> Result<(), Box<dyn std::error::Error>> {
     println!("six_volume says {six}: the volume is {} cubic metres", six.abs() / 6.0);
 
     // The sign is that of the first flag: a change turns it round.
-    let other = prism.change(&first, 1)?;
+    let other = prism.change(&first, 1)?.flag;
     println!("from the other end of the first edge it says {}", prism.six_volume(&other, &vertices)?);
 
     // Coordinates are whole metres, so that the answer is exact.

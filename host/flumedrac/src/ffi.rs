@@ -31,14 +31,18 @@ pub struct Number {
     pub value: usize,
 }
 
-/// A changed flag. `fd_changed` in C.
+/// A changed flag, and what was replaced in it; all 0 on a refusal. `fd_changed` in C.
 #[repr(C)]
 #[derive(Clone, Copy, Debug, Default, PartialEq, Eq)]
 pub struct Changed {
     /// Whether the change was refused.
     pub answer: Answer,
-    /// The new flag, one index for each rank, then 0s; all 0 on a refusal.
+    /// The new flag, one index for each rank, then 0s.
     pub flag: [u16; MAX_RANKS],
+    /// The index that the change took out: the old flag's at its rank.
+    pub taken: u16,
+    /// The index that it put in: the new flag's there.
+    pub put: u16,
 }
 
 /// What a search found, or the test for one body; all 0 on a refusal. `fd_searched` in C.
@@ -116,7 +120,7 @@ macro_rules! functions {
                 inc: *const u16, inc_len: usize,
             ) -> Answer;)*
 
-            /// `fd_change` in C: the flag with the other element at rank r.
+            /// `fd_change` in C: the flag with the other element at rank r, and what was replaced.
             pub fn fd_change(
                 counts: *const u16, counts_len: usize, ends: *const u16, ends_len: usize,
                 inc: *const u16, inc_len: usize, flag: *const u16, flag_len: usize, r: u16,

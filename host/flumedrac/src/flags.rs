@@ -73,6 +73,17 @@ impl Orientation {
     }
 }
 
+/// A change that was made: the new flag, and what was replaced in it.
+#[derive(Clone, Debug, PartialEq, Eq, Hash)]
+pub struct Change {
+    /// The new flag.
+    pub flag: Flag,
+    /// The index that was taken out: the old flag's at the rank of the change.
+    pub taken: u16,
+    /// The index that was put in: the new flag's at that rank.
+    pub put: u16,
+}
+
 /// What a search came upon.
 #[derive(Clone, Copy, Debug, PartialEq, Eq)]
 pub enum Event<'a> {
@@ -135,21 +146,33 @@ impl Listing {
         Some(Flag(flag))
     }
 
-    /// The flag with the other element at rank `r`.
+    /// The flag with the other element at rank `r`, and what was replaced: the index that the change took out and the
+    /// one that it put in. These two lie between the flag's elements at the ranks below and above, and no third does.
+    /// The same change again, of the new flag, leads back and exchanges them.
+    ///
+    /// In a listing of rank 5, whose elements of rank 4 are cells, the change at rank 4 leads across the flag's face:
+    /// out of the cell taken and into the cell put, the only other one that has this face. The change at rank 3 stays
+    /// in the cell and leads from one face to the other at the flag's edge.
     ///
     /// ```
-    /// use flumedrac::{Flag, Listing, Refusal};
+    /// use flumedrac::{Change, Flag, Listing, Refusal};
     /// let triangle = Listing::polygon(3)?;
-    /// let flag = Flag::from([0, 0, 0, 0]);
-    /// assert_eq!(triangle.change(&flag, 1)?, Flag::from([0, 1, 0, 0]));
-    /// assert_eq!(triangle.change(&flag, 2)?, Flag::from([0, 0, 1, 0]));
-    /// assert_eq!(triangle.change(&flag, 3), Err(Refusal::OutsideRanks));
+    /// let first = Flag::from([0, 0, 0, 0]);
+    /// // To the other vertex of the edge, and back.
+    /// let other = triangle.change(&first, 1)?;
+    /// assert_eq!(other, Change { flag: Flag::from([0, 1, 0, 0]), taken: 0, put: 1 });
+    /// assert_eq!(triangle.change(&other.flag, 1)?, Change { flag: first.clone(), taken: 1, put: 0 });
+    /// // To the other edge at the vertex.
+    /// assert_eq!(triangle.change(&first, 2)?, Change { flag: Flag::from([0, 0, 1, 0]), taken: 0, put: 1 });
+    /// assert_eq!(triangle.change(&first, 3), Err(Refusal::OutsideRanks));
+    /// assert_eq!(triangle.change(&first[1..], 1), Err(Refusal::NotAFlag));
     /// # Ok::<(), Refusal>(())
     /// ```
-    pub fn change(&self, flag: &[u16], r: u16) -> Result<Flag, Refusal> {
+    pub fn change(&self, flag: &[u16], r: u16) -> Result<Change, Refusal> {
         let changed = raw::change(self.slices(), flag, r);
         Refusal::check(changed.answer)?;
-        Ok(Flag(changed.flag[..=self.rank()].to_vec()))
+        let flag = Flag(changed.flag[..=self.rank()].to_vec());
+        Ok(Change { flag, taken: changed.taken, put: changed.put })
     }
 
     /// All flags that the changes in `mask` reach from the first flag, if there are at most `room`, and never more than

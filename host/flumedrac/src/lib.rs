@@ -35,7 +35,7 @@ mod text;
 mod volume;
 
 pub use cell::{duocomb, duoprism, duopyramid, duotegum};
-pub use flags::{Event, Events, Flag, Orientation, Search};
+pub use flags::{Change, Event, Events, Flag, Orientation, Search};
 pub use listing::{Listing, Slices, MAX_ELEMENTS, MAX_FLAGS, MAX_INCIDENCES, MAX_METRES, MAX_RANKS, MAX_TEXT};
 pub use refusal::{Class, Refusal, Section, Side};
 pub use text::check_text;

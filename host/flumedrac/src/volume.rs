@@ -118,7 +118,7 @@ mod tests {
     fn zeros_and_lent_slices() {
         let (prism, _) = prism();
         let first = prism.first_flag().unwrap();
-        let other = prism.change(&first, 2).unwrap();
+        let other = prism.change(&first, 2).unwrap().flag;
         for flag in [&first, &other] {
             for place in [[-7.0, 3.0, -0.0], [-0.0; 3]] {
                 assert_eq!(prism.six_volume(flag, &[place; 6]).map(f64::to_bits), Ok(0));

@@ -118,7 +118,7 @@ fn expected() -> Vec<(String, usize)> {
     }
     layout!("fd_answer" Answer no a b c d);
     layout!("fd_number" Number no value);
-    layout!("fd_changed" Changed answer flag);
+    layout!("fd_changed" Changed answer flag taken put);
     layout!("fd_searched" Searched answer count place orientable);
     layout!("fd_built" Built answer counts ends inc);
     layout!("fd_volume" Volume no six);
@@ -143,6 +143,15 @@ fn layouts_and_numbers_are_the_same() {
     for ((expression, value), line) in expected.iter().zip(lines) {
         assert_eq!(value.to_string(), line, "{expression}");
     }
+}
+
+/// What a change answers has the layout that was fixed: 23 numbers of two bytes, taken and put the last of them.
+#[test]
+fn changed_is_as_fixed() {
+    let of_c = "sizeof(fd_changed), offsetof(fd_changed, taken), offsetof(fd_changed, put)";
+    let lines = printed("changed", &format!("    printf(\"%zu %zu %zu\\n\", {of_c});"));
+    assert_eq!(lines, ["46 42 44"]);
+    assert_eq!([size_of::<Changed>(), offset_of!(Changed, taken), offset_of!(Changed, put)], [46, 42, 44]);
 }
 
 /// The header and this package are of one release.
@@ -267,5 +276,16 @@ fn examples_in_c() {
         "a prism: 60000 cubic metres\n\
          with one corner half a metre higher: \
          a coordinate is not a whole number of metres from -1,000 to 1,000 (53)\n"
+    );
+    assert_eq!(
+        C99.prints(&own("examples/round.c"), archive()),
+        "a closed grid: 8 cells, 19 faces, 19 edges\nround edge 0, from face 0 of cell 0:\n  \
+         in cell 0 from face 0 to face 1\n  across face 1 from cell 0 to cell 2\n  \
+         in cell 2 from face 1 to face 2\n  across face 2 from cell 2 to cell 3\n  \
+         in cell 3 from face 2 to face 3\n  across face 3 from cell 3 to cell 4\n  \
+         in cell 4 from face 3 to face 4\n  across face 4 from cell 4 to cell 5\n  \
+         in cell 5 from face 4 to face 5\n  across face 5 from cell 5 to cell 1\n  \
+         in cell 1 from face 5 to face 0\n  across face 0 from cell 1 to cell 0\n\
+         back again after 6 faces and 6 cells\n"
     );
 }

@@ -69,7 +69,7 @@ fd_number(fd_el_count)(SLICE(const uint16_t, counts), size_t rank)
 
 fd_changed(fd_change)(LISTING(), SLICE(const uint16_t, flag), uint16_t r)
 {
-    fd_changed changed = {{0, 0, 0, 0, 0}, {0}};
+    fd_changed changed = {{0, 0, 0, 0, 0}, {0}, 0, 0};
     changed.answer = said(NO_LISTING() || NO_POINTER(flag) || r > 100);
     return changed;
 }

@@ -42,6 +42,22 @@ impl Model {
         next
     }
 
+    /// What the change of a flag at a rank takes out and puts in: of the elements over the one below, the flag's own
+    /// and the other that the one above lists.
+    fn replaced(&self, cell: &Layers<'_>, flag: &[u16], r: usize) -> (u16, u16) {
+        let [below, own, above] = [flag[r - 1], flag[r], flag[r + 1]];
+        let listed = |x: u16| self.has(Break::PutAside) || cell[r + 1][above as usize].subs.contains(&x);
+        let sups = cell[r - 1][below as usize].sups.iter();
+        let other = sups.copied().find(|&x| x != own && listed(x)).expect("two elements between");
+        match self.fault {
+            Some(Break::ReplacedExchanged) => (other, own),
+            Some(Break::PutOld) => (own, own),
+            Some(Break::TakenBelow) => (below, other),
+            Some(Break::PutAbove) => (own, above),
+            _ => (own, other),
+        }
+    }
+
     fn ranks_of(&self, mask: u16) -> Vec<usize> {
         let mut ranks: Vec<usize> = (0..16).filter(|r| mask >> r & 1 == 1).collect();
         if self.has(Break::MaskDownward) {
@@ -55,13 +71,17 @@ impl Model {
         let rank = l.counts.len().wrapping_sub(1);
         let last = if self.has(Break::ChangeAtTop) { rank } else { rank.saturating_sub(1) };
         if let Some(answer) = self.flag_refusal(l, flag, r < 1 || r > last) {
-            return Changed { answer, flag: [0; 16] };
+            let beside = if self.has(Break::ReplacedRefused) { flag.get(r).copied() } else { None };
+            let number = beside.unwrap_or_default();
+            return Changed { answer, taken: number, put: number, ..Changed::default() };
         }
         let mut changed = Changed::default();
         if r == rank {
             changed.flag[..=rank].copy_from_slice(flag);
         } else {
-            changed.flag[..=rank].copy_from_slice(&self.changed(&layers(l), flag, r)[..=rank]);
+            let cell = layers(l);
+            changed.flag[..=rank].copy_from_slice(&self.changed(&cell, flag, r)[..=rank]);
+            (changed.taken, changed.put) = self.replaced(&cell, flag, r);
         }
         changed
     }

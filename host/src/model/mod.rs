@@ -89,6 +89,18 @@ breaks! {
     ChangeAtTop "change-at-top",
     /// The flag comes back unchanged.
     NoChange "no-change",
+    /// What was taken out is said for what was put in, and the other way round.
+    ReplacedExchanged "taken-put-exchanged",
+    /// What was put in is said to be what was taken out.
+    PutOld "put-is-old",
+    /// What was put in is said to be another element over the one below, under the one above or not.
+    PutAside "put-aside",
+    /// What was taken out is said to be the flag's element of one rank less.
+    TakenBelow "taken-of-rank-below",
+    /// What was put in is said to be the flag's element of one rank more.
+    PutAbove "put-of-rank-above",
+    /// Beside a refusal of a change stands the flag's own element, as taken out and as put in.
+    ReplacedRefused "replaced-beside-refusal",
     /// Changes are taken from the highest bit downward.
     MaskDownward "mask-downward",
     /// A new flag has the orientation of the flag it came from.

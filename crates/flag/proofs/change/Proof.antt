@@ -1,4 +1,4 @@
--- `change`: the refusal of check_change with a flag of 0s, or the changed flag.
+-- `change`: the refusal of check_change with all numbers 0, or what changed_at answers. No loop.
 -- Assumes nothing.
 use mathlib.Core.Path.{ap, _∙_}
 use borrow.Author.Needs.{needs}

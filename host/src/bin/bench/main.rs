@@ -5,8 +5,8 @@
 //!
 //! Both sides are measured in turn, run after run, so that what else the machine does touches both. The time is the
 //! processor's time for this thread: waiting for a processor that is busy elsewhere does not count. --brief prints one
-//! table in place of the first four, with the ratios and our time alone and without the cells that grow. --model
-//! measures the unproved model instead of the archive, only to try this program.
+//! table in place of the first five, with the ratios and our time alone and without changes and the cells that grow.
+//! --model measures the unproved model instead of the archive, only to try this program.
 //!
 //! --before measures an earlier archive too, in turn with the others, and the tables say how its time is to ours.
 //! PROGRAM is the `bench` of that time, built in a copy of the project with its own archive. It is started with --serve
@@ -117,7 +117,8 @@ fn full_cells(ours: Summary, rust: Option<Summary>, before: Option<Summary>) -> 
     [both(ours), rust_times, ratios(ours, rust, 1), before_times, ratios(ours, before, 2)].concat()
 }
 
-/// A row of a full table: a search also without the closed test that it begins with, which the Rust's has not.
+/// A row of a full table: a search or a change also without the closed test that it begins with, which the Rust's has
+/// not.
 fn full_lines(name: &str, measured: &Measured, columns: &[&str]) {
     let Measured { ours, closed, rust, before } = *measured;
     line(name, &full_cells(ours, rust, before), columns);
@@ -145,6 +146,7 @@ fn full_tables(rows: Rows<'_>, runs: usize, partner: &mut Option<Partner>) -> Re
         ("Usual cells", rows.usual()),
         ("Largest", rows.largest()),
         ("Growth", rows.growth()),
+        ("Changes", rows.changes()),
         ("Texts, the Rust being a plain parser (host/parser)", rows.texts()),
     ];
     let always = ["ours, median", "ours, least", "Rust, median", "Rust, least", "ratio of medians", "ratio of least"];

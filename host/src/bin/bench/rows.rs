@@ -1,4 +1,4 @@
-//! What is measured: a row for each piece of work, in six groups.
+//! What is measured: a row for each piece of work, in seven groups.
 
 use std::hint::black_box;
 
@@ -104,6 +104,19 @@ impl<'a> Rows<'a> {
             assert_eq!((searched.answer.no, usize::from(searched.count), searched.orientable), (0, flags, 1));
         });
         Row { name: format!("search of {name}, {flags} flags"), ours: Times::new(ours), closed, rust, before: vec![] }
+    }
+
+    /// A change at a rank of the first flag.
+    fn change(self, name: &str, cell: Listing, r: u16) -> Row<'a> {
+        let first = cell.first_flag().expect("a closed cell has flags");
+        let new = Model::default().change(cell.slices(), &first, r).flag;
+        let rust = rust::change(&cell, &first, r, &new).map(Times::new);
+        let closed = Some(self.test(Test::Closed, cell.clone()));
+        let ours: Work<'a> = Box::new(move |_| {
+            let changed = self.0.change(black_box(cell.slices()), &first, r);
+            assert_eq!((changed.answer.no, changed.flag), (0, new));
+        });
+        Row { name: format!("change of {name} at {r}"), ours: Times::new(ours), closed, rust, before: vec![] }
     }
 
     /// The test for one body, and in the Rust's place our own search by every change from the same flag. The answer is
@@ -268,9 +281,15 @@ impl<'a> Rows<'a> {
         grown.flat_map(rows).collect()
     }
 
+    /// Changes: of a usual cell, and of one at the limits.
+    pub fn changes(self) -> Vec<Row<'a>> {
+        let prism = cells::product(Kind::Duoprism, &cells::polygon(22), &cells::polygon(31));
+        vec![self.change("the 4-box", cells::cuboid(4), 2), self.change("duoprism(22-gon, 31-gon)", prism, 2)]
+    }
+
     /// The rows of all groups.
     pub fn all(self) -> Vec<Row<'a>> {
-        let groups = [self.usual(), self.largest(), self.growth(), self.texts(), self.bodies(), self.volumes()];
-        groups.into_iter().flatten().collect()
+        let beside_rust = [self.usual(), self.largest(), self.growth(), self.changes(), self.texts()];
+        beside_rust.into_iter().chain([self.bodies(), self.volumes()]).flatten().collect()
     }
 }

@@ -1,10 +1,10 @@
 //! The Rust's side of each row, if `oracle/build.sh` has built its files: else there is none, and nothing is measured.
 
 #[cfg(oracle)]
-pub use present::{product, search, valid};
+pub use present::{change, product, search, valid};
 
 #[cfg(not(oracle))]
-pub use absent::{product, search, valid};
+pub use absent::{change, product, search, valid};
 
 /// Whether there is one.
 pub const PRESENT: bool = cfg!(oracle);
@@ -45,9 +45,17 @@ mod present {
         Some(Box::new(move |_| assert_eq!(black_box(&cell).is_valid(), Some([0; 5]))))
     }
 
+    fn wide(flag: &[u16]) -> Vec<usize> {
+        flag.iter().map(|&x| x.into()).collect()
+    }
+
+    pub fn change(listing: &Listing, flag: &[u16], r: u16, new: &[u16]) -> Option<Work<'static>> {
+        let (cell, flag, new) = (cell(listing), wide(flag), wide(&new[..flag.len()]));
+        Some(Box::new(move |_| assert_eq!(black_box(&cell).change(&flag, r.into()).as_ref(), Some(&new))))
+    }
+
     pub fn search(listing: &Listing, first: &[u16], mask: u16, flags: usize) -> Option<Work<'static>> {
-        let cell = cell(listing);
-        let first: Vec<usize> = first.iter().map(|&x| x.into()).collect();
+        let (cell, first) = (cell(listing), wide(first));
         let changes: Vec<usize> = (1..16).filter(|r| mask >> r & 1 == 1).collect();
         Some(Box::new(move |_| assert_eq!(black_box(&cell).event_count(&first, &changes), Some(flags))))
     }
@@ -65,6 +73,10 @@ mod absent {
     }
 
     pub fn valid(_: &Listing) -> Option<Work<'static>> {
+        None
+    }
+
+    pub fn change(_: &Listing, _: &[u16], _: u16, _: &[u16]) -> Option<Work<'static>> {
         None
     }
 

@@ -1,7 +1,7 @@
 //! What a library has to reply: by the Rust files where they decide, by a plain condition where they do not.
 
 use flumedrac::{MAX_ELEMENTS, MAX_FLAGS, MAX_INCIDENCES, MAX_RANKS};
-use flumedrac_trial::question::{answer_numbers, BYTE_FILL, FILL};
+use flumedrac_trial::question::{answer_numbers, changed_numbers, BYTE_FILL, FILL};
 use flumedrac_trial::{Kind, Question, Raw, Reply, Test};
 
 use crate::oracle::{self, Cell, Event, Product};
@@ -82,17 +82,25 @@ fn next_event(at: u32, count: u16, place: u16) -> Reply {
     }
 }
 
+/// What is taken out and put in are the numbers at rank r of the flag and of the Rust's new flag. They must be the two
+/// elements between the flag's neighbours there.
 fn change(cell: &Subject, flag: &[u16], r: u16) -> Judged<Reply> {
     let (answer, by) = cell.flag_refusal(flag, &[r.into()])?;
+    let r = usize::from(r);
     let mut record = vec![0; 16];
+    let (mut taken, mut put) = (0, 0);
     if answer.no == 0 {
-        let flag: Vec<usize> = flag.iter().map(|&x| x.into()).collect();
-        let changed = said(cell.cell.as_ref().and_then(|cell| cell.change(&flag, r.into())))?;
+        let old: Vec<usize> = flag.iter().map(|&x| x.into()).collect();
+        let changed = said(cell.cell.as_ref().and_then(|cell| cell.change(&old, r)))?;
         for (number, index) in record.iter_mut().zip(changed) {
             *number = index as u16;
         }
+        (taken, put) = (flag[r], record[r]);
+        if plain::others_between(&cell.raw, flag, r) != [put] {
+            return Err(Doubt::Oracle("the Rust's change does not put in the only other element between"));
+        }
     }
-    Ok((Reply { numbers: answer_numbers(answer), slices: vec![record], spilled: false }, by))
+    Ok((Reply { numbers: changed_numbers(answer, taken, put), slices: vec![record], spilled: false }, by))
 }
 
 fn search(cell: &Subject, first: &[u16], mask: u16, table: usize, orientations: usize) -> Judged<Reply> {

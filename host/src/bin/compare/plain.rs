@@ -62,6 +62,12 @@ pub fn is_flag(cell: &Raw, flag: &[u16]) -> bool {
         && (1..flag.len()).all(|r| list(cell, r, flag[r].into(), 0).contains(&flag[r - 1]))
 }
 
+/// The elements at a rank of a flag, its own left out, that the one above lists and that list the one below.
+pub fn others_between(cell: &Raw, flag: &[u16], r: usize) -> Vec<u16> {
+    let over = |x: u16| list(cell, r, x.into(), 0).contains(&flag[r - 1]);
+    list(cell, r + 1, flag[r + 1].into(), 0).iter().copied().filter(|&x| x != flag[r] && over(x)).collect()
+}
+
 /// The flag of first sups of a closed listing: index 0 at rank 0, and then the first sup each time.
 pub fn first_sups(cell: &Raw) -> Vec<u16> {
     let mut flag = vec![0];

@@ -120,7 +120,7 @@ const HEAD: &str = "\
 #   sign                             byte = 1 or -1
 #   bounded, check_incidences, is_dyadic, is_valid, closed
 #                                    listing = no a b c d
-#   change                           listing flag r = no a b c d [the record of 16 numbers]
+#   change                           listing flag r = no a b c d taken put [the record of 16 numbers]
 #   search                           listing first mask table-length orientations-length
 #                                    = no a b c d count place orientable [table] [orientations]
 #   events                           listing first mask = no a b c d, then for each event of the search
@@ -134,4 +134,6 @@ const HEAD: &str = "\
 # - closed is no function of the Rust. Its answers here are those of bounded and check_incidences, and of is_dyadic for
 #   the same listing with one more element over its top. Lists that do not ascend are left out.
 # - is_dyadic is asked only where check_incidences accepts; else the line has that one's answer.
+# - change answers a flag in the Rust. taken and put are the numbers at r of the flag that it was given and of this one;
+#   that they are the two elements between, and no others are, was tested.
 ";

@@ -1,4 +1,5 @@
--- `replaced_at`: the two lists are the sups of the lower neighbour and the subs of the upper one, and both ascend.
+-- `replaced_at`: what is put in is the other of what two lists share, the sups of the lower neighbour and the subs of
+-- the upper one; both ascend. No loop.
 -- Assumes nothing.
 use mathlib.Core.Path.{_≡_, _∙_}
 use Prim.Native.Nat.{_+_, _-_}

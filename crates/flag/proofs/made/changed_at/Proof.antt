@@ -1,4 +1,4 @@
--- `changed_at`: the flag as a record, with the number at rank r that is put in.
+-- `changed_at`: the flag as a record, with what is put in at rank r; beside it what was taken out and put in. No loop.
 -- Assumes nothing.
 use native.Mathlib.Omega.{arith}
 use borrow.Author.Needs.{needs}
@@ -10,8 +10,8 @@ use Rattle.flag_change.specs.Change.{replacedAt, changeAt}
 use Rattle.flag_change.proofs.Padding.{padded-set}
 use Rattle.flag_change.proofs.Replaced.{flag-flanked}
 use Rattle.flag.specs.Changed.{changedAs}
-use Rattle.flag.proofs.changed_at.Statement.{statement}
-use Rattle.flag.proofs.changed_at.Tie as tie
+use Rattle.flag.proofs.made.changed_at.Statement.{statement}
+use Rattle.flag.proofs.made.changed_at.Tie as tie
 
 abbrev L : tie.Start → Listing
 L s = listing (s .args .counts .now) (s .args .ends .now) (s .args .inc .now)
