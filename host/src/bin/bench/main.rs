@@ -8,10 +8,12 @@
 //! table in place of the first five, with the ratios and our time alone and without changes and the cells that grow.
 //! --model measures the unproved model instead of the archive, only to try this program.
 //!
-//! --before measures an earlier archive too, in turn with the others, and the tables say how its time is to ours.
-//! PROGRAM is the `bench` of that time, built in a copy of the project with its own archive. It is started with --serve
-//! and then is a partner: it prints no tables, but reads the names of rows, a line each, and says how many seconds its
-//! own archive takes for that row, or a dash if it has none of that name.
+//! --before measures an earlier archive too, and the tables say how its time is to ours. PROGRAM is the `bench` of that
+//! time, built in a copy of the project with its own archive. It is started with --serve and then is a partner: it
+//! prints no tables, but reads the names of rows, a line each, and says how many seconds its own archive takes for that
+//! row, or a dash if it has none of that name. This program is started so too, and the two are asked in turn: the same
+//! code takes some hundredths more or less where it lies elsewhere in memory, or where the Rust ran before it. For the
+//! same reason both are started anew after some runs.
 //!
 //! The Rust files have no texts: reading one is measured beside a plain parser in Rust. They have no test for one body,
 //! and no volumes in what is built of them: both are measured beside our own search by every change from the same flag,
@@ -28,9 +30,12 @@ use std::process::ExitCode;
 
 use flumedrac_trial::{limit_memory, misused, Archive, Library, Model};
 
-use partner::Partner;
-use rows::{Measured, Row, Rows};
+use partner::Pair;
+use rows::{Measured, PairTimes, Row, Rows};
 use times::{written, Summary};
+
+/// After so many runs the earlier archive and ours are measured by new processes.
+const RUNS_OF_A_PAIR: usize = 10;
 
 struct Options {
     brief: bool,
@@ -66,20 +71,20 @@ fn options() -> Result<Options, String> {
 }
 
 /// The rows of a group, measured in turn as often as there are runs; who comes first changes from run to run.
-fn measured(
-    mut rows: Vec<Row<'_>>,
-    runs: usize,
-    partner: &mut Option<Partner>,
-) -> Result<Vec<(String, Measured)>, String> {
-    for run in 0..runs {
-        rows.iter_mut().try_for_each(|row| row.measure(run % 2 == 0, partner))?;
+fn measured(mut rows: Vec<Row<'_>>, options: &Options) -> Result<Vec<(String, Measured)>, String> {
+    let mut pair = None;
+    for run in 0..options.runs {
+        if run % RUNS_OF_A_PAIR == 0 {
+            pair = options.before.as_deref().map(Pair::start).transpose()?;
+        }
+        rows.iter_mut().try_for_each(|row| row.measure(run % 2 == 0, &mut pair))?;
     }
     Ok(rows.into_iter().map(|row| (row.name.clone(), row.measured())).collect())
 }
 
-/// The columns of a table: those about the partner come last, and only if there is one.
-fn columns<'a>(always: &[&'a str], about_partner: &[&'a str], partner: &Option<Partner>) -> Vec<&'a str> {
-    let more = if partner.is_some() { about_partner } else { &[] };
+/// The columns of a table: those about an earlier archive come last, and only if there is one.
+fn columns<'a>(always: &[&'a str], about_before: &[&'a str], options: &Options) -> Vec<&'a str> {
+    let more = if options.before.is_some() { about_before } else { &[] };
     [always, more].concat()
 }
 
@@ -103,25 +108,31 @@ fn ratios(ours: Summary, other: Option<Summary>, digits: usize) -> [String; 2] {
     other.map_or_else(Default::default, |other| [ratio(other.median, ours.median), ratio(other.least, ours.least)])
 }
 
+/// The ratios of an earlier archive's time to ours, both as a partner took them.
+fn before_ratios(pair: Option<PairTimes>) -> [String; 2] {
+    pair.map_or_else(Default::default, |pair| ratios(pair.ours, Some(pair.before), 2))
+}
+
 /// The cells of a row of the brief table.
 fn brief_cells(measured: &Measured) -> [String; 5] {
     let [medians, least] = ratios(measured.ours, measured.rust, 1);
-    let [before_medians, before_least] = ratios(measured.ours, measured.before, 2);
+    let [before_medians, before_least] = before_ratios(measured.pair);
     [medians, least, written(measured.ours.median), before_medians, before_least]
 }
 
 /// The cells of a line of a full table.
-fn full_cells(ours: Summary, rust: Option<Summary>, before: Option<Summary>) -> Vec<String> {
+fn full_cells(ours: Summary, rust: Option<Summary>, pair: Option<PairTimes>) -> Vec<String> {
     let both = |times: Summary| [written(times.median), written(times.least)];
+    let before = pair.map(|pair| pair.before);
     let [rust_times, before_times] = [rust, before].map(|times| times.map(both).unwrap_or_default());
-    [both(ours), rust_times, ratios(ours, rust, 1), before_times, ratios(ours, before, 2)].concat()
+    [both(ours), rust_times, ratios(ours, rust, 1), before_times, before_ratios(pair)].concat()
 }
 
 /// A row of a full table: a search or a change also without the closed test that it begins with, which the Rust's has
 /// not.
 fn full_lines(name: &str, measured: &Measured, columns: &[&str]) {
-    let Measured { ours, closed, rust, before } = *measured;
-    line(name, &full_cells(ours, rust, before), columns);
+    let Measured { ours, closed, rust, pair } = *measured;
+    line(name, &full_cells(ours, rust, pair), columns);
     if let Some(closed) = closed {
         line("- of that, the closed test", &full_cells(closed, None, None), columns);
         line("- without the closed test", &full_cells(ours.without(closed), rust, None), columns);
@@ -129,19 +140,19 @@ fn full_lines(name: &str, measured: &Measured, columns: &[&str]) {
 }
 
 /// One table, with what counts most.
-fn brief_table(rows: Rows<'_>, runs: usize, partner: &mut Option<Partner>) -> Result<(), String> {
+fn brief_table(rows: Rows<'_>, options: &Options) -> Result<(), String> {
     let always = ["ratio of medians", "ratio of least", "ours, median"];
-    let columns = columns(&always, &["before / ours", "before / ours, least"], partner);
+    let columns = columns(&always, &["before / ours", "before / ours, least"], options);
     head(&columns);
     for group in [rows.usual(), rows.largest(), rows.texts()] {
-        let measured = measured(group, runs, partner)?;
+        let measured = measured(group, options)?;
         measured.iter().for_each(|(name, measured)| line(name, &brief_cells(measured), &columns));
     }
     Ok(())
 }
 
 /// A table for each group, with all that was measured.
-fn full_tables(rows: Rows<'_>, runs: usize, partner: &mut Option<Partner>) -> Result<(), String> {
+fn full_tables(rows: Rows<'_>, options: &Options) -> Result<(), String> {
     let groups = [
         ("Usual cells", rows.usual()),
         ("Largest", rows.largest()),
@@ -150,12 +161,12 @@ fn full_tables(rows: Rows<'_>, runs: usize, partner: &mut Option<Partner>) -> Re
         ("Texts, the Rust being a plain parser (host/parser)", rows.texts()),
     ];
     let always = ["ours, median", "ours, least", "Rust, median", "Rust, least", "ratio of medians", "ratio of least"];
-    let about_partner = ["before, median", "before, least", "before / ours", "before / ours, least"];
-    let columns = columns(&always, &about_partner, partner);
+    let about_before = ["before, median", "before, least", "before / ours", "before / ours, least"];
+    let columns = columns(&always, &about_before, options);
     for (title, group) in groups {
         println!("{title}:\n");
         head(&columns);
-        let measured = measured(group, runs, partner)?;
+        let measured = measured(group, options)?;
         measured.iter().for_each(|(name, measured)| full_lines(name, measured, &columns));
         println!();
     }
@@ -163,15 +174,15 @@ fn full_tables(rows: Rows<'_>, runs: usize, partner: &mut Option<Partner>) -> Re
 }
 
 /// A table for work that contains a search: how many times as long as that it takes.
-fn search_table(title: &str, rows: Vec<Row<'_>>, runs: usize, partner: &mut Option<Partner>) -> Result<(), String> {
+fn search_table(title: &str, rows: Vec<Row<'_>>, options: &Options) -> Result<(), String> {
     let always = ["times the search", "times the search, least", "ours, median", "the search, median"];
-    let columns = columns(&always, &["before / ours", "before / ours, least"], partner);
+    let columns = columns(&always, &["before / ours", "before / ours, least"], options);
     println!("{title}, beside the search by every change from the same flag:\n");
     head(&columns);
-    for (name, Measured { ours, rust: search, before, .. }) in measured(rows, runs, partner)? {
+    for (name, Measured { ours, rust: search, pair, .. }) in measured(rows, options)? {
         let search = search.expect("each is measured beside a search");
         let times = [ours.median / search.median, ours.least / search.least].map(|ratio| format!("{ratio:.2}"));
-        let cells = [times, [written(ours.median), written(search.median)], ratios(ours, before, 2)].concat();
+        let cells = [times, [written(ours.median), written(search.median)], before_ratios(pair)].concat();
         line(&name, &cells, &columns);
     }
     println!();
@@ -192,34 +203,33 @@ fn process_table(runs: usize) {
     }
 }
 
-fn tables(library: &dyn Library, options: &Options, partner: &mut Option<Partner>) -> Result<(), String> {
-    let (rows, runs) = (Rows(library), options.runs);
+fn tables(library: &dyn Library, options: &Options) -> Result<(), String> {
+    let rows = Rows(library);
     if options.brief {
-        brief_table(rows, runs, partner)?;
+        brief_table(rows, options)?;
         println!();
     } else {
-        full_tables(rows, runs, partner)?;
+        full_tables(rows, options)?;
     }
-    search_table("One body", rows.bodies(), runs, partner)?;
-    search_table("Volumes", rows.volumes(), runs, partner)?;
+    search_table("One body", rows.bodies(), options)?;
+    search_table("Volumes", rows.volumes(), options)?;
     if !options.brief {
-        process_table(runs);
+        process_table(options.runs);
     }
     Ok(())
 }
 
 fn bench(options: &Options) -> Result<(), String> {
-    let mut partner = options.before.as_deref().map(Partner::start).transpose()?;
     if !rust::PRESENT {
         println!("The Rust files are not built (host/oracle/build.sh FOLDER); only the library is measured.\n");
     }
     if options.model {
         println!("The unproved model, {} runs: these are not the library's times.\n", options.runs);
-        tables(&Model::default(), options, &mut partner)
+        tables(&Model::default(), options)
     } else {
-        let before = if partner.is_some() { ", and the earlier archive's between them" } else { "" };
+        let before = if options.before.is_some() { ", and the earlier archive's and ours in turn besides" } else { "" };
         println!("{} runs of each, ours and the Rust's in turn{before}.\n", options.runs);
-        tables(&Archive, options, &mut partner)
+        tables(&Archive, options)
     }
 }
 

@@ -5,18 +5,18 @@ use std::hint::black_box;
 use flumedrac::{Listing, MAX_FLAGS};
 use flumedrac_trial::{cell_texts, cells, Kind, Library, Model, Test, ALL_ROOM};
 
-use crate::partner::Partner;
+use crate::partner::Pair;
 use crate::rust;
 use crate::times::{Summary, Times, Work};
 
 /// Some work: ours, the closed test alone if the work includes it, the Rust's or what stands in its place, and the
-/// seconds that the partner said.
+/// seconds that the pair said, the earlier archive's and ours.
 pub struct Row<'a> {
     pub name: String,
     ours: Times<'a>,
     closed: Option<Times<'a>>,
     rust: Option<Times<'a>>,
-    before: Vec<f64>,
+    pairs: Vec<(f64, f64)>,
 }
 
 /// What was measured of a row.
@@ -24,29 +24,29 @@ pub struct Measured {
     pub ours: Summary,
     pub closed: Option<Summary>,
     pub rust: Option<Summary>,
-    pub before: Option<Summary>,
+    pub pair: Option<PairTimes>,
+}
+
+/// The times of the earlier archive and of ours, both as a partner took them.
+#[derive(Clone, Copy)]
+pub struct PairTimes {
+    pub before: Summary,
+    pub ours: Summary,
 }
 
 impl Row<'_> {
-    /// Each side once, the partner next to ours; who comes first is for the caller to change from run to run.
-    pub fn measure(&mut self, ours_first: bool, partner: &mut Option<Partner>) -> Result<(), String> {
+    /// Each side once, and the pair, if there is one; who comes first is for the caller to change from run to run.
+    pub fn measure(&mut self, ours_first: bool, pair: &mut Option<Pair>) -> Result<(), String> {
         if ours_first {
             self.ours.measure();
-            self.ask(partner)?;
         }
         self.rust.iter_mut().for_each(Times::measure);
         self.closed.iter_mut().for_each(Times::measure);
         if !ours_first {
-            self.ask(partner)?;
             self.ours.measure();
         }
-        Ok(())
-    }
-
-    /// The partner once, if there is one and it has this row.
-    fn ask(&mut self, partner: &mut Option<Partner>) -> Result<(), String> {
-        if let Some(partner) = partner {
-            self.before.extend(partner.measure(&self.name)?);
+        if let Some(pair) = pair {
+            self.pairs.extend(pair.measure(&self.name, ours_first)?);
         }
         Ok(())
     }
@@ -61,7 +61,10 @@ impl Row<'_> {
             ours: self.ours.summary(),
             closed: self.closed.as_ref().map(Times::summary),
             rust: self.rust.as_ref().map(Times::summary),
-            before: (!self.before.is_empty()).then(|| Summary::of(self.before.clone())),
+            pair: (!self.pairs.is_empty()).then(|| {
+                let (before, ours) = self.pairs.iter().copied().unzip();
+                PairTimes { before: Summary::of(before), ours: Summary::of(ours) }
+            }),
         }
     }
 }
@@ -78,7 +81,7 @@ impl<'a> Rows<'a> {
             let outputs = slices.each_mut().map(Vec::as_mut_slice);
             assert_eq!(self.0.product(kind, p.slices(), q.slices(), outputs).answer.no, 0);
         });
-        Row { name: format!("build {name}"), ours: Times::new(ours), closed: None, rust, before: vec![] }
+        Row { name: format!("build {name}"), ours: Times::new(ours), closed: None, rust, pairs: vec![] }
     }
 
     fn test(self, test: Test, cell: Listing) -> Times<'a> {
@@ -88,7 +91,7 @@ impl<'a> Rows<'a> {
     fn valid(self, name: &str, cell: Listing) -> Row<'a> {
         let rust = rust::valid(&cell).map(Times::new);
         let ours = self.test(Test::IsValid, cell);
-        Row { name: format!("is_valid of {name}"), ours, closed: None, rust, before: vec![] }
+        Row { name: format!("is_valid of {name}"), ours, closed: None, rust, pairs: vec![] }
     }
 
     /// A search by all changes of a cell that is orientable and has so many flags.
@@ -103,7 +106,7 @@ impl<'a> Rows<'a> {
             let searched = self.0.search(cell.slices(), &first, mask, &mut table, &mut orientations);
             assert_eq!((searched.answer.no, usize::from(searched.count), searched.orientable), (0, flags, 1));
         });
-        Row { name: format!("search of {name}, {flags} flags"), ours: Times::new(ours), closed, rust, before: vec![] }
+        Row { name: format!("search of {name}, {flags} flags"), ours: Times::new(ours), closed, rust, pairs: vec![] }
     }
 
     /// A change at a rank of the first flag.
@@ -116,7 +119,7 @@ impl<'a> Rows<'a> {
             let changed = self.0.change(black_box(cell.slices()), &first, r);
             assert_eq!((changed.answer.no, changed.flag), (0, new));
         });
-        Row { name: format!("change of {name} at {r}"), ours: Times::new(ours), closed, rust, before: vec![] }
+        Row { name: format!("change of {name} at {r}"), ours: Times::new(ours), closed, rust, pairs: vec![] }
     }
 
     /// The test for one body, and in the Rust's place our own search by every change from the same flag. The answer is
@@ -139,7 +142,7 @@ impl<'a> Rows<'a> {
             assert_eq!((search.answer.no, search.count), (no, found));
         });
         let name = format!("one_body of {name}, {flags} flags");
-        Row { name, ours: Times::new(ours), closed: None, rust: Some(Times::new(search)), before: vec![] }
+        Row { name, ours: Times::new(ours), closed: None, rust: Some(Times::new(search)), pairs: vec![] }
     }
 
     /// Six times the volume of an orientable cell of rank 4 that has so many flags, and in the Rust's place our own
@@ -164,7 +167,7 @@ impl<'a> Rows<'a> {
             assert_eq!((search.answer.no, search.count, search.orientable), (0, flags, 1));
         });
         let name = format!("six_volume of {name}, {flags} flags");
-        Row { name, ours: Times::new(ours), closed: None, rust: Some(Times::new(search)), before: vec![] }
+        Row { name, ours: Times::new(ours), closed: None, rust: Some(Times::new(search)), pairs: vec![] }
     }
 
     /// The text of a cell read: by the library, and by the plain parser.
@@ -180,7 +183,7 @@ impl<'a> Rows<'a> {
             assert_eq!(self.0.read_text(black_box(&text), outputs).answer.no, 0);
         });
         let rust: Work<'a> = Box::new(move |bin| bin.push(Box::new(rust_read(black_box(&bytes)))));
-        Row { name, ours: Times::new(ours), closed: None, rust: Some(Times::new(rust)), before: vec![] }
+        Row { name, ours: Times::new(ours), closed: None, rust: Some(Times::new(rust)), pairs: vec![] }
     }
 
     /// The text of a closed cell tested.
@@ -188,7 +191,7 @@ impl<'a> Rows<'a> {
         let text = cell_texts::text(cell.slices());
         let ours: Work<'a> = Box::new(move |_| assert_eq!(self.0.check_text(black_box(&text)), 0));
         let closed = Some(self.test(Test::Closed, cell));
-        Row { name: format!("check_text of {name}"), ours: Times::new(ours), closed, rust: None, before: vec![] }
+        Row { name: format!("check_text of {name}"), ours: Times::new(ours), closed, rust: None, pairs: vec![] }
     }
 
     /// Texts: of a usual cell, and of cells of the same kind that become larger, up to about as long as a text can be.
@@ -287,9 +290,9 @@ impl<'a> Rows<'a> {
         vec![self.change("the 4-box", cells::cuboid(4), 2), self.change("duoprism(22-gon, 31-gon)", prism, 2)]
     }
 
-    /// The rows of all groups.
+    /// The rows of all groups, those that came later last: so an earlier program makes the others in the same order.
     pub fn all(self) -> Vec<Row<'a>> {
-        let beside_rust = [self.usual(), self.largest(), self.growth(), self.changes(), self.texts()];
-        beside_rust.into_iter().chain([self.bodies(), self.volumes()]).flatten().collect()
+        let groups = [self.usual(), self.largest(), self.growth(), self.texts(), self.bodies(), self.volumes()];
+        groups.into_iter().chain([self.changes()]).flatten().collect()
     }
 }
