@@ -13,8 +13,8 @@ ghost use Rattle.listing.specs.Listing.{held, limits};
 ghost use Rattle.flag.specs.Changed.{changeTest, changedOf};
 ghost use Rattle.flag.specs.Orientations.{byteOf, ofByte, flipOf, signOf};
 
-// What a change answers: a refusal or 0; the new flag, 0 above the top; and what was replaced, the index that the change
-// took out and the one that it put in.
+// What a change answers: a refusal or 0; the new flag, 0 above the top; and what was replaced, the index that the
+// change took out and the one that it put in.
 #[repr(C)]
 pub struct Changed {
     pub answer: Answer,

@@ -129,14 +129,11 @@ module _ {m : Limits} (L : Listing) (C : Closed m L) (r : ℕ) (p : 0 < r) (q : 
 
     pub back-put : replacedAt L r (changeAt L r f) .put ≡ replacedAt L r f .taken
     unfolding changeAt replacedAt
-    back-put =
-        rw (getD-set-same f r new 0 (omega (arith, F .one-each)), between-set L f r p q new) old-is
+    back-put = rw (getD-set-same f r new 0 (omega (arith, F .one-each)), between-set L f r p q new) old-is
 
     changed-back : changeAt L r (changeAt L r f) ≡ f
     unfolding changeAt replacedAt
-    changed-back =
-        rw (getD-set-same f r new 0 (omega (arith, F .one-each)), between-set L f r p q new, old-is, set-set f r)
-        (set-getD f r 0)
+    changed-back = ap (set (changeAt L r f) r) back-put ∙ set-set f r new (getD f r 0) ∙ set-getD f r 0
 
   module _ (f : List ℕ) (F : IsFlag L f) where
     changed-only : (g : List ℕ) → IsFlag L g → ChangedAt r f g → g ≡ changeAt L r f

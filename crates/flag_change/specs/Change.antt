@@ -10,8 +10,8 @@
 -- Changes     the flag's element at rank r is one of those between, and there is exactly one other; the change is a
 --             flag again, differs from it at rank r exactly, leads back when it is made again, and is the only flag
 --             that differs so
--- Replaces    x is the number of the flag f at rank r, y that of the flag g; they are the two elements between those of f
---             at the ranks r - 1 and r + 1
+-- Replaces    x is the number of the flag f at rank r, y that of the flag g; they are the two elements between those
+--             of f at the ranks r - 1 and r + 1
 -- HasUnder    element i of rank r exists, and has x directly under it
 -- padded      a flag in room for the most ranks, 0 above the top
 use mathlib.Core.Path.{_≡_}

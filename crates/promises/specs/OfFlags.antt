@@ -101,8 +101,8 @@ pub record FlagsAnswer : Type 0 where
   -- a change puts in the other of exactly two elements: the only flag that differs there; the same change leads back
   pub change-by-the-book : Says change.Post (λ a r x. r .answer .no ≡ 0
       → Changes (lent a) (flag a) (asked a) × (r .flag ≡ padded (changeAt (lent a) (asked a) (flag a))))
-  -- it says what it took out and what it put in: the flag's index and the new flag's at its rank, the two elements
-  -- between those next to it, which differ; no third lies between
+  -- it says what it took out and what it put in: the flag's index at its rank and the new flag's; these differ, lie
+  -- between the flag's elements one rank lower and one rank higher, and no third does
   pub change-replaces : Says change.Post (λ a r x. r .answer .no ≡ 0
       → Replaces (lent a) (flag a) (asked a) (r .flag) (r .taken) (r .put))
   -- right under the top they are, of all elements of the rank, the two that have the flag's element below directly
