@@ -66,7 +66,7 @@ unfolding changedAs
 change-twice m L f r e =
     let p = change-asked m L f r e in
     let g = changeAt L r f in
-    let C = changes L (p .0) r (p .2) (p .3) f (p .1) in
+    let C = the-change m L f r e in
     let z = change-exact m L g r .1 (p .0, C .is-flag, p .2, p .3) in
     rw (new-flag m L f r e, change-made m L f r e, ← changed-some m L g r z)
     (λ i. record {
