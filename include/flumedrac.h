@@ -1,6 +1,6 @@
 /*
- * Flumedrac: tests of cells, the four products, flag changes and the oriented flag search; cells read from a text; the
- * volume of a cell.
+ * Flumedrac: tests of cells, the four products, flag changes and the oriented flag search; cells read from a text and
+ * written as one; the volume of a cell.
  *
  * What is proved, for every input, are the contracts of the functions in crates/flumedrac: that they end, stay inside
  * the slices they are lent, and answer and write what the contracts say. This header says the same in words for C and
@@ -37,18 +37,19 @@
  * overlap no other slice of the call; slices that are only read may be the same. The caller sees to this: it cannot be
  * tested here.
  *
- * WRITING: on success the prefix of each slice that the returned lengths name is written and nothing else; of
- * fd_six_volume, which returns none, what fd_search writes. A refusal writes nothing at all, with these exceptions:
- * FD_MORE_FLAGS, FD_SEVERAL_PARTS, and the numbers from FD_NOT_RANK_FOUR on. See fd_search, fd_one_body, fd_six_volume.
+ * WRITING: on success the prefix of each slice that the returned lengths name is written and nothing else, so that the
+ * bytes behind a text stay as they were; of fd_six_volume, which returns no length, what fd_search writes. A refusal
+ * writes nothing at all, with these exceptions: FD_MORE_FLAGS, FD_SEVERAL_PARTS, and the numbers from FD_NOT_RANK_FOUR
+ * on. See fd_search, fd_one_body, fd_six_volume.
  *
  * What follows is no part of what is proved; it is so by the language and by the code as it stands. The language has
  * no heap and no global state: no function allocates, keeps a pointer or touches anything but its slices, and all may
  * run in several threads at once, as long as no slice that one writes is lent to another. On the stack fd_search takes
  * about 70 KB, of which 64 KB are two arrays, its index of the flags; fd_one_body takes 8 KB more, to count flags, and
  * fd_six_volume 8 KB more, for the lowest vertex of each face; a product about 25 KB, of which 24 KB are three arrays;
- * fd_is_dyadic, fd_is_valid, fd_closed and fd_change about 4 KB, the tally of the diamond; fd_read_text about 88 KB,
- * what it notes of the text, and fd_check_text about 170 KB, the listing that it reads besides; the others next to
- * nothing.
+ * fd_is_dyadic, fd_is_valid, fd_closed, fd_change and fd_write_text about 4 KB, the tally of the diamond; fd_read_text
+ * about 88 KB, what it notes of the text, and fd_check_text about 170 KB, the listing that it reads besides; the others
+ * next to nothing.
  */
 #ifndef FLUMEDRAC_H
 #define FLUMEDRAC_H
@@ -61,13 +62,14 @@ extern "C" {
 #endif
 
 /*
- * The release that this header belongs to, and its archive. In 0.2.0 fd_changed became longer, by taken and put: a
- * program that calls fd_change and was compiled with an earlier header must be compiled anew.
+ * The release that this header belongs to, and its archive. 0.3.0 adds fd_write_text, with fd_written, and
+ * FD_BYTES_SHORT; all else is as it was. In 0.2.0 fd_changed became longer, by taken and put: a program that calls
+ * fd_change and was compiled with a header before that one must be compiled anew.
  */
 #define FD_VERSION_MAJOR 0
-#define FD_VERSION_MINOR 2
+#define FD_VERSION_MINOR 3
 #define FD_VERSION_PATCH 0
-#define FD_VERSION "0.2.0"
+#define FD_VERSION "0.3.0"
 
 /* The limits. */
 #define FD_MAX_RANKS 16         /* numbers in counts: ranks 0 to 15 */
@@ -122,11 +124,12 @@ enum {
     FD_PRODUCT_INCIDENCES = 35, /* .. more than FD_MAX_INCIDENCES incidences */
     FD_OUTPUT_SHORT = 36,       /* one of the three slices for the product, or for what is read, is too short */
 
-    /* Text: see fd_read_text. */
-    FD_WRONG_KEY = 40,  /* a line does not begin with its key, or is not there */
-    FD_BAD_LINE = 41,   /* a line has a bad number, or no newline */
-    FD_LONG_TEXT = 42,  /* more than FD_MAX_TEXT bytes */
-    FD_MORE_BYTES = 43, /* bytes after the last line */
+    /* Text: see fd_read_text and fd_write_text. */
+    FD_WRONG_KEY = 40,   /* a line does not begin with its key, or is not there */
+    FD_BAD_LINE = 41,    /* a line has a bad number, or no newline */
+    FD_LONG_TEXT = 42,   /* more than FD_MAX_TEXT bytes, of a text that is read or that would be written */
+    FD_MORE_BYTES = 43,  /* bytes after the last line */
+    FD_BYTES_SHORT = 44, /* the byte slice is too short for the text that is to be written */
 
     /* Volumes: see fd_six_volume. */
     FD_NOT_RANK_FOUR = 50,     /* the rank is not 4 */
@@ -183,6 +186,12 @@ typedef struct {
     fd_answer answer;
     uint16_t counts, ends, inc;
 } fd_built;
+
+/* length: how many bytes of the text were written; 0 on a refusal. */
+typedef struct {
+    fd_answer answer;
+    size_t length;
+} fd_written;
 
 /* no is FD_ACCEPTED or a refusal's number; six is six times the volume, 0.0 on a refusal. */
 typedef struct {
@@ -381,6 +390,18 @@ fd_built fd_read_text(const uint8_t *text, size_t text_len, FD_OUTPUT);
  */
 uint16_t fd_check_text(const uint8_t *text, size_t text_len);
 
+/*
+ * The text of a closed listing, written to the front of text: the lines that fd_read_text reads, and no 0 after them.
+ * Sups are not written, since they follow from the subs. fd_read_text of the bytes written gives the same three slices;
+ * and where fd_read_text gave a closed listing, these are the bytes that it was read from.
+ *
+ * Refusals: those of fd_closed, with their fields; then FD_BYTES_SHORT if the text has more than text_len bytes; then
+ * FD_LONG_TEXT if it has more than FD_MAX_TEXT, since it could not be read. The fields of these two are 0. A slice of
+ * FD_MAX_TEXT bytes has room for every text that is ever written; a longer text is refused there as FD_BYTES_SHORT, and
+ * as FD_LONG_TEXT where it would fit.
+ */
+fd_written fd_write_text(FD_LISTING(), uint8_t *text, size_t text_len);
+
 #ifdef __cplusplus
 }
 #endif
@@ -428,6 +449,7 @@ FD_INLINE const char *fd_refusal_text(uint16_t no)
     case FD_BAD_LINE: return "a line of the text has a bad number, or does not end with a newline";
     case FD_LONG_TEXT: return "the text has more than 65,536 bytes";
     case FD_MORE_BYTES: return "the text goes on after its last line";
+    case FD_BYTES_SHORT: return "the byte slice is too short for the text";
     case FD_NOT_RANK_FOUR: return "the cell's rank is not 4";
     case FD_NOT_ORIENTABLE: return "the cell is not orientable";
     case FD_WRONG_COORDINATES: return "there are not three coordinates for each vertex";
@@ -556,6 +578,11 @@ FD_INLINE uint16_t fd_check_text_guarded(const uint8_t *text, size_t text_len)
     return fd_check_text(fd_lent_text(text, text_len), text_len);
 }
 
+FD_INLINE fd_written fd_write_text_guarded(FD_LISTING(), uint8_t *text, size_t text_len)
+{
+    return fd_write_text(FD_LENT_LISTING(), fd_lent_bytes(text, text_len), text_len);
+}
+
 #define fd_rank(...) fd_rank_guarded(__VA_ARGS__)
 #define fd_el_count(...) fd_el_count_guarded(__VA_ARGS__)
 #define fd_vertex_count(...) fd_vertex_count_guarded(__VA_ARGS__)
@@ -575,6 +602,7 @@ FD_INLINE uint16_t fd_check_text_guarded(const uint8_t *text, size_t text_len)
 #define fd_duocomb(...) fd_duocomb_guarded(__VA_ARGS__)
 #define fd_read_text(...) fd_read_text_guarded(__VA_ARGS__)
 #define fd_check_text(...) fd_check_text_guarded(__VA_ARGS__)
+#define fd_write_text(...) fd_write_text_guarded(__VA_ARGS__)
 
 #undef FD_INLINE
 #undef FD_LISTING

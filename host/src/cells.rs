@@ -190,3 +190,12 @@ pub fn flags(cell: &Listing, limit: usize) -> Vec<Vec<u16>> {
     let count = if searched.answer.no == 0 { searched.count as usize } else { limit };
     table.chunks(width).take(count).map(<[u16]>::to_vec).collect()
 }
+
+/// Two closed cells with long texts, each made of two with a vertex in common. The text of the first has just as many
+/// bytes as a text may have, that of the second one more.
+pub fn at_text_limit() -> [Listing; 2] {
+    let of_polygons = |kind, n, m| product(kind, &polygon(n), &polygon(m));
+    let prism = |n, m| of_polygons(Kind::Duoprism, n, m);
+    let both = |p: Listing, q: Listing| side_by_side(&p, &q, true);
+    [both(prism(28, 30), prism(6, 9)), both(prism(29, 30), of_polygons(Kind::Duotegum, 5, 5))]
+}

@@ -6,7 +6,7 @@
 
 use std::ptr;
 
-use flumedrac::ffi::{Answer, Built, Changed, Cursor, Event, Number, Searched, Volume};
+use flumedrac::ffi::{Answer, Built, Changed, Cursor, Event, Number, Searched, Volume, Written};
 use flumedrac::Slices;
 
 use crate::library::{Archive, Kind, Library, Outputs, Test};
@@ -253,6 +253,18 @@ impl Library for Guarded {
             unchanged(lent, text);
             no
         })
+    }
+
+    fn write_text(&self, l: Slices<'_>, text: &mut [u8]) -> Written {
+        let (written, new) = both(|at| {
+            let lent = self.listing(0, at, l);
+            let room = self.lend(3, at, text);
+            let written = Archive.write_text(lent, room);
+            unchanged(lent, l);
+            (written, room.to_vec())
+        });
+        text.copy_from_slice(&new);
+        written
     }
 }
 

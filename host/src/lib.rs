@@ -11,7 +11,7 @@ pub mod start;
 pub mod text;
 
 pub use guarded::Guarded;
-pub use library::{build, with_room, Archive, Kind, Library, Outputs, Test, ALL_ROOM};
+pub use library::{build, with_lengths, with_room, Archive, Kind, Library, Outputs, Test, ALL_ROOM};
 pub use model::{Break, Model};
 pub use question::{reply_to, Question, Reply};
 pub use random::Random;

@@ -1,6 +1,6 @@
 //! What a library answers, on lent slices.
 
-use flumedrac::ffi::{Answer, Built, Changed, Cursor, Event, Number, Searched, Volume};
+use flumedrac::ffi::{Answer, Built, Changed, Cursor, Event, Number, Searched, Volume, Written};
 use flumedrac::{raw, Listing, Slices, MAX_ELEMENTS, MAX_INCIDENCES, MAX_RANKS};
 
 use crate::Raw;
@@ -88,6 +88,7 @@ pub trait Library {
     fn product(&self, kind: Kind, p: Slices<'_>, q: Slices<'_>, outputs: Outputs<'_>) -> Built;
     fn read_text(&self, text: &[u8], outputs: Outputs<'_>) -> Built;
     fn check_text(&self, text: &[u8]) -> u16;
+    fn write_text(&self, l: Slices<'_>, text: &mut [u8]) -> Written;
 }
 
 /// Room for any listing.
@@ -95,7 +96,12 @@ pub const ALL_ROOM: [usize; 3] = [MAX_RANKS, 2 * MAX_ELEMENTS, MAX_INCIDENCES];
 
 /// What is written where there is room for any listing: the answer, and the slices as far as they were written.
 pub fn with_room(write: impl FnOnce(Outputs<'_>) -> Built) -> (Answer, Raw) {
-    let mut slices = ALL_ROOM.map(|length| vec![0; length]);
+    with_lengths(ALL_ROOM, write)
+}
+
+/// The same in slices of these lengths.
+pub fn with_lengths(room: [usize; 3], write: impl FnOnce(Outputs<'_>) -> Built) -> (Answer, Raw) {
+    let mut slices = room.map(|length| vec![0; length]);
     let built = write(slices.each_mut().map(Vec::as_mut_slice));
     for (slice, length) in slices.iter_mut().zip([built.counts, built.ends, built.inc]) {
         slice.truncate(length.into());
@@ -191,5 +197,9 @@ impl Library for Archive {
 
     fn check_text(&self, text: &[u8]) -> u16 {
         raw::check_text(text)
+    }
+
+    fn write_text(&self, l: Slices<'_>, text: &mut [u8]) -> Written {
+        raw::write_text(l, text)
     }
 }

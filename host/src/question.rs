@@ -1,6 +1,6 @@
 //! One question to a library, and its reply.
 
-use flumedrac::ffi::{Answer, Built, Cursor, Number, Searched, Volume};
+use flumedrac::ffi::{Answer, Built, Cursor, Number, Searched, Volume, Written};
 use flumedrac::{MAX_FLAGS, MAX_RANKS};
 
 use crate::library::{Kind, Library, Outputs, Test};
@@ -65,6 +65,11 @@ pub enum Question<L> {
         room: [usize; 3],
     },
     CheckText(Vec<u8>),
+    /// The text of a listing, with the length of the byte slice lent.
+    WriteText {
+        cell: L,
+        room: usize,
+    },
 }
 
 /// All that a library said: the numbers it returned and the slices it was lent, as they are afterwards.
@@ -78,7 +83,7 @@ pub struct Reply {
 
 /// What stands in a lent slice before a call.
 pub const FILL: u16 = 65535;
-/// What stands in lent orientations before a call.
+/// What stands in lent bytes before a call: in orientations, and where a text is to be written.
 pub const BYTE_FILL: u8 = 255;
 
 /// How many numbers stand on either side of a lent slice, to see whether it was left. They are odd in number, so that
@@ -112,6 +117,11 @@ fn words(length: usize) -> Lent<u16> {
 
 fn bytes(length: usize) -> Lent<u8> {
     Lent::new(length, BYTE_FILL, 0xA5)
+}
+
+/// Bytes as numbers of a reply.
+pub fn wide(bytes: &[u8]) -> Vec<u16> {
+    bytes.iter().map(|&byte| byte.into()).collect()
 }
 
 /// The numbers of an answer.
@@ -149,8 +159,7 @@ impl Reply {
         let (mut table, mut orientations) = (words(table), bytes(orientations));
         let numbers = ask(table.slice(), orientations.slice());
         let spilled = table.spilled() || orientations.spilled();
-        let wide = orientations.slice().iter().map(|&byte| byte.into()).collect();
-        Reply { numbers, slices: vec![table.slice().to_vec(), wide], spilled }
+        Reply { numbers, slices: vec![table.slice().to_vec(), wide(orientations.slice())], spilled }
     }
 
     /// What a search found, and the slices of these lengths that it was lent.
@@ -170,6 +179,15 @@ impl Reply {
         numbers.extend([built.counts, built.ends, built.inc].map(i64::from));
         let spilled = lent.iter().any(Lent::spilled);
         Reply { numbers, slices: lent.each_mut().map(|lent| lent.slice().to_vec()).to_vec(), spilled }
+    }
+
+    /// The length of a text that is written into so many bytes, and these.
+    fn written(room: usize, write: impl FnOnce(&mut [u8]) -> Written) -> Self {
+        let mut lent = bytes(room);
+        let written = write(lent.slice());
+        let numbers = [answer_numbers(written.answer), vec![written.length as i64]].concat();
+        let spilled = lent.spilled();
+        Reply { numbers, slices: vec![wide(lent.slice())], spilled }
     }
 }
 
@@ -193,6 +211,7 @@ impl<L: AsRef<Raw>> Question<L> {
             Question::Product { kind, .. } => kind.name(),
             Question::ReadText { .. } => "read_text",
             Question::CheckText(_) => "check_text",
+            Question::WriteText { .. } => "write_text",
         }
     }
 
@@ -236,33 +255,46 @@ impl<L: AsRef<Raw>> Question<L> {
             }
             Question::ReadText { text, room } => Reply::built(*room, |outputs| library.read_text(text, outputs)),
             Question::CheckText(text) => Reply::of(vec![library.check_text(text).into()]),
+            Question::WriteText { cell, room } => {
+                Reply::written(*room, |text| library.write_text(cell.as_ref().slices(), text))
+            }
         }
     }
 }
 
-/// What a library replies to a line: to a question or, after the word `tested`, to a product and then to is_valid and
-/// closed of the listing that it wrote, with the counts of that listing.
+/// What a library replies to a line: to a question; after the word `tested`, to a product and then to is_valid and
+/// closed of the listing that it wrote, with the counts of that listing; or after the word `written`, to a product and
+/// then to write_text of that listing, with room for as many bytes as the last number says.
 pub fn reply_to(line: &str, library: &dyn Library) -> Option<Reply> {
-    match line.strip_prefix("tested ") {
-        Some(product) => Some(tested(Question::read(product)?.ask(library), library)),
-        None => Some(Question::read(line)?.ask(library)),
+    if let Some(product) = line.strip_prefix("tested ") {
+        let product = Question::read(product)?.ask(library);
+        return Some(product_then(product, |cell| tested(cell, library)));
     }
+    if let Some((product, room)) = line.strip_prefix("written ").and_then(|rest| rest.rsplit_once(' ')) {
+        let (product, room) = (Question::read(product)?.ask(library), room.parse().ok()?);
+        return Some(product_then(product, |cell| Question::WriteText { cell, room }.ask(library)));
+    }
+    Some(Question::read(line)?.ask(library))
 }
 
-/// A product's reply, with the tests of the listing that it wrote in place of the slices.
-fn tested(product: Reply, library: &dyn Library) -> Reply {
-    let Reply { mut numbers, slices, spilled } = product;
-    let written: Vec<Vec<u16>> =
-        slices.iter().zip(&numbers[5..]).map(|(slice, &length)| slice[..length as usize].to_vec()).collect();
-    let [counts, ends, inc] = <[Vec<u16>; 3]>::try_from(written).expect("a product has three slices");
+/// A product's reply; where it was answered, what is said of the listing that it wrote stands in place of the slices.
+fn product_then(product: Reply, say: impl FnOnce(Raw) -> Reply) -> Reply {
+    let Reply { numbers, slices, spilled } = product;
     if numbers[0] != 0 {
         return Reply { numbers, slices: vec![], spilled };
     }
-    let cell = Raw { counts, ends, inc };
-    for test in [Test::IsValid, Test::Closed] {
-        numbers.extend(answer_numbers(library.test(test, cell.slices())));
-    }
-    Reply { numbers, slices: vec![cell.counts], spilled }
+    let written: Vec<Vec<u16>> =
+        slices.iter().zip(&numbers[5..]).map(|(slice, &length)| slice[..length as usize].to_vec()).collect();
+    let [counts, ends, inc] = <[Vec<u16>; 3]>::try_from(written).expect("a product has three slices");
+    let said = say(Raw { counts, ends, inc });
+    Reply { numbers: [numbers, said.numbers].concat(), slices: said.slices, spilled: spilled || said.spilled }
+}
+
+/// What is_valid and closed say of a listing, and its counts.
+fn tested(cell: Raw, library: &dyn Library) -> Reply {
+    let tests = [Test::IsValid, Test::Closed];
+    let numbers = tests.map(|test| answer_numbers(library.test(test, cell.slices()))).concat();
+    Reply { numbers, slices: vec![cell.counts], spilled: false }
 }
 
 /// 1 or -1 for these two signs, 0 for any other number.

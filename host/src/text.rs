@@ -124,6 +124,7 @@ impl<L: AsRef<Raw>> Display for Question<L> {
                 write!(f, "{} {counts} {ends} {inc}", Quoted(text))
             }
             Question::CheckText(text) => write!(f, "{}", Quoted(text)),
+            Question::WriteText { cell, room } => write!(f, "{} {room}", cell.as_ref()),
         }
     }
 }
@@ -280,6 +281,7 @@ impl Question<Raw> {
             "events" => Question::Events { cell: words.raw()?, first: words.list()?, mask: words.number()? },
             "read_text" => Question::ReadText { text: words.bytes()?, room: words.room()? },
             "check_text" => Question::CheckText(words.bytes()?),
+            "write_text" => Question::WriteText { cell: words.raw()?, room: words.number()? },
             _ => match (Test::ALL.iter().find(|t| t.name() == name), Kind::ALL.iter().find(|k| k.name() == name)) {
                 (Some(test), _) => Question::Test(*test, words.raw()?),
                 (_, Some(kind)) => {
@@ -335,6 +337,7 @@ mod tests {
             Question::Product { kind: Kind::Duoprism, p: cell(), q: Raw::default(), room: [0, 1, 2] },
             Question::ReadText { text: b"rank=0\ncount=1\nsubs=\n".to_vec(), room: [1, 2, 0] },
             Question::CheckText((0..=255).chain(*b"\\x41 \"\n\"").collect()),
+            Question::WriteText { cell: cell(), room: 100 },
         ];
         for question in questions {
             let text = question.to_string();

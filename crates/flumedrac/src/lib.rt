@@ -8,6 +8,7 @@ use listing::Number;
 use search::Searched;
 use search_events::Cursor;
 use search_events::Said;
+use text::Written;
 use volume::Measured;
 ghost use mathlib.Core.Path.{_≡_};
 ghost use mathlib.Core.Bool.{true, false};
@@ -15,11 +16,14 @@ ghost use lib.ListN.{length};
 ghost use Rattle.listing.specs.Refusals.{band, bandNo};
 ghost use Rattle.listing_shape.specs.Counts.{rankOf, elCountOf, vertexCountOf, facetCountOf};
 ghost use Rattle.listing.specs.Listing.{held, limits};
+ghost use Rattle.listing.specs.Layers.{layers};
 ghost use Rattle.listing_outputs.specs.Output.{Made};
 ghost use Rattle.valid.specs.Tests as tests;
 ghost use Rattle.product.specs.Outcome.{Outcome};
+ghost use Rattle.text_theory.specs.Text.{textOf};
 ghost use Rattle.text_theory.specs.Said.{listingIn};
 ghost use Rattle.text.specs.Texts.{readTest, checkTest};
+ghost use Rattle.text.specs.WrittenTexts.{writeTest, TextMade};
 ghost use Rattle.flag.specs.Changed.{changedOf};
 ghost use Rattle.search_events.specs.Events.{SaidStep};
 ghost use Rattle.flag.specs.Orientations.{ofByte, signOf};
@@ -338,4 +342,19 @@ pub extern "C" fn fd_check_text(text: &[u8]) -> u16
     ensures { λ r. ⌜ r ≡ checkTest limits (now (text .entry)) .no ⌝ }
 {
     text::check_text(text)
+}
+
+// Writes the last slice, which overlaps no other slice that is lent here.
+#[no_mangle]
+pub extern "C" fn fd_write_text(
+    counts: &[Index],
+    ends: &[Index],
+    inc: &[Index],
+    text: &mut [u8],
+) -> Written
+    ensures { λ r. ⌜ TextMade
+        (writeTest limits (held (counts .entry) (ends .entry) (inc .entry)) (length (now (text .entry))))
+        (textOf (layers (held (counts .entry) (ends .entry) (inc .entry)))) (now (text .entry)) (now (text .exit)) r ⌝ }
+{
+    text::write_text(counts, ends, inc, text)
 }

@@ -1,12 +1,15 @@
--- Numbers written at a place: nothing yet, one more, one part after another, and a list of them.
+-- Numbers written at a place: nothing yet, one more, one part after another, and a list of them; a list with a number in
+-- front, and one at the very beginning.
 -- Assumes nothing.
 use mathlib.Core.Path.{_≡_, refl, sym, ap, _∙_}
-use mathlib.Core.List.{List, _++_}
-use Prim.Native.Nat.{ℕ, _+_, _-_, _<_}
+use mathlib.Core.List.{List, [], _∷_, _++_}
+use Prim.Native.Nat.{ℕ, zero, suc, _+_, _-_, _≤_, _<_}
 use native.Mathlib.Decide.{decLt}
 use native.Mathlib.Omega.{arith}
-use lib.ListN.{length, getD, set, length-append, length-set, List·getD-append}
+use lib.ListN.{length, getD, take, set, length-append, length-set, List·getD-append}
 use lib.Seq.{ext-getD, getD-set-same, getD-set-other, getD-append-add}
+use Rattle.order.specs.Lists.{over}
+use Rattle.order.proofs.Over.{over-first, over-numbers}
 use Rattle.listing.specs.Laid.{Laid, LaidList}
 
 module _ (at : ℕ) (f : ℕ → ℕ) where
@@ -98,3 +101,37 @@ module _ (at : ℕ) (d d′ : List ℕ) where
       rw (length-append s t)
       (laid-then at (length s) (length t) _ _ _ d d′ d″ l k (λ j h. List·getD-append s t 0 j h)
       (λ j h. getD-append-add s t j 0))
+
+  -- a number in front of a list that stands there
+  module _ (s : List ℕ) (y : ℕ) (h : at < length d) (l : LaidList (at + 1) s d d′) where
+    front-inside : (j : ℕ) → j < suc (length s) → getD (set d′ at y) (at + j) 0 ≡ getD (y ∷ s) j 0
+    front-inside zero k =
+        let e : at + 0 ≡ at = omega arith in
+        rw e (getD-set-same d′ at y 0 (omega (arith, l .same-length)))
+    front-inside (suc j) k =
+        let e : at + suc j ≡ at + 1 + j = omega arith in
+        rw e (getD-set-other d′ at (at + 1 + j) y 0 (omega arith) ∙ l .inside j (omega arith))
+
+    pub list-before : LaidList at (y ∷ s) d (set d′ at y)
+    list-before = record {
+      same-length = length-set d′ at y ∙ l .same-length;
+      inside = front-inside;
+      earlier = λ p k. getD-set-other d′ at p y 0 (omega arith) ∙ l .earlier p (omega arith);
+      later = λ p k. getD-set-other d′ at p y 0 (omega arith) ∙ l .later p (omega arith);
+    }
+
+-- one number behind a list
+pub list-one : (at x : ℕ) (d : List ℕ) → at < length d → LaidList at (x ∷ []) d (set d at x)
+list-one at x d h = laid-list at d (set d at x) (x ∷ []) (λ j. x) 1 refl one (laid-one at x d h)
+  where
+    one : (j : ℕ) → j < 1 → x ≡ getD (x ∷ []) j 0
+    one zero k = refl
+    one (suc j) k = absurd (omega arith)
+
+-- a list at the very beginning
+pub list-over : (new old d : List ℕ) → length new ≤ length old → LaidList 0 new old d → d ≡ over new old
+list-over new old d h l =
+    over-numbers new old d (l .same-length) h (laid-at _ (length new) old d l) (λ p a. l .later p (omega arith))
+
+pub take-over : (new old d : List ℕ) → length new ≤ length old → LaidList 0 new old d → take (length new) d ≡ new
+take-over new old d h l = rw (list-over new old d h l) (over-first new old _ refl)

@@ -2,10 +2,12 @@ pub mod Answers
 pub mod Listing
 pub mod Elements
 pub mod Places
+pub mod Entries
 pub mod ShapeExact
 pub mod Sequences
 pub mod Layers
 pub mod Written
+pub mod Own
 pub mod Broken
 pub mod Among
 pub mod ShapeBroken

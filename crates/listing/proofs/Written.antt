@@ -5,11 +5,12 @@ use mathlib.Core.Path.{_≡_, refl, sym, ap, _∙_}
 use mathlib.Core.List.{List, [], _∷_, _++_, append-assoc, append-nil}
 use Prim.Native.Nat.{ℕ, zero, suc, _+_, _-_, _*_, _/_, _%_, _≤_, _<_}
 use native.Mathlib.Decide.{decLt}
+use native.Mathlib.Numerals.{add-one}
 use native.Mathlib.Omega.{arith}
 use lib.ListN.{length, getD, take, drop, length-append, List·getD-append, List·getD-eq-default}
 use lib.Seq.{take-at, drop-at, getD-at, getD-append-add}
 use Rattle.order.specs.Sums.{sum, partAt}
-use Rattle.order.proofs.Sums.{sum-lt, sum-same, part-ok, part-at}
+use Rattle.order.proofs.Sums.{sum-le, sum-lt, sum-same, part-ok, part-at}
 use Rattle.listing.specs.Listing.{Limits, rank, count, before, start, entries, side, subs, sups}
 use Rattle.listing.specs.Shape.{elements, Shaped}
 use Rattle.listing.specs.Layers.{Layers, Topped}
@@ -44,6 +45,24 @@ module _ (f : ℕ → List ℕ) where
       rw (s .1, drop-at (joined f i) (f i ++ s .0) (sum (lengths f) i) (joined-length i))
       (take-at (f i) (s .0) (length (f i)) refl)
 
+  pub joined-next : (n : ℕ) → joined f (n + 1) ≡ joined f n ++ f n
+  unfolding joined
+  joined-next n = rw add-one
+
+  -- the first a of them, and b behind
+  pub joined-add : (a b : ℕ) → joined f (a + b) ≡ joined f a ++ joined (λ i. f (a + i)) b
+  unfolding joined
+  joined-add a zero =
+      let z : a + 0 ≡ a = omega arith in
+      rw z (sym (append-nil (joined f a)))
+  joined-add a (suc b) =
+      let e : a + suc b ≡ suc (a + b) = omega arith in
+      ap (joined f) e ∙ ap (λ (s : List ℕ). s ++ f (a + b)) (joined-add a b)
+      ∙ append-assoc (joined f a) (joined (λ i. f (a + i)) b) (f (a + b))
+
+  pub joined-le : (i n : ℕ) → i ≤ n → length (joined f i) ≤ length (joined f n)
+  joined-le i n h = omega (arith, joined-length i, joined-length n, sum-le (lengths f) i n h)
+
 -- a number of the tth list
 pub joined-at : (f : ℕ → List ℕ) (n t j : ℕ) → t < n → j < length (f t)
     → getD (joined f n) (sum (lengths f) t + j) 0 ≡ getD (f t) j 0
@@ -56,6 +75,26 @@ pub joined-same : (f g : ℕ → List ℕ) (n : ℕ) → ((i : ℕ) → i < n �
 unfolding joined
 joined-same f g zero h = refl
 joined-same f g (suc n) h = rw (joined-same f g n (λ i l. h i (omega arith)), h n (omega arith))
+
+-- the first of them, and those behind
+pub joined-first : (f : ℕ → List ℕ) (n : ℕ) → joined f (suc n) ≡ f 0 ++ joined (λ i. f (suc i)) n
+unfolding joined
+joined-first f n =
+    let e : suc n ≡ 1 + n = omega arith in
+    ap (joined f) e ∙ joined-add f 1 n
+    ∙ ap (λ (s : List ℕ). f 0 ++ s) (joined-same _ _ n (λ i h. ap f (omega arith)))
+
+-- lists that fall into parts, part after part: the first r of n parts
+pub joined-parts : (g : ℕ × ℕ → List ℕ) (size : ℕ → ℕ) (n r : ℕ) → r ≤ n
+    → joined (λ k. g (partAt size n k)) (sum size r) ≡ joined (λ q. joined (λ i. g (q, i)) (size q)) r
+unfolding joined sum
+joined-parts g size n zero h = refl
+joined-parts g size n (suc r) h =
+    joined-add (λ k. g (partAt size n k)) (sum size r) (size r)
+    ∙ (λ t. joined-parts g size n r (omega arith) t ++ last t)
+  where
+    last : joined (λ i. g (partAt size n (sum size r + i))) (size r) ≡ joined (λ i. g (r, i)) (size r)
+    last = joined-same _ _ (size r) (λ i l. ap g (part-at size n r i (omega arith) l))
 
 -- ---- numbers one after another
 

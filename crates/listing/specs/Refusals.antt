@@ -21,6 +21,7 @@
 -- productIncidences, outputShort         too many incidences; an output slice that is too short
 -- wrongKey, badLine                      of a text: a line that does not begin with its key; else not as it is written
 -- longText, moreBytes                    a text that is too long; one that goes on after its last line
+-- bytesShort                             a byte slice that is too short for a text
 -- notRankFour, notOrientable             of a volume: a cell of another rank than 4; one that is not orientable
 -- wrongCoordinates, notInMetres          not three coordinates for each vertex; one that is not whole, or out of range
 -- within                                 whether a number lies from one number to another, both counted in
@@ -130,6 +131,9 @@ longText = 42
 
 abbrev pub moreBytes : ℕ
 moreBytes = 43
+
+abbrev pub bytesShort : ℕ
+bytesShort = 44
 
 -- volumes
 abbrev pub notRankFour : ℕ

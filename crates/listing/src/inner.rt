@@ -4,7 +4,7 @@ use crate::Answer;
 use crate::Index;
 ghost use mathlib.Core.Path.{_≡_};
 ghost use Prim.Native.Nat.{_+_, _*_, _≤_, _<_};
-ghost use lib.ListN.{length, getD};
+ghost use lib.ListN.{length, getD, take};
 ghost use Rattle.listing.specs.Answers.{refusal};
 ghost use Rattle.listing.specs.Listing.{width, before, start, entries, Ends};
 
@@ -26,6 +26,16 @@ pub fn plain(no: u16) -> Answer
         c: 0,
         d: 0,
     }
+}
+
+// The first n numbers of a slice; all where it has fewer.
+pub fn front<'a>(list: &'a [Index], n: usize) -> &'a [Index]
+    ensures { λ r. ⌜ now r ≡ take n (now (list .entry)) ⌝ }
+{
+    if list.len() < n {
+        return list;
+    }
+    &list[0..n]
 }
 
 // The number of elements of a rank: 0 for a rank that is not there.

@@ -67,6 +67,8 @@ pub const LONG_TEXT: u16 = 42;
 
 pub const MORE_BYTES: u16 = 43;
 
+pub const BYTES_SHORT: u16 = 44;
+
 // Volumes.
 pub const NOT_RANK_FOUR: u16 = 50;
 

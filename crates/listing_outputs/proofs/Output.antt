@@ -73,6 +73,16 @@ answer-is t R r e = ap (λ (b : Built). b .answer) e ∙ go (t .no)
     go zero = refl
     go (suc n) = refl
 
+-- ---- what a slice holds
+
+pub after-refused : (t : Answer) → (t .no ≡ 0 → ⊥) → (new old : List ℕ) → old ≡ after t new old
+unfolding after
+after-refused t h new old = sym (if-not (t .no) _ _ h)
+
+pub after-full : (t : Answer) → t .no ≡ 0 → (new old : List ℕ) → after t new old ≡ over new old
+unfolding after
+after-full t z new old = rw z
+
 -- ---- at a refusal
 
 module _ (t : Answer) (R : Listing) (h : t .no ≡ 0 → ⊥) where
@@ -80,16 +90,12 @@ module _ (t : Answer) (R : Listing) (h : t .no ≡ 0 → ⊥) where
   unfolding builtOf
   built-refused = if-not (t .no) _ _ h
 
-  after-refused : (new old : List ℕ) → old ≡ after t new old
-  unfolding after
-  after-refused new old = sym (if-not (t .no) _ _ h)
-
   pub made-refused : (test : Answer) → t ≡ test → (old : Listing) (r : Built) → r ≡ builtOf t R → Made test R old old r
   made-refused test q old r e = rw (← q) (record {
     answer = e;
-    counts = after-refused (R .counts) (old .counts);
-    ends = after-refused (R .ends) (old .ends);
-    inc = after-refused (R .inc) (old .inc);
+    counts = after-refused t h (R .counts) (old .counts);
+    ends = after-refused t h (R .ends) (old .ends);
+    inc = after-refused t h (R .inc) (old .inc);
   })
 
 -- ---- where there is none
@@ -104,12 +110,8 @@ module _ (t : Answer) (R : Listing) (z : t .no ≡ 0) where
       → record { answer = t; counts = n .counts; ends = n .ends; inc = n .inc } ≡ builtOf t R
   built-need n e = rw e (sym built-full)
 
-  after-full : (new old : List ℕ) → after t new old ≡ over new old
-  unfolding after
-  after-full new old = rw z
-
   after-written : (new old old′ : List ℕ) → old′ ≡ over new old → old′ ≡ after t new old
-  after-written new old old′ e = e ∙ sym (after-full new old)
+  after-written new old old′ e = e ∙ sym (after-full t z new old)
 
   pub made-written : (test : Answer) → t ≡ test → (old new : Listing) (r : Built) → r ≡ builtOf t R
       → new .counts ≡ over (R .counts) (old .counts) → new .ends ≡ over (R .ends) (old .ends)
@@ -123,7 +125,7 @@ module _ (t : Answer) (R : Listing) (z : t .no ≡ 0) where
 
 -- ---- taken apart
 
-over-front : (new old : List ℕ) {n : ℕ} {l : List ℕ} → (n ≡ length new) × (l ≡ over new old) → take n l ≡ new
+pub over-front : (new old : List ℕ) {n : ℕ} {l : List ℕ} → (n ≡ length new) × (l ≡ over new old) → take n l ≡ new
 over-front new old e = rw (e .0, e .1) (over-first new old _ refl)
 
 module _ {t : Answer} {R old new : Listing} {r : Built} (d : Made t R old new r) where
@@ -135,7 +137,7 @@ module _ {t : Answer} {R old new : Listing} {r : Built} (d : Made t R old new r)
   made-untouched h =
       let k = stops made-answer h in
       let e = d .answer ∙ built-refused t R k in
-      let s = after-refused t R k in
+      let s = after-refused t k in
       let c = d .counts ∙ sym (s (R .counts) (old .counts)) in
       let n = d .ends ∙ sym (s (R .ends) (old .ends)) in
       let i = d .inc ∙ sym (s (R .inc) (old .inc)) in
@@ -152,7 +154,7 @@ module _ {t : Answer} {R old new : Listing} {r : Built} (d : Made t R old new r)
     made-wrote =
         let k = no-of made-answer z in
         let e = d .answer ∙ built-full t R k in
-        let w = after-full t R k in
+        let w = after-full t k in
         record {
           counts = (ap (λ (b : Built). b .counts) e, d .counts ∙ w (R .counts) (old .counts));
           ends = (ap (λ (b : Built). b .ends) e, d .ends ∙ w (R .ends) (old .ends));

@@ -4,6 +4,5 @@ pub mod Strewing
 pub mod Gathering
 pub mod SupsFilled
 pub mod Laying
-pub mod Over
 pub mod Whole
 pub mod Unfilled

@@ -6,13 +6,14 @@ use Prim.Native.Nat.{ℕ, suc, _+_, _-_, _*_, _≤_, _<_}
 use native.Mathlib.Decide.{decLt, ℕ-discrete}
 use native.Mathlib.Numerals.{add-one}
 use native.Mathlib.Omega.{arith}
-use lib.ListN.{length, getD, set, take, drop, length-set, length-take, length-drop}
+use lib.ListN.{length, getD, set, take, length-set, length-take}
 use lib.Seq.{take-suc, getD-set-same, getD-set-other}
 use Rattle.order.specs.Lists.{occurs}
 use Rattle.order.specs.Sums.{sum}
 use Rattle.order.proofs.Lists.{occurs-append, occurs-le, occurs-own, occurs-apart}
 use Rattle.order.proofs.Sums.{sum-next}
 use Rattle.listing.specs.Listing.{width, start, entries, Ends}
+use Rattle.listing.proofs.Entries.{entries-length}
 use Rattle.listing_sups.specs.Sups.{subsAt, Raised}
 
 -- ---- occurrences
@@ -107,18 +108,6 @@ module _ (ends inc : List ℕ) where
       raised-then from n _ _ _ up up′ up″ r s
       (λ y. sum-next (λ b. occurs y (subsAt ends inc here b)) a
       ∙ ap (λ (v : List ℕ). sum (λ b. occurs y (subsAt ends inc here b)) a + occurs y v) l)
-
-entries-length : (ends inc : List ℕ) → Ends ends inc → (k : ℕ) → k < length ends
-    → start ends k + length (entries ends inc k) ≡ getD ends k 0
-unfolding entries
-entries-length ends inc good k h =
-    omega (
-      arith,
-      length-take (getD ends k 0 - start ends k) (drop (start ends k) inc),
-      length-drop (start ends k) inc,
-      good .inside k h,
-      good .rising k h,
-    )
 
 -- the subs of an element end before those of the next begin
 next-start : (ends inc : List ℕ) → Ends ends inc → (e : ℕ) → 2 * e + 1 < length ends

@@ -11,9 +11,9 @@ use Rattle.listing.specs.Listing.{Listing, listing, width, limits}
 use Rattle.listing.specs.Layers.{Layers, Topped, derived}
 use Rattle.listing.specs.Laid.{LaidList}
 use Rattle.listing.specs.Written.{nth, written}
+use Rattle.listing.proofs.Laying.{list-over, take-over}
 use Rattle.listing_sups.specs.Sups.{Fillable, SupsFilled}
 use Rattle.listing_sups.specs.Filling.{starts, ElementsLaid}
-use Rattle.listing_sups.proofs.Over.{list-over, take-over}
 use Rattle.listing_sups.proofs.Whole.{whole-fillable, whole-ends, whole-inc}
 
 -- what is written before the sups are filled in: k counts, and n elements

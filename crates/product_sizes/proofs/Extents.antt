@@ -5,10 +5,10 @@ use mathlib.Core.Bool.{Bool}
 use mathlib.Core.List.{List}
 use Prim.Native.Nat.{ℕ, suc, _+_, _-_, _*_, _≤_, _<_}
 use native.Mathlib.Omega.{arith}
-use lib.ListN.{length, getD, drop, length-take, length-drop}
+use lib.ListN.{length, getD}
 use Rattle.order.specs.Sums.{sum}
 use Rattle.order.proofs.Sums.{sum-same, sum-first}
-use Rattle.listing.specs.Listing.{Listing, limits, before, start, entries}
+use Rattle.listing.specs.Listing.{Listing, limits, before, entries}
 use Rattle.listing.specs.Shape.{elements}
 use Rattle.listing.specs.Layers.{Layers, layers}
 use Rattle.listing.proofs.Listing.{before-zero, before-all, count-le}
@@ -30,15 +30,6 @@ use Rattle.product_sizes.proofs.Parts.{usable-shaped, in-use-length, in
 -- ---- lists, one after another
 
 module _ (ends inc : List ℕ) where
-  pub entries-few : (k : ℕ) → length (entries ends inc k) ≤ length inc
-  unfolding entries
-  entries-few k =
-      omega (
-        arith,
-        length-take (getD ends k 0 - start ends k) (drop (start ends k) inc),
-        length-drop (start ends k) inc,
-      )
-
   pub listed-none : (from : ℕ) → 0 ≡ sum (λ k. length (entries ends inc (2 * (from + k)))) (from - from)
   unfolding sum
   listed-none from =

@@ -1,3 +1,4 @@
 pub mod Read
 pub mod TextNumbers
 pub mod TextsBroken
+pub mod WrittenTexts

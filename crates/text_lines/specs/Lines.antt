@@ -14,7 +14,7 @@ use lib.ListN.{length, drop}
 use Rattle.listing.specs.declared.Answer.{Answer}
 use Rattle.listing.specs.Listing.{width}
 use Rattle.listing.specs.Answers.{plain}
-use Rattle.text_theory.specs.Text.{rankKey, countKey, subsKey}
+use Rattle.text_theory.specs.Text.{line, rankKey, countKey, subsKey}
 use Rattle.text_theory.specs.Said.{afterLine, valuesFrom, formTest}
 use Rattle.text_theory.specs.Digits.{goodRow}
 use Rattle.text_lines.specs.declared.lines.Term.{Term}
@@ -23,7 +23,7 @@ abbrev pub Key : List ℕ → Type 0
 Key key = (key ≡ rankKey) ⊎ ((key ≡ countKey) ⊎ (key ≡ subsKey))
 
 abbrev pub formOf : List ℕ → List ℕ → List ℕ → Answer
-formOf key numbers t = formTest (record { key = key; numbers = numbers }) t
+formOf key numbers t = formTest (line key numbers) t
 
 pub record LineRead (t : List ℕ) (at : ℕ) (key numbers : List ℕ) (no next : ℕ) : Type 0 where
   pub test : formOf key numbers (drop at t) ≡ plain no

@@ -4,6 +4,7 @@ pub mod Lines
 pub mod Marks
 pub mod Reading
 pub mod Spots
+pub mod ByRank
 pub mod Incidences
 pub mod Alike
 pub mod Runs

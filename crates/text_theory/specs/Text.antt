@@ -9,12 +9,14 @@
 -- parted           numbers, each with a comma before it
 -- commas           numbers parted by commas
 -- Line             a line: its key and its numbers
+-- line             a line of a key and numbers
 -- lineBytes        a line as it is written
 -- rankKey          `rank=`, the key of the first line
 -- countKey         `count=`, that of a line that tells how many elements a rank has
 -- subsKey          `subs=`, that of an element's line
 -- linesIn          how many lines a rank has: one for its count, and one for each element
 -- lineOf           line i of those of rank r
+-- rankBytes        all lines of rank r as they are written
 -- spot             the rank that line k + 1 belongs to, and its place there, of which place 0 is the count
 -- lineAt           line k of layers; line 0 is the rank
 -- lineCount        how many lines layers have
@@ -59,6 +61,9 @@ pub record Line : Type 0 where
   pub key : List ℕ
   pub numbers : List ℕ
 
+abbrev pub line : List ℕ → List ℕ → Line
+line k n = record { key = k; numbers = n }
+
 unfoldable pub lineBytes : Line → List ℕ
 lineBytes l = l .key ++ (commas (l .numbers) ++ (newline ∷ []))
 
@@ -75,14 +80,17 @@ abbrev pub linesIn : Layers → ℕ → ℕ
 linesIn M r = suc (M .size r)
 
 unfoldable pub lineOf : Layers → ℕ × ℕ → Line
-lineOf M (r, zero) = record { key = countKey; numbers = M .size r ∷ [] }
-lineOf M (r, suc i) = record { key = subsKey; numbers = M .under r i }
+lineOf M (r, zero) = line countKey (M .size r ∷ [])
+lineOf M (r, suc i) = line subsKey (M .under r i)
+
+unfoldable pub rankBytes : Layers → ℕ → List ℕ
+rankBytes M r = joined (λ i. lineBytes (lineOf M (r, i))) (linesIn M r)
 
 unfoldable pub spot : Layers → ℕ → ℕ × ℕ
 spot M k = partAt (linesIn M) (suc (M .top)) k
 
 unfoldable pub lineAt : Layers → ℕ → Line
-lineAt M zero = record { key = rankKey; numbers = M .top ∷ [] }
+lineAt M zero = line rankKey (M .top ∷ [])
 lineAt M (suc k) = lineOf M (spot M k)
 
 unfoldable pub lineCount : Layers → ℕ

@@ -1,10 +1,10 @@
 // Cells that are made as products of others.
 use crate::row;
-use crate::slice;
 use crate::table;
 use crate::table::Name;
 use listing::Built;
 use listing::Index;
+use listing::inner;
 use listing::limit;
 use product::make;
 
@@ -21,9 +21,9 @@ fn written(name: Name, b: Built, counts: &[Index], ends: &[Index], inc: &[Index]
     }
     row::show(
         name,
-        slice::front(counts, b.counts as usize),
-        slice::front(ends, b.ends as usize),
-        slice::front(inc, b.inc as usize),
+        inner::front(counts, b.counts as usize),
+        inner::front(ends, b.ends as usize),
+        inner::front(inc, b.inc as usize),
     );
 }
 

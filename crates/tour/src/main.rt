@@ -2,7 +2,6 @@
 mod made;
 mod names;
 mod row;
-mod slice;
 mod table;
 
 use listing::Index;
@@ -19,7 +18,7 @@ use tour_cells::triangle;
 use tour_cells::twice_listed;
 use tour_cells::two_minimal;
 use tour_cells::whole_box;
-use tour_words::print;
+use words::print;
 
 // Each cell has a function of its own: a function with many constants is slow to check.
 

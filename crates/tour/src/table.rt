@@ -2,10 +2,10 @@
 use listing::Answer;
 use listing::Index;
 use listing::inner;
-use tour_words::print::blank;
-use tour_words::print::end;
-use tour_words::print::number;
-use tour_words::print::text;
+use words::print::blank;
+use words::print::end;
+use words::print::number;
+use words::print::text;
 
 // The name of a row, as wide as its column.
 pub type Name = [u8; 30];
@@ -66,7 +66,7 @@ pub fn row(name: Name, counts: &[Index], verdict: u16, count: u16, orientable: u
     elements(counts);
     valid(verdict);
     flags(count, orientable);
-    tour_words::verdict(body, counts);
+    words::verdict(body, counts);
     end();
 }
 
@@ -74,6 +74,6 @@ pub fn row(name: Name, counts: &[Index], verdict: u16, count: u16, orientable: u
 pub fn refused(name: Name, a: Answer) {
     text(&name);
     text(b"  -              -             -  -           ");
-    tour_words::answer(a, 0);
+    words::answer(a, 0);
     end();
 }

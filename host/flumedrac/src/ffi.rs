@@ -73,6 +73,16 @@ pub struct Built {
     pub inc: u16,
 }
 
+/// How long a text is that was written; 0 on a refusal. `fd_written` in C.
+#[repr(C)]
+#[derive(Clone, Copy, Debug, Default, PartialEq, Eq)]
+pub struct Written {
+    /// Whether the writing was refused.
+    pub answer: Answer,
+    /// How many bytes were written.
+    pub length: usize,
+}
+
 /// Six times the volume of a cell, or a refusal's number. `fd_volume` in C.
 #[repr(C)]
 #[derive(Clone, Copy, Debug, Default, PartialEq)]
@@ -173,6 +183,12 @@ macro_rules! functions {
 
             /// `fd_check_text` in C: the number of what refuses a text, or the listing in it as closed.
             pub fn fd_check_text(text: *const u8, text_len: usize) -> u16;
+
+            /// `fd_write_text` in C: the text of a closed listing.
+            pub fn fd_write_text(
+                counts: *const u16, counts_len: usize, ends: *const u16, ends_len: usize,
+                inc: *const u16, inc_len: usize, text: *mut u8, text_len: usize,
+            ) -> Written;
         }
     };
 }

@@ -3,7 +3,7 @@
 //! Any slices of any length may be given. Each function is called as in `include/flumedrac.h`, where its numbers are
 //! explained; the rest of this package says the same in Rust's words.
 
-use crate::ffi::{self, Answer, Built, Changed, Cursor, Event, Number, Searched, Volume};
+use crate::ffi::{self, Answer, Built, Changed, Cursor, Event, Number, Searched, Volume, Written};
 use crate::Slices;
 
 /// The functions that look at counts alone.
@@ -165,4 +165,16 @@ pub fn read_text(text: &[u8], counts: &mut [u16], ends: &mut [u16], inc: &mut [u
 pub fn check_text(text: &[u8]) -> u16 {
     // Safety: a slice is its pointer and its length.
     unsafe { ffi::fd_check_text(text.as_ptr(), text.len()) }
+}
+
+/// What `fd_write_text` answers, with the text in front of the bytes lent; those behind it stay as they were.
+#[rustfmt::skip]
+pub fn write_text(l: Slices<'_>, text: &mut [u8]) -> Written {
+    // Safety: each slice is its pointer and its length; the one lent to be written overlaps no other.
+    unsafe {
+        ffi::fd_write_text(
+            l.counts.as_ptr(), l.counts.len(), l.ends.as_ptr(), l.ends.len(), l.inc.as_ptr(), l.inc.len(),
+            text.as_mut_ptr(), text.len(),
+        )
+    }
 }

@@ -169,10 +169,12 @@ pub enum Refusal {
     WrongKey,
     /// 41: a line of a text has a bad number, or does not end with a newline.
     BadLine,
-    /// 42: a text has more bytes than [`MAX_TEXT`](crate::MAX_TEXT).
+    /// 42: a text has more bytes than [`MAX_TEXT`](crate::MAX_TEXT), or would have if it were written.
     LongText,
     /// 43: a text goes on after its last line.
     MoreBytes,
+    /// 44: the bytes lent for a text are too few.
+    BytesShort,
     /// 50: a volume is asked of a cell whose rank is not 4.
     NotRankFour,
     /// 51: a volume is asked of a cell that is not orientable.
@@ -225,6 +227,7 @@ impl Refusal {
             BadLine => 41,
             LongText => 42,
             MoreBytes => 43,
+            BytesShort => 44,
             NotRankFour => 50,
             NotOrientable => 51,
             WrongCoordinates => 52,
@@ -291,6 +294,7 @@ impl Refusal {
             41 => BadLine,
             42 => LongText,
             43 => MoreBytes,
+            44 => BytesShort,
             50 => NotRankFour,
             51 => NotOrientable,
             52 => WrongCoordinates,
@@ -362,6 +366,7 @@ impl fmt::Display for Refusal {
             BadLine => write!(f, "a line of the text has a bad number, or does not end with a newline"),
             LongText => write!(f, "the text has more than 65,536 bytes"),
             MoreBytes => write!(f, "the text goes on after its last line"),
+            BytesShort => write!(f, "the byte slice is too short for the text"),
             NotRankFour => write!(f, "the cell's rank is not 4"),
             NotOrientable => write!(f, "the cell is not orientable"),
             WrongCoordinates => write!(f, "there are not three coordinates for each vertex"),
@@ -390,7 +395,7 @@ mod tests {
             assert_eq!(refusal.number(), no);
             assert_eq!(refusal.class() as u16, crate::raw::class(no));
             let known = !matches!(refusal, Unknown { .. });
-            assert_eq!(known, matches!(no, 1..=6 | 10..=22 | 25 | 30..=36 | 40..=43 | 50..=53));
+            assert_eq!(known, matches!(no, 1..=6 | 10..=22 | 25 | 30..=36 | 40..=44 | 50..=53));
             if known {
                 assert!(seen.insert(refusal.to_string()), "{refusal} is said twice");
             }

@@ -65,6 +65,7 @@ int main(void)
     printf("%d %d ", fd_read_text(NO_TEXT, NO_OUTPUT).answer.no, fd_read_text(text, 15, NO_OUTPUT).answer.no);
     printf("%d %d %d %d ", read.answer.no, read.counts, read.ends, read.inc);
     printf("%d %d\n", fd_check_text(NO_TEXT), fd_check_text(text, 15));
+    printf("%d %d\n", fd_write_text(NOTHING, NO_BYTES).answer.no, fd_write_text(NULLITOPE, NO_BYTES).answer.no);
     printf("%d %d\n", closed(counts, 1, ends, 2, ends, 0).no, (fd_closed)(counts, 1, ends, 2, ends, 0).no);
     return 0;
 }

@@ -10,7 +10,8 @@ use std::path::{Path, PathBuf};
 use std::process::Command;
 
 use flumedrac::ffi::*;
-use flumedrac::{Listing, Refusal, MAX_ELEMENTS, MAX_FLAGS, MAX_INCIDENCES, MAX_METRES, MAX_RANKS, MAX_TEXT};
+use flumedrac::{duoprism, Listing, Refusal};
+use flumedrac::{MAX_ELEMENTS, MAX_FLAGS, MAX_INCIDENCES, MAX_METRES, MAX_RANKS, MAX_TEXT};
 
 /// The languages that the header is for: the words that choose one, and the variable and usual name of its compiler.
 const C99: Language = Language { standard: "-std=c99", kind: "c", variable: "CC", usual: "cc" };
@@ -121,6 +122,7 @@ fn expected() -> Vec<(String, usize)> {
     layout!("fd_changed" Changed answer flag taken put);
     layout!("fd_searched" Searched answer count place orientable);
     layout!("fd_built" Built answer counts ends inc);
+    layout!("fd_written" Written answer length);
     layout!("fd_volume" Volume no six);
     layout!("fd_cursor" Cursor at);
     layout!("fd_event" Event kind flag);
@@ -152,6 +154,15 @@ fn changed_is_as_fixed() {
     let lines = printed("changed", &format!("    printf(\"%zu %zu %zu\\n\", {of_c});"));
     assert_eq!(lines, ["46 42 44"]);
     assert_eq!([size_of::<Changed>(), offset_of!(Changed, taken), offset_of!(Changed, put)], [46, 42, 44]);
+}
+
+/// What is written of a text is answered as was fixed: 24 bytes, the length the last eight of them.
+#[test]
+#[cfg(target_pointer_width = "64")]
+fn written_is_as_fixed() {
+    let lines = printed("written", "    printf(\"%zu %zu\\n\", sizeof(fd_written), offsetof(fd_written, length));");
+    assert_eq!(lines, ["24 16"]);
+    assert_eq!([size_of::<Written>(), offset_of!(Written, length)], [24, 16]);
 }
 
 /// The header and this package are of one release.
@@ -229,7 +240,8 @@ fn empty_slices_from_c_and_cpp() {
     for language in [C99, C11, CPP11, CPP17] {
         let (calls, stubs) = (own("tests/empty.c"), own("tests/stubs.c"));
         let said = language.prints(&calls, archive());
-        let numbers = "1 1 1 1\n1 0 1 0 1 0 1 0 1 0\n1 20 1 22 1 22 1 22\n36 36 30 0 1 2 0\n40 36 0 1 0 0 40 10\n0 0\n";
+        let numbers = "1 1 1 1\n1 0 1 0 1 0 1 0 1 0\n1 20 1 22 1 22 1 22\n36 36 30 0 1 2 0\n\
+                       40 36 0 1 0 0 40 10\n1 44\n0 0\n";
         assert_eq!(said, numbers, "{}", language.standard);
         let given = language.prints(&calls, &stubs);
         assert!(given.split_whitespace().all(|number| number == "0"), "{}: {given}", language.standard);
@@ -264,6 +276,15 @@ fn examples_in_c() {
         "check_text: 18, only one element lies between two that are two ranks apart\n\
          read_text: 5 ranks, 15 elements, 56 incidences\n\
          closed: edge 3 lies in only one face\n"
+    );
+    let prism = duoprism(&Listing::polygon(3).expect("a triangle"), &Listing::dyad()).expect("a prism");
+    assert_eq!(
+        C99.prints(&own("examples/write.c"), archive()),
+        "duoprism: nothing is refused\n\
+         write_text to 100 bytes: the byte slice is too short for the text (44)\n\
+         write_text: 252 bytes\n"
+            .to_owned()
+            + &prism.write_text().expect("a closed cell has a text")
     );
     assert_eq!(
         C99.prints(&own("examples/body.c"), archive()),

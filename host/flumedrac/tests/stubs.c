@@ -104,3 +104,10 @@ uint16_t(fd_check_text)(SLICE(const uint8_t, text))
 {
     return said(NO_POINTER(text)).no;
 }
+
+fd_written(fd_write_text)(LISTING(), SLICE(uint8_t, text))
+{
+    fd_written written = {{0, 0, 0, 0, 0}, 0};
+    written.answer = said(NO_LISTING() || NO_POINTER(text));
+    return written;
+}

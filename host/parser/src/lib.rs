@@ -1,9 +1,14 @@
 //! A reader of texts as one would write it in Rust, to measure beside the library's: one pass over the bytes, then the
-//! sups from the subs. It refuses what the library refuses, and proves nothing.
+//! sups from the subs. It refuses what the library refuses, and proves nothing. `writer` has the other way, a writer of
+//! texts.
 //!
 //! It is a package of its own so that it is built as programs usually are: without checks of its sums.
 
+mod writer;
+
 use flumedrac::{MAX_ELEMENTS, MAX_INCIDENCES, MAX_RANKS, MAX_TEXT};
+
+pub use writer::write;
 
 /// Counts, ends and inc.
 pub type Slices = [Vec<u16>; 3];

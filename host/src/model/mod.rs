@@ -2,7 +2,7 @@
 //!
 //! It is there to try the harness: without faults it must agree with the Rust files everywhere, and with any one of the
 //! faults in [`Break`] it must be caught. Here are the model, its faults, the counts and the classes; `tests`, `flags`,
-//! `bodies`, `volumes`, `products` and `texts` have the rest.
+//! `bodies`, `volumes`, `products`, `texts` and `writing` have the rest.
 
 mod bodies;
 mod flags;
@@ -10,8 +10,9 @@ mod products;
 mod tests;
 mod texts;
 mod volumes;
+mod writing;
 
-use flumedrac::ffi::{Answer, Built, Changed, Cursor, Event, Number, Searched, Volume};
+use flumedrac::ffi::{Answer, Built, Changed, Cursor, Event, Number, Searched, Volume, Written};
 use flumedrac::Slices;
 
 use crate::library::{Kind, Library, Outputs, Test};
@@ -347,6 +348,38 @@ breaks! {
     CheckByValid "check-by-is-valid",
     /// A text that can be read is closed.
     CheckReadsOnly "check-reads-only",
+    /// A text is written if is_valid accepts the listing.
+    WritingByValid "writing-by-is-valid",
+    /// Writing drops the fields of what closed refuses.
+    WritingNoFields "writing-without-fields",
+    /// Where there is no room at all, 44 comes before what closed refuses.
+    ShortFirst "44-before-closed",
+    /// 42 comes before 44.
+    LongBeforeShort "42-before-44",
+    /// 44 is not asked: what fits is written.
+    ShortFree "44-not-asked",
+    /// Bytes that the text just fits into are too few.
+    ExactRefused "44-at-exact-room",
+    /// 42 is not asked of a text that is written.
+    LongWritten "42-not-asked",
+    /// A text of 65,536 bytes is not written.
+    WrittenOneLess "written-one-less",
+    /// A refusal of a text writes a byte.
+    RefusedWrites "refused-writes",
+    /// Beside 44 stands how many bytes there are.
+    RefusedLength "refused-length",
+    /// Numbers from 10 are written with a 0 in front.
+    ZeroWritten "zero-written",
+    /// A blank is written after each comma.
+    BlankWritten "blank-written",
+    /// The last newline is not written.
+    NewlineNotWritten "newline-not-written",
+    /// Sups are written in place of subs.
+    SupsWritten "sups-written",
+    /// The length of what was written is one less.
+    LengthOneLess "length-one-less",
+    /// The byte behind a text is changed.
+    WritesBehind "writes-behind",
 }
 
 /// The model, right or with one fault.
@@ -492,5 +525,9 @@ impl Library for Model {
 
     fn check_text(&self, text: &[u8]) -> u16 {
         self.answer_check(text)
+    }
+
+    fn write_text(&self, l: Slices<'_>, text: &mut [u8]) -> Written {
+        self.answer_writing(l, text)
     }
 }

@@ -1,8 +1,8 @@
-//! What is measured: a row for each piece of work, in seven groups.
+//! What is measured: a row for each piece of work, in eight groups.
 
 use std::hint::black_box;
 
-use flumedrac::{Listing, MAX_FLAGS};
+use flumedrac::{Listing, Slices, MAX_FLAGS, MAX_TEXT};
 use flumedrac_trial::{cell_texts, cells, Kind, Library, Model, Test, ALL_ROOM};
 
 use crate::partner::Pair;
@@ -205,6 +205,57 @@ impl<'a> Rows<'a> {
         usual.into_iter().chain([11, 15, 21, 29].map(prism)).collect()
     }
 
+    /// The text of a closed cell written into bytes that are there, beside `write!` into a new `Vec`, which asks for no
+    /// closed cell; and how long the text is.
+    fn write(self, name: &str, cell: Listing) -> (usize, Row<'a>) {
+        let text = plain_parser::write(cell.slices());
+        let (length, closed) = (text.len(), Some(self.test(Test::Closed, cell.clone())));
+        let mut bytes = vec![0; MAX_TEXT];
+        assert_eq!(self.0.write_text(cell.slices(), &mut bytes).length, length);
+        assert_eq!(bytes[..length], text);
+        let other = cell.clone();
+        let ours: Work<'a> = Box::new(move |_| {
+            assert_eq!(self.0.write_text(black_box(cell.slices()), black_box(&mut bytes)).length, length);
+        });
+        let rust: Work<'a> = Box::new(move |bin| bin.push(Box::new(plain_parser::write(black_box(other.slices())))));
+        let name = format!("write {name}, {length} bytes");
+        (length, Row { name, ours: Times::new(ours), closed, rust: Some(Times::new(rust)), pairs: vec![] })
+    }
+
+    /// A text read and then written from what was read; beside the plain parser and `write!`.
+    fn round(self, name: &str, cell: Listing) -> (usize, Row<'a>) {
+        let text = plain_parser::write(cell.slices());
+        let (length, closed) = (text.len(), Some(self.test(Test::Closed, cell)));
+        let (mut slices, mut bytes) = (ALL_ROOM.map(|length| vec![0; length]), vec![0; MAX_TEXT]);
+        let other = text.clone();
+        let ours: Work<'a> = Box::new(move |_| {
+            let built = self.0.read_text(black_box(&text), slices.each_mut().map(Vec::as_mut_slice));
+            let [counts, ends, inc] = &slices;
+            let counts = &counts[..built.counts.into()];
+            let cell = Slices { counts, ends: &ends[..built.ends.into()], inc: &inc[..built.inc.into()] };
+            assert_eq!(self.0.write_text(cell, black_box(&mut bytes)).length, length);
+        });
+        let rust: Work<'a> = Box::new(move |bin| {
+            let [counts, ends, inc] = plain_parser::read(black_box(&other)).expect("a text that can be read");
+            bin.push(Box::new(plain_parser::write(Slices { counts: &counts, ends: &ends, inc: &inc })));
+        });
+        let name = format!("read and write {name}, {length} bytes");
+        (length, Row { name, ours: Times::new(ours), closed, rust: Some(Times::new(rust)), pairs: vec![] })
+    }
+
+    /// Texts written: of a usual cell, and of cells of the same kind that become larger, up to about as long as a text
+    /// can be; then texts read and written. Beside each row stands how many bytes its text has.
+    pub fn writing(self) -> Vec<(usize, Row<'a>)> {
+        let prism = |n, m| cells::product(Kind::Duoprism, &cells::polygon(n), &cells::polygon(m));
+        let name = |n, m| format!("duoprism({n}-gon, {m}-gon)");
+        let growing = [(11, 11), (15, 15), (21, 21), (29, 29)];
+        let cube = cells::product(Kind::Duoprism, &cells::polygon(4), &Listing::dyad());
+        let mut rows = vec![self.write("the box", cube)];
+        rows.extend(growing.iter().chain(&[(28, 32)]).map(|&(n, m)| self.write(&name(n, m), prism(n, m))));
+        rows.extend(growing.map(|(n, m)| self.round(&name(n, m), prism(n, m))));
+        rows
+    }
+
     /// The test for one body: of usual cells, and of cells at the limits. Of the last one it is refused.
     pub fn bodies(self) -> Vec<Row<'a>> {
         let (polygon, dyad) = (cells::polygon, Listing::dyad());
@@ -293,6 +344,7 @@ impl<'a> Rows<'a> {
     /// The rows of all groups, those that came later last: so an earlier program makes the others in the same order.
     pub fn all(self) -> Vec<Row<'a>> {
         let groups = [self.usual(), self.largest(), self.growth(), self.texts(), self.bodies(), self.volumes()];
-        groups.into_iter().chain([self.changes()]).flatten().collect()
+        let written = self.writing().into_iter().map(|(_, row)| row).collect();
+        groups.into_iter().chain([self.changes(), written]).flatten().collect()
     }
 }

@@ -1,8 +1,8 @@
 //! What a library has to reply: by the Rust files where they decide, by a plain condition where they do not.
 
-use flumedrac::{MAX_ELEMENTS, MAX_FLAGS, MAX_INCIDENCES, MAX_RANKS};
-use flumedrac_trial::question::{answer_numbers, changed_numbers, BYTE_FILL, FILL};
-use flumedrac_trial::{Kind, Question, Raw, Reply, Test};
+use flumedrac::{MAX_ELEMENTS, MAX_FLAGS, MAX_INCIDENCES, MAX_RANKS, MAX_TEXT};
+use flumedrac_trial::question::{answer_numbers, changed_numbers, wide, BYTE_FILL, FILL};
+use flumedrac_trial::{cell_texts, Kind, Question, Raw, Reply, Test};
 
 use crate::oracle::{self, Cell, Event, Product};
 use crate::plain;
@@ -53,6 +53,7 @@ pub fn judge(question: &Question<&Subject>) -> Judged<Reply> {
         Question::Product { kind, p, q, room } => product(*kind, p, q, *room),
         Question::ReadText { text, room } => Ok((read_text(text, *room), By::Plain)),
         Question::CheckText(text) => Ok((Reply::of(vec![check_text(text)?.into()]), By::Plain)),
+        Question::WriteText { cell, room } => Ok((write_text(cell, *room)?, By::Plain)),
     }
 }
 
@@ -231,6 +232,26 @@ fn check_text(text: &[u8]) -> Result<u16, Doubt> {
         Ok(read) => Ok(Subject::from(read).test(Test::Closed)?.0.no),
         Err(no) => Ok(no),
     }
+}
+
+/// What the closed test refuses; else the text in front of the bytes, where it fits and is not too long.
+fn write_text(cell: &Subject, room: usize) -> Result<Reply, Doubt> {
+    let (mut answer, _) = cell.test(Test::Closed)?;
+    let mut bytes = vec![BYTE_FILL; room];
+    let mut length = 0;
+    if answer.no == 0 {
+        let text = cell_texts::text(cell.raw.slices());
+        match text.len() {
+            long if long > room => answer = refusal(44),
+            long if long > MAX_TEXT => answer = refusal(42),
+            fits => {
+                bytes[..fits].copy_from_slice(&text);
+                length = fits as i64;
+            }
+        }
+    }
+    let numbers = [answer_numbers(answer), vec![length]].concat();
+    Ok(Reply { numbers, slices: vec![wide(&bytes)], spilled: false })
 }
 
 fn product(kind: Kind, p: &Subject, q: &Subject, room: [usize; 3]) -> Judged<Reply> {

@@ -18,6 +18,7 @@ mod parts;
 mod plain;
 mod reading;
 mod replay;
+mod rounds;
 mod run;
 mod subject;
 mod supply;
@@ -31,6 +32,7 @@ use flumedrac_trial::{limit_memory, misused, Archive, Break, Guarded, Library, M
 
 use inputs::Scale;
 use replay::Replay;
+use rounds::Rounds;
 use run::Run;
 
 struct Options {
@@ -105,6 +107,10 @@ fn compare(library: &dyn Library, name: &str, options: &Options) -> ExitCode {
     if let (Some(file), Some(replay)) = (&options.replay, run.replay) {
         std::fs::write(file, replay.text(options.seed)).expect("the replay list can be written");
     }
+    let Rounds { texts, read, closed_texts, listings, closed, over } = run.rounds;
+    println!("\nround trips of texts: {texts}, of which {read} are read, {closed_texts} of these closed");
+    println!("round trips of listings: {listings}, of which {closed} are closed, {over} of these with too long a text");
+    println!("of them all, {} did not come back", run.tally.of_kinds(&run::ROUNDS));
     let (rust, plain) = run.tally.compared();
     let differences = run.tally.differences();
     println!("\n{rust} comparisons with the Rust, {plain} with plain conditions, {differences} differences");

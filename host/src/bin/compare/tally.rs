@@ -55,6 +55,11 @@ impl Tally {
         self.differences.values().map(|(count, _)| count).sum()
     }
 
+    /// How many differences are of one of these kinds.
+    pub fn of_kinds(&self, kinds: &[&'static str]) -> u64 {
+        kinds.iter().filter_map(|kind| self.differences.get(kind)).map(|(count, _)| count).sum()
+    }
+
     /// The smallest difference of each kind, the smallest of all first.
     pub fn smallest(&self) -> Vec<(&'static str, &Difference)> {
         let of_kind = self.differences.iter().map(|(kind, (_, difference))| (*kind, difference));

@@ -71,6 +71,26 @@ pub fn all_damaged(text: &[u8]) -> Vec<Vec<u8>> {
     bytes.chain(lines).chain(number_places(text).into_iter().flat_map(number)).chain(longer).collect()
 }
 
+/// A text with a small edit, after which it can most often still be read: a number made one more or one less, or
+/// another number of the text in its place, or the number twice; or a line exchanged with the next.
+pub fn edited(text: &[u8], random: &mut Random) -> Vec<u8> {
+    let places = number_places(text);
+    if places.is_empty() || random.once_in(5) {
+        let at = random.below(lines(text).len());
+        return line_changed(text, at)[2].clone();
+    }
+    let (place, other) = (random.pick(&places).clone(), random.pick(&places).clone());
+    let digits = &text[place.clone()];
+    let number: u64 = std::str::from_utf8(digits).ok().and_then(|digits| digits.parse().ok()).unwrap_or(0);
+    let new = match random.below(4) {
+        0 => (number + 1).to_string().into_bytes(),
+        1 => number.saturating_sub(1).to_string().into_bytes(),
+        2 => text[other].to_vec(),
+        _ => [digits, b",", digits].concat(),
+    };
+    replaced(text, place, &new)
+}
+
 /// A text with one thing changed in it.
 pub fn damaged(text: &[u8], random: &mut Random) -> Vec<u8> {
     let places = number_places(text);

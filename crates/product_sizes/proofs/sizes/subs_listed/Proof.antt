@@ -8,7 +8,8 @@ use borrow.Author.Needs.{needs}
 use lib.ListN.{length}
 use Rattle.order.specs.Sums.{sum}
 use Rattle.listing.specs.Listing.{limits, entries}
-use Rattle.product_sizes.proofs.Extents.{entries-few, listed-none, listed-next}
+use Rattle.listing.proofs.Entries.{entries-few}
+use Rattle.product_sizes.proofs.Extents.{listed-none, listed-next}
 use Rattle.product_sizes.proofs.sizes.subs_listed.Statement.{statement}
 use Rattle.product_sizes.proofs.sizes.subs_listed.Tie as tie
 

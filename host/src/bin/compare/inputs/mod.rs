@@ -7,6 +7,7 @@ mod fixed;
 mod small;
 mod texts;
 mod volumes;
+mod writing;
 
 use std::collections::BTreeSet;
 
@@ -25,6 +26,7 @@ use fixed::{limits, listings_to_try, shapes};
 use small::{counts, numbers, small_listings, small_relations, small_slices};
 use texts::{cell_texts, damaged_texts, text_limits, texts_to_try};
 use volumes::{damaged_volumes, volumes_at_limits, volumes_of_cells, volumes_to_try};
+use writing::{damaged_writings, edited_texts, writings_at_limits, writings_of_cells, writings_to_try};
 
 /// How much is asked.
 #[derive(Clone, Copy)]
@@ -50,6 +52,7 @@ pub fn all(run: &mut Run<'_>, scale: Scale, seed: u64) -> Go {
     run.choose(false);
     run.part("one body: cells to try", bodies_to_try)?;
     run.part("volumes: cells to try", volumes_to_try)?;
+    run.part("writing: cells to try", writings_to_try)?;
     run.part("numbers, classes, events", numbers)?;
     run.part("counts", |run| counts(run, random))?;
     run.part("slices of every length around the limits", shapes)?;
@@ -77,18 +80,26 @@ pub fn all(run: &mut Run<'_>, scale: Scale, seed: u64) -> Go {
     let drawn = &mut Random::new(seed);
     run.part("volumes: cells, moved, mirrored, side by side", |run| volumes_of_cells(run, drawn, scale.rounds / 200))?;
     run.part("volumes: damaged cells", |run| damaged_volumes(run, drawn, scale.rounds / 10))?;
-    run.part("volumes: at the limits", |run| volumes_at_limits(run, drawn))
+    run.part("volumes: at the limits", |run| volumes_at_limits(run, drawn))?;
+    let drawn = &mut Random::new(seed);
+    run.part("writing: cells, side by side, and products", |run| writings_of_cells(run, drawn))?;
+    run.part("writing: damaged cells", |run| damaged_writings(run, drawn, scale.rounds / 10))?;
+    run.part("writing: at the limits", |run| writings_at_limits(run, drawn))?;
+    run.part("writing: texts of cells, edited, and random texts", |run| edited_texts(run, drawn, scale.rounds / 2))
 }
 
+/// The tests of any slices; and these are sent round.
 fn tests(run: &mut Run<'_>, cell: &Subject) -> Go {
-    Test::ALL.iter().try_for_each(|&test| run.ask(Question::Test(test, cell)))
+    Test::ALL.iter().try_for_each(|&test| run.ask(Question::Test(test, cell)))?;
+    run.listing_round(cell.as_ref())
 }
 
-/// Whether any slices are one body, and what their volume is, with a little room.
+/// Whether any slices are one body, what their volume is, and what their text is, with a little room.
 fn little_room(run: &mut Run<'_>, cell: &Subject) -> Go {
     run.ask(Question::OneBody { cell, table: 40, orientations: 9 })?;
     let first = vec![0; cell.as_ref().counts.len()];
-    run.ask(Question::SixVolume { cell, first, coordinates: vec![1.0; 6], table: 40, orientations: 9 })
+    run.ask(Question::SixVolume { cell, first, coordinates: vec![1.0; 6], table: 40, orientations: 9 })?;
+    run.ask(Question::WriteText { cell, room: 90 })
 }
 
 /// Whether a closed cell is one body, with room around the flags that a search reaches, and around all.
@@ -128,7 +139,8 @@ fn rooms(size: [usize; 3]) -> Vec<[usize; 3]> {
     rooms
 }
 
-/// A product with all room, and if it is answered with exactly its room, one number less of each, none, and one more.
+/// A product with all room, and if it is answered with exactly its room, one number less of each, none, and one more;
+/// what is built is sent round.
 fn room_for_product(run: &mut Run<'_>, kind: Kind, p: &Subject, q: &Subject) -> Result<Option<Raw>, Caught> {
     let ask = |room| Question::Product { kind, p, q, room };
     run.ask(ask(ALL_ROOM))?;
@@ -142,5 +154,7 @@ fn room_for_product(run: &mut Run<'_>, kind: Kind, p: &Subject, q: &Subject) -> 
     let size = [5, 6, 7].map(|at| reply.numbers[at] as usize);
     rooms(size).into_iter().try_for_each(|room| run.ask(ask(room)))?;
     let [counts, ends, inc] = [0, 1, 2].map(|at| reply.slices[at][..size[at]].to_vec());
-    Ok(Some(Raw { counts, ends, inc }))
+    let built = Raw { counts, ends, inc };
+    run.listing_round(&built)?;
+    Ok(Some(built))
 }

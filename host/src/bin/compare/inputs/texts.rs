@@ -12,7 +12,7 @@ use crate::text_damage::{all_damaged, damaged, numbers, BYTES};
 
 use super::rooms;
 
-/// A text read into slices of all sorts of lengths, and tested.
+/// A text read into slices of all sorts of lengths, tested, and sent round.
 fn ask(run: &mut Run<'_>, text: Vec<u8>) -> Go {
     let rooms = match reading(&text) {
         Ok(Raw { counts, ends, inc }) => rooms([counts.len(), ends.len(), inc.len()]),
@@ -21,7 +21,8 @@ fn ask(run: &mut Run<'_>, text: Vec<u8>) -> Go {
     for room in rooms {
         run.ask(Question::ReadText { text: text.clone(), room })?;
     }
-    run.ask(Question::CheckText(text))
+    run.ask(Question::CheckText(text.clone()))?;
+    run.text_round(&text)
 }
 
 /// The same, and with room for any listing.
@@ -44,7 +45,7 @@ pub(super) fn texts_to_try(run: &mut Run<'_>) -> Go {
 }
 
 /// The listings whose texts are taken, products among them; sups as they follow from subs, or not.
-fn listings() -> Vec<Raw> {
+pub(super) fn listings() -> Vec<Raw> {
     let catalogue = catalogue();
     let small = &catalogue[..14];
     let mut listings: Vec<Raw> = catalogue.iter().cloned().map(Raw::from).collect();
@@ -68,7 +69,7 @@ pub(super) fn cell_texts(run: &mut Run<'_>, random: &mut Random) -> Go {
 }
 
 /// A text of the right form, with small numbers.
-fn random_text(random: &mut Random) -> Vec<u8> {
+pub(super) fn random_text(random: &mut Random) -> Vec<u8> {
     let rank = random.below(5);
     let mut text = format!("rank={rank}\n");
     for r in 0..=rank {
@@ -84,7 +85,7 @@ fn random_text(random: &mut Random) -> Vec<u8> {
 }
 
 /// Parts of texts one after another, as they come.
-fn random_parts(random: &mut Random) -> Vec<u8> {
+pub(super) fn random_parts(random: &mut Random) -> Vec<u8> {
     let parts = ["rank=", "count=", "subs=", "\n", ",", "0", "1", "2", "rank=0\n", "count=1\n", "count=0\n", "subs=\n"];
     let part = |random: &mut Random| match random.below(8) {
         0 => random.pick(&numbers()).as_bytes().to_vec(),

@@ -6,8 +6,8 @@ use Prim.Native.Nat.{_≤_}
 use lib.ListN.{length}
 use lib.Seq.{take-all}
 use borrow.Author.Needs.{needs}
-use Rattle.tour.proofs.slice.front.Statement.{statement}
-use Rattle.tour.proofs.slice.front.Tie as tie
+use Rattle.listing.proofs.inner.front.Statement.{statement}
+use Rattle.listing.proofs.inner.front.Tie as tie
 
 returns : tie.Need-returns
 returns c = let h : length (c .before .args .list .now) ≤ c .before .args .n = omega arith in sym (take-all _ _ h)

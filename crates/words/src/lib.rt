@@ -2,6 +2,7 @@
 // function here prints, and returns nothing.
 mod element;
 pub mod print;
+mod sentence;
 
 use listing::Answer;
 use listing::Index;
@@ -81,19 +82,9 @@ fn not_ascending(a: Answer) {
     text(b" do not ascend");
 }
 
-// A refusal that is not of the structure of a listing.
-fn other(no: u16) {
-    if no == refusal::COMB_OF_POINT {
-        text(b"not built: a duocomb of a point");
-    } else if no == refusal::SEVERAL_PARTS {
-        text(b"closed, but in separate parts");
-    } else {
-        text(b"refused");
-    }
-}
-
-// A refusal of a listing of rank top. Each number has an arm of its own: arms for two are slower to check.
-fn refusal(a: Answer, top: usize) {
+// A refusal, of a listing of rank top where it is one of its structure. Each number has an arm of its own: arms for two
+// are slower to check.
+pub fn refusal(a: Answer, top: usize) {
     let no = a.no;
     match no {
         refusal::NOT_BOUNDED => ends(a),
@@ -106,7 +97,7 @@ fn refusal(a: Answer, top: usize) {
         refusal::THIRD_BETWEEN => section(a, top),
         refusal::LONE_BETWEEN => section(a, top),
         refusal::NOT_ASCENDING => not_ascending(a),
-        _ => other(no),
+        _ => sentence::of(no),
     }
 }
 

@@ -1,0 +1,5 @@
+pub mod Numbers
+pub mod Putting
+pub mod Rows
+pub mod Parts
+pub mod Ranks
