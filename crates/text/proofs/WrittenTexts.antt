@@ -9,10 +9,11 @@ use native.Mathlib.Omega.{arith}
 use borrow.Author.Tests.{lt-ltb, le-ltb}
 use lib.ListN.{length, take}
 use Rattle.order.specs.Lists.{In, over}
+use Rattle.order.specs.Sums.{sum}
 use Rattle.listing.specs.declared.Answer.{Answer}
 use Rattle.listing.specs.Refusals.{bytesShort, longText}
 use Rattle.listing.specs.Answers.{plain, fine, _orElse_}
-use Rattle.listing.specs.Listing.{Listing, Limits, limits, count}
+use Rattle.listing.specs.Listing.{Listing, Limits, limits, rank, count, before}
 use Rattle.listing.specs.Layers.{layers}
 use Rattle.listing.specs.Rules.{FirstBroken}
 use Rattle.listing.proofs.Answers.{or-fine, or-stop, or-no, no-or, no-of, stops, if-not}
@@ -65,7 +66,7 @@ module _ (m : Limits) (L : Listing) (room : ℕ) where
 
   pub write-stops : (a : Answer) → a ≡ closed m L → (a .no ≡ 0 → ⊥) → a ≡ writeTest m L room
   unfolding writeTest
-  write-stops a e s = e ∙ sym (or-stop (closed m L) _ (stops (sym e) s))
+  write-stops a e s = e ∙ sym (or-stop (closed m L) _ (stops e s))
 
   pub write-goes : closed m L .no ≡ 0 → writeTest m L room ≡ lengthTest m bytes room
   unfolding writeTest
@@ -147,15 +148,21 @@ module _ (L : Listing) (C : Closed limits L) where
   lines-fit : (j : ℕ) → j < lineCount (layers L) → NumbersFit (lineAt (layers L) j .numbers)
   unfolding lineAt In
   lines-fit zero h x (inl e) = omega (arith, e, C .shaped .few-ranks)
-  lines-fit (suc j) h =
+  lines-fit (suc j) h x k =
       let s = spotted (layers L) j h in
-      rw (spot-line (layers L) (suc j) _ _ s) (line-fits _ _ (s .placed))
+      line-fits _ _ (s .placed) x (rw (spot-line (layers L) (suc j) _ _ s) at k)
+
+  elements-few : sum (λ r. count L r) (suc (rank L)) ≤ limits .elements
+  unfolding before
+  elements-few =
+      let e : suc (rank L) ≡ length (L .counts) = omega (arith, C .shaped .some-rank) in
+      omega (arith, ap (before (L .counts)) e, C .shaped .few-elements)
 
   readable : length (textOf (layers L)) ≤ limits .text → Readable limits (layers L)
   readable h = record {
     topped = layers-topped L;
     ranks = omega (arith, C .shaped .some-rank, C .shaped .few-ranks);
-    elements = omega arith;
+    elements = elements-few;
     incidences = rw (closed-written L C) (C .shaped .few-incidences);
     fit = lines-fit;
     short = h;

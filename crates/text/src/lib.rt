@@ -101,7 +101,7 @@ fn check_length(n: usize, room: usize) -> Answer
 
 // What is answered at a refusal: no byte is written.
 fn unwritten(answer: Answer) -> Written
-    ensures { λ r. ⌜ (answer .no ≡ 0 → ⊥) → (n : ℕ) → r ≡ writtenOf answer n ⌝ }
+    ensures { λ r. ⌜ ((n : ℕ) → (answer .no ≡ 0 → ⊥) → r ≡ writtenOf answer n) ⌝ }
 {
     Written { answer, length: 0 }
 }

@@ -39,8 +39,8 @@ fn build(words: &[String]) -> Result<(), String> {
     let [name, left, right] = words else {
         return Err("build wants a product's name and two files".into());
     };
-    let built = product(name)?(&cell(left)?, &cell(right)?);
-    let text = built.and_then(|built| built.write_text()).map_err(|refusal| format!("{name}: {refusal}"))?;
+    let built = product(name)?(&cell(left)?, &cell(right)?).map_err(|refusal| format!("{name}: {refusal}"))?;
+    let text = built.write_text().map_err(|refusal| format!("the {name} is built, but has no text: {refusal}"))?;
     io::stdout().write_all(text.as_bytes()).map_err(|trouble| format!("the text could not be printed: {trouble}"))
 }
 
