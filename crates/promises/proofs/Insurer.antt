@@ -25,7 +25,7 @@ use Rattle.body_theory.specs.InAll.{ManyFlags}
 use Rattle.body_theory.specs.High.{HighForOne}
 use Rattle.body.proofs.Verdict.{body-exact}
 use Rattle.promises.specs.Starred.{twoTriangles, leakingBox, Trial, answered, tried}
-use Rattle.promises.specs.Starred.Trial.{tested, combined, refused, readAs, unread, changed, bodied}
+use Rattle.promises.specs.Starred.Trial.{tested, combined, refused, readAs, unread, changed, bodied, wroteAs, unwritten}
 use Rattle.promises.proofs.Produced.{outcome-kept}
 use Rattle.promises.proofs.Starred.{starred}
 
@@ -47,6 +47,8 @@ shown (readAs t a L c) = record { answer = a; made = L; valid = a; last = c }
 shown (unread t a) = record { answer = a; made = leakingBox; valid = a; last = a }
 shown (changed L f r c) = record { answer = c .answer; made = L; valid = c .answer; last = c .answer }
 shown (bodied L n a) = record { answer = a; made = L; valid = a; last = a }
+shown (wroteAs L n a t) = record { answer = a; made = L; valid = a; last = a }
+shown (unwritten L n a) = record { answer = a; made = L; valid = a; last = a }
 
 -- row k of the table, with the answers that computing gives and with those that stand in it
 row : (k : ℕ) → getD (map answered tried) k (tested leakingBox fine fine) ≡ getD tried k (tested leakingBox fine fine)

@@ -4,6 +4,7 @@ use mathlib.Core.Path.{refl}
 use mathlib.Core.Bool.{true, false}
 use Rattle.listing.specs.Listing.{limits}
 use Rattle.listing_outputs.proofs.Output.{made-once}
+use Rattle.text.proofs.WrittenTexts.{text-once}
 use Rattle.search_events.specs.Events.{eventAt}
 use Rattle.volume.specs.Volumes.{volumeBy}
 use Rattle.promises.specs.Entries.{lent, flag, metres, tables}
@@ -16,7 +17,7 @@ pub boundary-taken : BoundaryTaken
 boundary-taken = record {
   tests = (any, any, any, any, any, any, any, any, any, any);
   products = (any, any, any, any);
-  texts = (any, any);
+  texts = (any, any, any);
   flags = (any, any, any);
   bodies = any;
   volumes = any;
@@ -43,6 +44,7 @@ boundary = record {
   duocomb-passes = λ k a r x p. p;
   read-text-passes = λ k a r x p. p;
   check-text-passes = λ k a r x p. p;
+  write-text-passes = λ k a r x p. p;
   class-passes = λ k l a c r b x y p q e. rw (p, q, e);
   sign-passes = λ k l a c r s x y p q e. rw (p, q, e);
   six-volume-passes = λ k a r x p. (
@@ -76,5 +78,6 @@ boundary-once = record {
   one-fd-duocomb = λ k a b c x y. same-outcome true true;
   one-fd-read-text = λ k a b c x y. made-once;
   one-fd-check-text = λ k a b c x y. alike;
+  one-fd-write-text = λ k a b c x y. text-once;
   one-fd-next-event = λ at count place c d e f p q. (alike (p .0) (q .0), alike (p .1) (q .1));
 }

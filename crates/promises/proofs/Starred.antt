@@ -25,10 +25,11 @@ use Rattle.product_sizes.specs.Sizing.{sizeTest}
 use Rattle.listing_outputs.specs.Output.{shortTest}
 use Rattle.product_factors.specs.Factors.{factorsTest}
 use Rattle.product.specs.Outcome.{restTest, productTest}
-use Rattle.text_theory.specs.Text.{spelled, numeral, parted, commas, lineBytes, lineOf, spot, lineAt, lineCount}
+use Rattle.text_theory.specs.Text.{spelled, numeral, parted, commas, lineBytes, lineOf, spot, lineAt, lineCount, textTo}
 use Rattle.text_theory.specs.Said.{afterLine, fromLine, valuesFrom, values, countLine, said, begins, numbersFit}
 use Rattle.text_theory.specs.Said.{formTest, belowIn, sizeBelow, incidencesOf, incidencesTo, boundOf, boundAt, textTest}
 use Rattle.text.specs.Texts.{readTest, checkTest}
+use Rattle.text.specs.WrittenTexts.{lengthTest, writeTest}
 use Rattle.order.specs.Tests.{every}
 use Rattle.flag_change.specs.Flags.{flagAt, flagTest, startTest}
 use Rattle.flag_change.specs.Change.{common, other, between, replacedAt, changeAt, padded}
@@ -53,5 +54,5 @@ unfolding decLt has occurs choose sum partAt _orElse_ firstIn firstFor firstOf b
     parted commas lineBytes lineOf spot lineAt lineCount afterLine fromLine valuesFrom values countLine said begins
     numbersFit formTest belowIn sizeBelow incidencesOf incidencesTo boundOf boundAt textTest readTest checkTest
     sumOver placeAfter waits indexIn meet meetAll work runFor run search sameList bitsIn maskChanges foundBy chainsTo
-    supAt partsTest bodyTest quoted answered
+    supAt partsTest bodyTest textTo lengthTest writeTest quoted answered
 starred = refl

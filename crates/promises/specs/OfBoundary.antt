@@ -35,6 +35,7 @@ use Rattle.product.proofs.duotegum.Reads as duotegum
 use Rattle.product.proofs.duocomb.Reads as duocomb
 use Rattle.text.proofs.read_text.Reads as read-text
 use Rattle.text.proofs.check_text.Reads as check-text
+use Rattle.text.proofs.write_text.Reads as write-text
 use Rattle.flumedrac.proofs.fd_rank.Reads as fd-rank
 use Rattle.flumedrac.proofs.fd_el_count.Reads as fd-el-count
 use Rattle.flumedrac.proofs.fd_vertex_count.Reads as fd-vertex-count
@@ -56,8 +57,9 @@ use Rattle.flumedrac.proofs.fd_duotegum.Reads as fd-duotegum
 use Rattle.flumedrac.proofs.fd_duocomb.Reads as fd-duocomb
 use Rattle.flumedrac.proofs.fd_read_text.Reads as fd-read-text
 use Rattle.flumedrac.proofs.fd_check_text.Reads as fd-check-text
+use Rattle.flumedrac.proofs.fd_write_text.Reads as fd-write-text
 use Rattle.promises.specs.Entries.{Takes, SaysOfTwo, PassesOn, PassesAs, OneAnswer, OneOutcome}
-use Rattle.promises.specs.Entries.{outputs, tables, bodyTables, readInto}
+use Rattle.promises.specs.Entries.{outputs, tables, bodyTables, readInto, bytes}
 
 pub record BoundaryTaken : Type 0 where
   -- counts, classes and tests
@@ -67,7 +69,7 @@ pub record BoundaryTaken : Type 0 where
   -- products
   pub products : Takes fd-duopyramid.Asked × Takes fd-duoprism.Asked × Takes fd-duotegum.Asked × Takes fd-duocomb.Asked
   -- texts
-  pub texts : Takes fd-read-text.Asked × Takes fd-check-text.Asked
+  pub texts : Takes fd-read-text.Asked × Takes fd-check-text.Asked × Takes fd-write-text.Asked
   -- flags; of fd_next_event it stands in proofs/Cursor.antt
   pub flags : Takes fd-change.Asked × Takes fd-sign.Asked × Takes fd-search.Asked
   -- the test for one body
@@ -94,6 +96,7 @@ pub record Boundary : Type 0 where
   pub duocomb-passes : PassesOn fd-duocomb.Post duocomb.Post
   pub read-text-passes : PassesOn fd-read-text.Post read-text.Post
   pub check-text-passes : PassesOn fd-check-text.Post check-text.Post
+  pub write-text-passes : PassesOn fd-write-text.Post write-text.Post
   -- the number of the class
   pub class-passes : SaysOfTwo fd-class.Post class.Post (λ a r x c b y. a .0 ≡ c .0 → r ≡ bandNo b)
   -- the sign of the orientation that the byte stands for
@@ -126,6 +129,7 @@ pub record BoundaryOnce : Type 0 where
   pub one-fd-duocomb : OneOutcome fd-duocomb.Post outputs
   pub one-fd-read-text : OneOutcome fd-read-text.Post readInto
   pub one-fd-check-text : OneAnswer fd-check-text.Post
+  pub one-fd-write-text : OneOutcome fd-write-text.Post bytes
   -- the event cursor, by what its contract cites
   pub one-fd-next-event : (at count place c d : ℕ) (e f : Said) → SaidStep at count place c e
       → SaidStep at count place d f → (e ≡ f) × (c ≡ d)

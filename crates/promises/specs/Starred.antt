@@ -14,6 +14,7 @@
 -- pointText, triangleText   the texts of the point and of the triangle
 -- missingText   that of a point whose top has a second sub, which does not exist
 -- missingSub    the listing that it says
+-- turnedSups    the triangle with the sups of its minimal element in falling order
 -- Trial         a row of the table: what is tried, and what is answered
 -- tested        a listing; what is_valid answers, what closed answers
 -- combined      a product of two listings, with just the room that it takes; what it answers, the listing that it is,
@@ -23,6 +24,8 @@
 -- readAs        a text, with just the room that it takes; what reading it answers, the listing that it says, and what
 --               checking it answers
 -- unread        a text without any room; what reading it answers
+-- wroteAs       a listing, and room for so many bytes; what writing its text answers, and the text
+-- unwritten     the same without the text
 -- bodied        a listing, and room for so many flags; what the test for one body answers
 -- to            a change that is answered with a flag, and with what it took out and put in
 -- answered      the row with the answers that computing gives
@@ -32,19 +35,22 @@ use mathlib.Core.List.{List, [], _∷_, _++_}
 use Prim.Native.Nat.{ℕ}
 use Prim.Native.Char.{code}
 use Prim.Native.String.{String, [] as none, _∷_ as _then_}
-use lib.ListN.{length}
+use lib.ListN.{length, drop}
 use Rattle.listing.specs.declared.Answer.{Answer}
 use Rattle.listing.specs.Refusals.{noRanks, overRanks, overElements, notBounded, subNotBack, subMissing, thirdBetween}
 use Rattle.listing.specs.Refusals.{loneBetween, notAscending, notAFlag, outsideRanks, moreFlags, severalParts}
-use Rattle.listing.specs.Refusals.{combOfPoint, outputShort, wrongKey, badLine, moreBytes}
+use Rattle.listing.specs.Refusals.{combOfPoint, outputShort, wrongKey, badLine, moreBytes, bytesShort}
 use Rattle.listing.specs.Answers.{refusal, plain, fine}
 use Rattle.listing.specs.Listing.{Listing, listing, limits}
+use Rattle.listing.specs.Layers.{layers}
 use Rattle.listing.specs.Cells.{nullitope, point, dyad, triangle, rankless, twoMinimal, threeOnTop, oneOnTop, struck}
 use Rattle.valid.specs.Tests.{isValid, closed}
 use Rattle.product_closure.specs.Result.{resultOf}
 use Rattle.product.specs.Outcome.{productTest}
+use Rattle.text_theory.specs.Text.{textOf}
 use Rattle.text_theory.specs.Said.{listingIn}
 use Rattle.text.specs.Texts.{readTest, checkTest}
+use Rattle.text.specs.WrittenTexts.{writeTest}
 use Rattle.flag_change.specs.Change.{padded}
 use Rattle.flag.specs.declared.Changed.{Changed}
 use Rattle.flag.specs.Changed.{unchangedAs, changedOf}
@@ -144,6 +150,9 @@ missingText = quoted "rank=1\ncount=1\nsubs=\ncount=1\nsubs=0,1\n"
 abbrev pub missingSub : Listing
 missingSub = listing (1 ∷ 1 ∷ []) (0 ∷ 1 ∷ 3 ∷ 3 ∷ []) (0 ∷ 0 ∷ 1 ∷ [])
 
+abbrev pub turnedSups : Listing
+turnedSups = listing (triangle .counts) (triangle .ends) (2 ∷ 1 ∷ 0 ∷ drop 3 (triangle .inc))
+
 pub data Trial : Type 0 where
   tested : Listing → Answer → Answer → Trial
   combined : Bool → Bool → Listing → Listing → Answer → Listing → Answer → Answer → Trial
@@ -152,6 +161,8 @@ pub data Trial : Type 0 where
   unread : List ℕ → Answer → Trial
   changed : Listing → List ℕ → ℕ → Changed → Trial
   bodied : Listing → ℕ → Answer → Trial
+  wroteAs : Listing → ℕ → Answer → List ℕ → Trial
+  unwritten : Listing → ℕ → Answer → Trial
 
 unfoldable pub answered : Trial → Trial
 answered (tested L v c) = tested L (isValid limits L) (closed limits L)
@@ -166,6 +177,8 @@ answered (readAs t a L c) =
 answered (unread t a) = unread t (readTest limits t 0 0 0)
 answered (changed L f r c) = changed L f r (changedOf limits L f r)
 answered (bodied L n a) = bodied L n (bodyTest limits L n)
+answered (wroteAs L n a t) = wroteAs L n (writeTest limits L n) (textOf (layers L))
+answered (unwritten L n a) = unwritten L n (writeTest limits L n)
 
 abbrev pub to : List ℕ → ℕ → ℕ → Changed
 to f taken put = record { answer = fine; flag = padded f; taken = taken; put = put }
@@ -234,4 +247,10 @@ tried =
     bodied twoTriangles 12 (plain severalParts) ∷
     bodied threeOnTop 0 (refusal thirdBetween 0 0 2 0) ∷
     -- the insurer's cell: 18
-    tested leakingBox fine (refusal loneBetween 2 0 4 0) ∷ []
+    tested leakingBox fine (refusal loneBetween 2 0 4 0) ∷
+    -- bytesShort is 44
+    wroteAs point 36 fine pointText ∷
+    wroteAs triangle 200 fine triangleText ∷
+    unwritten point 35 (plain bytesShort) ∷
+    unwritten threeOnTop 0 (refusal thirdBetween 0 0 2 0) ∷
+    unwritten turnedSups 200 (refusal notAscending 0 0 1 0) ∷ []
