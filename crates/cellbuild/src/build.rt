@@ -10,7 +10,7 @@ use listing::limit;
 use listing::refusal;
 use product::make;
 
-// More bytes than the text of any listing has, so that it is the limit that refuses one.
+// More bytes than the text of any closed listing has, so that it is the limit that refuses one.
 const ROOM: usize = 2 * limit::TEXT;
 
 // The text of a cell, or why it has none.

@@ -1,5 +1,8 @@
 // Which product is asked for.
 use text_lines::lines;
+ghost use mathlib.Core.Path.{_≡_};
+ghost use mathlib.Core.Bool.{true};
+ghost use Rattle.cellbuild.specs.Kinds.{kind, isWord, kindOf};
 
 // Whether there is a product of a name, and whether it leaves out minimal and maximal elements.
 pub struct Kind {
@@ -9,15 +12,19 @@ pub struct Kind {
 }
 
 // Whether a name is this word.
-fn is(name: &[u8], word: &[u8]) -> bool {
-    if name.len() != word.len() {
-        return false;
+fn is(name: &[u8], word: &[u8]) -> bool
+    ensures { λ r. ⌜ r ≡ isWord (now (name .entry)) (now (word .entry)) ⌝ }
+{
+    if name.len() == word.len() {
+        return lines::has_key(name, 0, word);
     }
-    lines::has_key(name, 0, word)
+    false
 }
 
 // A product.
-fn known(min: bool, max: bool) -> Kind {
+fn known(min: bool, max: bool) -> Kind
+    ensures { λ r. ⌜ r ≡ kind true min max ⌝ }
+{
     Kind {
         known: true,
         min,
@@ -26,7 +33,9 @@ fn known(min: bool, max: bool) -> Kind {
 }
 
 // The product of a name.
-pub fn named(name: &[u8]) -> Kind {
+pub fn named(name: &[u8]) -> Kind
+    ensures { λ r. ⌜ r ≡ kindOf (now (name .entry)) ⌝ }
+{
     if is(name, b"duopyramid") {
         return known(false, false);
     }

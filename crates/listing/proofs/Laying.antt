@@ -1,5 +1,5 @@
--- Numbers written at a place: nothing yet, one more, one part after another, and a list of them; a list with a number in
--- front, and one at the very beginning.
+-- Numbers written at a place: nothing yet, one more, one part after another, and a list of them; a list with a number
+-- in front, and one at the very beginning.
 -- Assumes nothing.
 use mathlib.Core.Path.{_≡_, refl, sym, ap, _∙_}
 use mathlib.Core.List.{List, [], _∷_, _++_}
@@ -120,7 +120,7 @@ module _ (at : ℕ) (d d′ : List ℕ) where
       later = λ p k. getD-set-other d′ at p y 0 (omega arith) ∙ l .later p (omega arith);
     }
 
--- one number behind a list
+-- a list of one number
 pub list-one : (at x : ℕ) (d : List ℕ) → at < length d → LaidList at (x ∷ []) d (set d at x)
 list-one at x d h = laid-list at d (set d at x) (x ∷ []) (λ j. x) 1 refl one (laid-one at x d h)
   where

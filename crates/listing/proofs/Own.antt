@@ -2,19 +2,19 @@
 -- Assumes nothing.
 use mathlib.Core.Path.{_≡_, refl, sym, ap, _∙_}
 use mathlib.Core.List.{List}
-use Prim.Native.Nat.{ℕ, suc, _+_, _-_, _*_, _/_, _%_, _≤_, _<_}
+use Prim.Native.Nat.{ℕ, suc, _*_, _/_, _%_, _<_}
 use native.Mathlib.Omega.{arith}
-use lib.ListN.{length, getD, take}
+use lib.ListN.{length, getD}
 use lib.Seq.{take-all, ext-getD}
 use Rattle.order.specs.Sums.{sum}
 use Rattle.order.proofs.Sums.{sum-same, part-ok}
 use Rattle.listing.specs.Listing.{Listing, Limits, rank, count, before, start, entries, side, sups}
-use Rattle.listing.specs.Shape.{elements, Shaped}
+use Rattle.listing.specs.Shape.{Shaped}
 use Rattle.listing.specs.Layers.{layers}
 use Rattle.listing.specs.Written.{joined, tabulated, lengths, listAt, nth, written}
 use Rattle.listing.proofs.Entries.{entries-start, entries-joined}
 use Rattle.listing.proofs.Places.{at-sides}
-use Rattle.listing.proofs.ShapeExact.{shaped-ends}
+use Rattle.listing.proofs.ShapeExact.{shaped-ranks, shaped-ends}
 use Rattle.listing.proofs.Written.{joined-same, tabulated-length, tabulated-at, lists}
 
 module _ {m : Limits} (L : Listing) (S : Shaped m L) where
@@ -22,12 +22,9 @@ module _ {m : Limits} (L : Listing) (S : Shaped m L) where
   abbrev above : ℕ → ℕ → List ℕ
   above r i = sups L r i
 
-  ranks : suc (rank L) ≡ length (L .counts)
-  ranks = omega (arith, S .some-rank)
-
   all-lists : lists (layers L) ≡ length (L .ends)
   unfolding before
-  all-lists = ap (λ (n : ℕ). 2 * before (L .counts) n) ranks ∙ sym (S .two-ends-each)
+  all-lists = ap (λ (n : ℕ). 2 * before (L .counts) n) (shaped-ranks L S) ∙ sym (S .two-ends-each)
 
   -- the kth list
   side-own : (s r i : ℕ) → s < 2 → listAt (layers L) above s (r, i) ≡ side L s r i
@@ -43,7 +40,7 @@ module _ {m : Limits} (L : Listing) (S : Shaped m L) where
   counts-own : tabulated (λ r. count L r) (suc (rank L)) ≡ L .counts
   counts-own =
       let n = tabulated-length (λ r. count L r) (suc (rank L)) in
-      ext-getD 0 _ (L .counts) (n ∙ ranks) (λ i h. tabulated-at (λ r. count L r) (suc (rank L)) i (omega arith))
+      ext-getD 0 _ (L .counts) (n ∙ shaped-ranks L S) (λ i h. tabulated-at (λ r. count L r) (suc (rank L)) i (omega arith))
 
   end-own : (i : ℕ) → i < length (L .ends) → sum (lengths (nth (layers L) above)) (suc i) ≡ getD (L .ends) i 0
   end-own i h =

@@ -16,7 +16,7 @@ use Rattle.order.proofs.Tests.{and-true}
 use Rattle.listing.specs.declared.Answer.{Answer}
 use Rattle.listing.specs.Answers.{plain, fine, _orElse_}
 use Rattle.listing.specs.Refusals.{noRanks, overRanks, overElements, wrongEnds, overIncidences, fallingEnds}
-use Rattle.listing.specs.Listing.{Listing, Limits, start, Ends}
+use Rattle.listing.specs.Listing.{Listing, Limits, rank, start, Ends}
 use Rattle.listing.specs.Shape.{fills, elements, shapeTest, Shaped}
 use Rattle.listing.proofs.Answers.{on-no, on-or-no}
 
@@ -138,6 +138,10 @@ rising-le from (x ∷ l) up zero h =
     let r = rising-le x l (λ k p. up (suc k) (omega arith)) zero (omega arith) in
     omega (arith, up 0 (omega arith))
 rising-le from (x ∷ l) up (suc k) h = rising-le x l (λ j p. up (suc j) (omega arith)) k (omega arith)
+
+-- the ranks of a shaped listing, and its ends
+pub shaped-ranks : {m : Limits} (L : Listing) → Shaped m L → suc (rank L) ≡ length (L .counts)
+shaped-ranks L s = omega (arith, s .some-rank)
 
 pub shaped-ends : {m : Limits} (L : Listing) → Shaped m L → Ends (L .ends) (L .inc)
 shaped-ends L s =

@@ -49,6 +49,9 @@ module _ (f : ℕ → List ℕ) where
   unfolding joined
   joined-next n = rw add-one
 
+  pub joined-longer : (n : ℕ) → length (joined f (n + 1)) ≡ length (joined f n) + length (f n)
+  joined-longer n = ap length (joined-next n) ∙ length-append (joined f n) (f n)
+
   -- the first a of them, and b behind
   pub joined-add : (a b : ℕ) → joined f (a + b) ≡ joined f a ++ joined (λ i. f (a + i)) b
   unfolding joined

@@ -8,9 +8,9 @@ use Prim.Native.Nat.{ℕ, zero, suc, _≤_, _<_}
 use native.Mathlib.Omega.{arith}
 use borrow.Author.Tests.{lt-ltb, le-ltb, ltb-false}
 use lib.Dec.{ltb}
-use lib.ListN.{length, take}
+use lib.ListN.{length}
 use Rattle.order.specs.Lists.{over}
-use Rattle.order.proofs.Over.{over-first}
+use Rattle.order.proofs.Over.{over-front}
 use Rattle.order.proofs.Tests.{or-none}
 use Rattle.listing.specs.declared.Answer.{Answer}
 use Rattle.listing.specs.declared.Built.{Built}
@@ -124,9 +124,6 @@ module _ (t : Answer) (R : Listing) (z : t .no ≡ 0) where
   })
 
 -- ---- taken apart
-
-pub over-front : (new old : List ℕ) {n : ℕ} {l : List ℕ} → (n ≡ length new) × (l ≡ over new old) → take n l ≡ new
-over-front new old e = rw (e .0, e .1) (over-first new old _ refl)
 
 module _ {t : Answer} {R old new : Listing} {r : Built} (d : Made t R old new r) where
   pub made-answer : r .answer ≡ t

@@ -1,7 +1,7 @@
 -- Numbers written over the beginning of others: how long they are then, their beginning and their rest, one number
 -- more, and how to tell such a list by its numbers.
 -- Assumes nothing.
-use mathlib.Core.Path.{_≡_, sym, ap, _∙_}
+use mathlib.Core.Path.{_≡_, refl, sym, ap, _∙_}
 use mathlib.Core.List.{List}
 use Prim.Native.Nat.{ℕ, suc, _+_, _-_, _≤_, _<_}
 use native.Mathlib.Decide.{decLt}
@@ -36,6 +36,10 @@ module _ (new old : List ℕ) where
           rest p (omega arith)
           ∙ sym (rw q at (getD-append-add new (drop (length new) old) (p - length new) 0
           ∙ getD-drop (length new) old (p - length new) 0))
+
+-- as many as there are new ones, taken from a list that is told to be such a one
+pub over-front : (new old : List ℕ) {n : ℕ} {l : List ℕ} → (n ≡ length new) × (l ≡ over new old) → take n l ≡ new
+over-front new old e = rw (e .0, e .1) (over-first new old _ refl)
 
 -- the first n of a list whose rest is that of another
 pub over-is : (n : ℕ) (l old : List ℕ) → n ≤ length l → drop n l ≡ drop n old → over (take n l) old ≡ l

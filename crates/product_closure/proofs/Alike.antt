@@ -6,14 +6,13 @@ use mathlib.Core.Bool.{Bool}
 use Prim.Native.Nat.{ℕ, suc, _<_}
 use Rattle.order.specs.Structure.{Renumbering}
 use Rattle.listing.specs.Listing.{Listing}
-use Rattle.listing.specs.Layers.{Layers, layers, order, derived}
+use Rattle.listing.specs.Layers.{Layers, layers, order, derived, Derived}
 use Rattle.listing.proofs.Layers.{gather-same}
 use Rattle.listing.proofs.Written.{written-rank}
 use Rattle.product_pairs.specs.Sound.{Listed}
 use Rattle.product_pairs.specs.Trimmed.{Used}
 use Rattle.product_pairs.specs.Product.{productOf}
 use Rattle.product_pairs.proofs.Listings.{productLayers, productOf-count, productOf-subs, productOf-sups}
-use Rattle.product_closure.specs.Derived.{Derived}
 
 pub record Alike (M N : Layers) : Type 0 where
   pub same-top : N .top ≡ M .top

@@ -1,4 +1,3 @@
-pub mod Derived
 pub mod Result
 pub mod Pairs
 pub mod Lists

@@ -14,11 +14,10 @@ use mathlib.Core.List.{[], _∷_, _++_, map}
 use Prim.Native.Nat.{_+_, _-_, _<_}
 use lib.Dec.{T}
 use Rattle.listing.specs.Listing.{Listing, rank, count, subs, sups}
-use Rattle.listing.specs.Layers.{layers}
+use Rattle.listing.specs.Layers.{layers, Derived}
 use Rattle.product_pairs.specs.Paired.{El, Sooner}
 use Rattle.product_pairs.specs.Grown.{upTo}
 use Rattle.product_pairs.specs.Product.{usedSubs}
-use Rattle.product_closure.specs.Derived.{Derived}
 use Rattle.product_closure.specs.Pairs.{InnerPair, placeOf}
 
 pub record Arranged (min max : Bool) (A B R : Listing) : Type 0 where

@@ -25,7 +25,8 @@ use Rattle.body_theory.specs.InAll.{ManyFlags}
 use Rattle.body_theory.specs.High.{HighForOne}
 use Rattle.body.proofs.Verdict.{body-exact}
 use Rattle.promises.specs.Starred.{twoTriangles, leakingBox, Trial, answered, tried}
-use Rattle.promises.specs.Starred.Trial.{tested, combined, refused, readAs, unread, changed, bodied, wroteAs, unwritten}
+use Rattle.promises.specs.Starred.Trial.{tested, combined, refused, readAs, unread, changed, bodied, wroteAs}
+use Rattle.promises.specs.Starred.Trial.{unwritten}
 use Rattle.promises.proofs.Produced.{outcome-kept}
 use Rattle.promises.proofs.Starred.{starred}
 

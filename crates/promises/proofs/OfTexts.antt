@@ -22,7 +22,7 @@ use Rattle.listing_outputs.proofs.Output.{room-tested, made-answer, made-untouc
 use Rattle.valid.specs.Closed.{Closed}
 use Rattle.valid.specs.Tests as tests
 use Rattle.valid.proofs.ClosedExact.{closed-exact}
-use Rattle.valid.proofs.DerivedSups.{closed-sups}
+use Rattle.valid.proofs.DerivedSups.{closed-derived}
 use Rattle.text_theory.specs.Text.{textOf}
 use Rattle.text_theory.specs.Said.{listingIn, textTest}
 use Rattle.text_theory.specs.Places.{FirstPlace, Readable}
@@ -219,7 +219,7 @@ texts-answer = record {
   write-wrote = λ k a r x. text-wrote;
   write-then-read = λ k l a c r s x y p q z. written-read (lent a) p z (lentText c) q;
   read-then-write = λ k l a c r s x y p q z e C. read-written (lentText a) p z (lent c) e C q;
-  sups-follow = closed-sups;
+  sups-follow = closed-derived;
 }
 
 pub texts-once : TextsOnce

@@ -21,7 +21,7 @@
 -- bodyTables  the same of the test for one body, in the fourth and fifth parameter
 -- lentText    the text in the first parameter
 -- readInto    the three slices that it is read into, in the next three
--- bytes       the slice that a text is written into, in the fourth parameter
+-- writtenInto the slice that a text is written into, in the fourth parameter
 use mathlib.Core.Path.{_≡_}
 use mathlib.Core.List.{List}
 use Prim.Native.Nat.{ℕ}
@@ -100,5 +100,5 @@ module _ {A : Type 0} where
   abbrev pub readInto : Slice × Three A → Listing
   readInto a = lent (a .1)
 
-  abbrev pub bytes : Three (Slice × A) → List ℕ
-  bytes a = now (a .1 .1 .1 .0)
+  abbrev pub writtenInto : Three (Slice × A) → List ℕ
+  writtenInto a = now (a .1 .1 .1 .0)

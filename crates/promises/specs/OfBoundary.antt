@@ -59,7 +59,7 @@ use Rattle.flumedrac.proofs.fd_read_text.Reads as fd-read-text
 use Rattle.flumedrac.proofs.fd_check_text.Reads as fd-check-text
 use Rattle.flumedrac.proofs.fd_write_text.Reads as fd-write-text
 use Rattle.promises.specs.Entries.{Takes, SaysOfTwo, PassesOn, PassesAs, OneAnswer, OneOutcome}
-use Rattle.promises.specs.Entries.{outputs, tables, bodyTables, readInto, bytes}
+use Rattle.promises.specs.Entries.{outputs, tables, bodyTables, readInto, writtenInto}
 
 pub record BoundaryTaken : Type 0 where
   -- counts, classes and tests
@@ -129,7 +129,7 @@ pub record BoundaryOnce : Type 0 where
   pub one-fd-duocomb : OneOutcome fd-duocomb.Post outputs
   pub one-fd-read-text : OneOutcome fd-read-text.Post readInto
   pub one-fd-check-text : OneAnswer fd-check-text.Post
-  pub one-fd-write-text : OneOutcome fd-write-text.Post bytes
+  pub one-fd-write-text : OneOutcome fd-write-text.Post writtenInto
   -- the event cursor, by what its contract cites
   pub one-fd-next-event : (at count place c d : ℕ) (e f : Said) → SaidStep at count place c e
       → SaidStep at count place d f → (e ≡ f) × (c ≡ d)

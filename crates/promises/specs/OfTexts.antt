@@ -6,7 +6,7 @@
 -- textOfCell    the text of a listing
 -- TextsTaken    any slices are taken
 -- TextsRefuse   which refusal comes exactly when, what it carries, and that nothing is then written
--- TextsAnswer   what is read, and what is checked
+-- TextsAnswer   what is read, what is checked, and what is written
 -- TextsOnce     no second answer fits
 use mathlib.Core.Path.{_≡_}
 use mathlib.Core.Logic.{_≢_, _⊎_, _↔_}
@@ -16,8 +16,8 @@ use lib.ListN.{length, take}
 use Rattle.order.specs.Lists.{over}
 use Rattle.listing.specs.Refusals.{notBounded, notAscending, outputShort, longText}
 use Rattle.listing.specs.Answers.{plain}
-use Rattle.listing.specs.Listing.{Listing, limits, count, sups}
-use Rattle.listing.specs.Layers.{Layers, Topped, layers, derived}
+use Rattle.listing.specs.Listing.{Listing, limits}
+use Rattle.listing.specs.Layers.{Layers, Topped, layers, derived, Derived}
 use Rattle.listing.specs.Written.{written}
 use Rattle.listing.specs.Rules.{FirstBroken}
 use Rattle.listing_outputs.specs.Output.{Fits, prefix, Untouched, Wrote}
@@ -31,7 +31,7 @@ use Rattle.text.proofs.read_text.Reads as read-text
 use Rattle.text.proofs.check_text.Reads as check-text
 use Rattle.text.proofs.write_text.Reads as write-text
 use Rattle.promises.specs.Entries.{Takes, Says, SaysOfTwo, SaysOfThree, OneAnswer, OneOutcome, lent}
-use Rattle.promises.specs.Entries.{lentText, readInto, bytes}
+use Rattle.promises.specs.Entries.{lentText, readInto, writtenInto}
 use Rattle.promises.specs.OfProducts.{Carries}
 
 abbrev pub TextGood : ℕ → Type 0
@@ -69,7 +69,7 @@ pub record TextsRefuse : Type 0 where
       (λ a r x. r .answer .no ≢ 0 → Untouched (readInto a) (readInto x) r)
   -- write_text refuses as closed does, then with 44, then with 42
   pub write-text-refuses : Says write-text.Post
-      (λ a r x. FirstBroken (writeRules limits (lent a) (length (bytes a))) (r .answer .no))
+      (λ a r x. FirstBroken (writeRules limits (lent a) (length (writtenInto a))) (r .answer .no))
   -- where closed refuses, it answers what closed does, with all fields
   pub write-text-as-closed : SaysOfTwo write-text.Post closed.Post
       (λ a r x c s y. lent c ≡ lent a → s .no ≢ 0 → r .answer ≡ s)
@@ -78,7 +78,7 @@ pub record TextsRefuse : Type 0 where
       (λ a r x. Closed limits (lent a) → r .answer ≡ plain (r .answer .no))
   -- at a refusal no byte of the slice has changed, and the length answered is 0
   pub write-text-untouched : Says write-text.Post
-      (λ a r x. r .answer .no ≢ 0 → (bytes x ≡ bytes a) × (r .length ≡ 0))
+      (λ a r x. r .answer .no ≢ 0 → (writtenInto x ≡ writtenInto a) × (r .length ≡ 0))
 
 pub record TextsAnswer : Type 0 where
   -- nothing in a text is refused exactly if it is the text of some layers within the limits
@@ -108,24 +108,23 @@ pub record TextsAnswer : Type 0 where
       (λ a r x c s y d u z. lentText c ≡ lentText a → s .answer .no ≡ 0 → lent d ≡ prefix (readInto y) s → r ≡ u .no)
   -- write_text answers 0 exactly if the listing is closed and its text fits into the slice and the limit
   pub writes-exactly : Says write-text.Post (λ a r x. r .answer .no ≡ 0 ↔ (Closed limits (lent a)
-      × (length (textOfCell (lent a)) ≤ length (bytes a)) × (length (textOfCell (lent a)) ≤ limits .text)))
+      × (length (textOfCell (lent a)) ≤ length (writtenInto a)) × (length (textOfCell (lent a)) ≤ limits .text)))
   -- it then has written the text of the listing, whose length it answers; past that nothing is changed
   pub write-wrote : Says write-text.Post (λ a r x. r .answer .no ≡ 0
-      → (r .length ≡ length (textOfCell (lent a))) × (bytes x ≡ over (textOfCell (lent a)) (bytes a)))
+      → (r .length ≡ length (textOfCell (lent a))) × (writtenInto x ≡ over (textOfCell (lent a)) (writtenInto a)))
   -- reading what was written gives the same three slices, where they have room
   pub write-then-read : SaysOfTwo write-text.Post read-text.Post (λ a r x c s y. r .answer .no ≡ 0
-      → lentText c ≡ take (r .length) (bytes x)
+      → lentText c ≡ take (r .length) (writtenInto x)
       → Fits (lent a) (length (readInto c .counts)) (length (readInto c .ends)) (length (readInto c .inc))
       → (s .answer .no ≡ 0) × (prefix (readInto y) s ≡ lent a))
   -- writing what was read gives the same bytes, where it is closed and the slice has room
   pub read-then-write : SaysOfTwo read-text.Post write-text.Post (λ a r x c s y. r .answer .no ≡ 0
-      → lent c ≡ prefix (readInto x) r → Closed limits (lent c) → length (lentText a) ≤ length (bytes c)
-      → (s .answer .no ≡ 0) × (take (s .length) (bytes y) ≡ lentText a))
+      → lent c ≡ prefix (readInto x) r → Closed limits (lent c) → length (lentText a) ≤ length (writtenInto c)
+      → (s .answer .no ≡ 0) × (take (s .length) (writtenInto y) ≡ lentText a))
   -- in a closed listing the sups are those that follow from the subs: so no text need hold them
-  pub sups-follow : (L : Listing) → Closed limits L → (r i : ℕ) → i < count L r
-      → sups L r i ≡ derived (layers L) r i
+  pub sups-follow : (L : Listing) → Closed limits L → Derived L
 
 pub record TextsOnce : Type 0 where
   pub one-read-text : OneOutcome read-text.Post readInto
   pub one-check-text : OneAnswer check-text.Post
-  pub one-write-text : OneOutcome write-text.Post bytes
+  pub one-write-text : OneOutcome write-text.Post writtenInto

@@ -16,10 +16,11 @@ fn on_flag(line: &[u8], counts: &[Index], ends: &[Index], inc: &[Index], flag: &
     }
 }
 
-// Whether the line asks for a product.
+// Whether the line asks for a product: its name, or 'tested' or 'written' before it.
 fn is_product(line: &[u8]) -> bool {
     match text::letter(line, 0) {
         b'd' | b't' => true,
+        b'w' => text::letter(line, 5) == b'e',
         _ => false,
     }
 }
@@ -47,7 +48,8 @@ fn is_volume(line: &[u8]) -> bool {
     text::letter(line, 4) == b'v'
 }
 
-// A question on one cell, and perhaps a flag: a count, one on the flag, six_volume, one_body, or another test.
+// A question on one cell, and perhaps a flag: a count, one on the flag, six_volume, one_body, write_text, or another
+// test.
 fn on_cell(line: &[u8], counts: &[Index], ends: &[Index], inc: &[Index], flag: &[Index]) {
     if is_count(line) {
         cell::count(line, counts);
@@ -63,6 +65,10 @@ fn on_cell(line: &[u8], counts: &[Index], ends: &[Index], inc: &[Index], flag: &
     }
     if text::letter(line, 0) == b'o' {
         bodies::one_body(line, counts, ends, inc);
+        return;
+    }
+    if text::letter(line, 0) == b'w' {
+        replay_texts::write_text(line, counts, ends, inc);
         return;
     }
     cell::test(line, counts, ends, inc);
@@ -129,9 +135,13 @@ fn lists(line: &[u8]) {
     ends(line, &counts[..n]);
 }
 
-// Any question: read_text, check_text, class, sign, next_event, or one with lists. Of these six_volume has the third
-// letter of next_event, and is asked for before.
+// Any question: read_text, check_text, class, sign, next_event, or one with lists. Of these write_text has a letter of
+// check_text, and six_volume the third letter of next_event: they are asked for before.
 pub fn ask(line: &[u8]) {
+    if text::letter(line, 0) == b'w' {
+        lists(line);
+        return;
+    }
     if text::letter(line, 5) == b't' {
         replay_texts::read_text(line);
         return;

@@ -10,10 +10,18 @@ fn is_tested(line: &[u8]) -> bool {
     text::letter(line, 0) == b't'
 }
 
+// Whether the line asks for a product and its text: it begins with the word 'written'.
+fn is_written(line: &[u8]) -> bool {
+    text::letter(line, 0) == b'w'
+}
+
 // The fifth letter of a product's name.
 fn letter_of(line: &[u8]) -> u8 {
     if is_tested(line) {
         return text::letter(line, 11);
+    }
+    if is_written(line) {
+        return text::letter(line, 12);
     }
     text::letter(line, 4)
 }
@@ -41,11 +49,28 @@ fn tests(counts: &[Index], ends: &[Index], inc: &[Index]) {
     say::list(counts);
 }
 
-// What a product answered and left in its slices: all of it or, where it is to be tested, what the tests say of what it
-// wrote; of a refused one nothing then.
+// What is asked besides of what a product wrote: what the tests say of it, or its text, with room of the fourth length.
+fn besides(line: &[u8], counts: &[Index], ends: &[Index], inc: &[Index]) {
+    if is_written(line) {
+        replay_texts::write(counts, ends, inc, text::plain(line, 3) as u64);
+    } else {
+        tests(counts, ends, inc);
+    }
+}
+
+// Whether more is asked than the product.
+fn asks_more(line: &[u8]) -> bool {
+    if is_tested(line) {
+        return true;
+    }
+    is_written(line)
+}
+
+// What a product answered and left in its slices: all of it or, where more is asked, that of what it wrote; of a
+// refused one nothing then.
 fn left(line: &[u8], b: Built, counts: &[Index], ends: &[Index], inc: &[Index]) {
     say::built(b);
-    if !is_tested(line) {
+    if !asks_more(line) {
         say::lists(counts, ends, inc);
         return;
     }
@@ -53,7 +78,7 @@ fn left(line: &[u8], b: Built, counts: &[Index], ends: &[Index], inc: &[Index]) 
         let c = room::words(b.counts as u64, counts);
         let e = room::words(b.ends as u64, ends);
         let i = room::words(b.inc as u64, inc);
-        tests(&counts[..c], &ends[..e], &inc[..i]);
+        besides(line, &counts[..c], &ends[..e], &inc[..i]);
     }
 }
 

@@ -26,9 +26,12 @@ const MANY: usize = limit::INCIDENCES + SPARE;
 
 const TABLE: usize = limit::RANKS * (limit::FLAGS + SPARE);
 
-pub const BYTES: usize = limit::FLAGS + SPARE;
+const BYTES: usize = limit::FLAGS + SPARE;
 
 const TEXT: usize = limit::TEXT + SPARE;
+
+// More than the text of any closed listing has.
+pub const WRITTEN: usize = 2 * limit::TEXT;
 
 // Room for counts, or for a flag.
 pub fn few() -> [Index; FEW]
@@ -76,6 +79,14 @@ pub fn text() -> [u8; TEXT]
     ensures { λ r. ⌜ limits .text + spare ≡ length r ⌝ }
 {
     [FULL_BYTE; TEXT]
+}
+
+// Room for a text to be written.
+pub fn written() -> [u8; WRITTEN]
+    ensures { λ r. ⌜ r ≡ replicate (2 * limits .text) 255 ⌝ }
+    ensures { λ r. ⌜ 2 * limits .text ≡ length r ⌝ }
+{
+    [FULL_BYTE; WRITTEN]
 }
 
 // So many numbers of a slice, or all if it has fewer.

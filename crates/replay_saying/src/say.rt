@@ -1,5 +1,5 @@
 // Answers as text. A list of more than 300 numbers is given by its length, its sum and its check number.
-use crate::room::BYTES;
+use crate::room::WRITTEN;
 use libc::STDOUT_FILENO;
 use listing::Answer;
 use listing::Built;
@@ -7,10 +7,9 @@ use listing::Index;
 use listing::Number;
 use listing::limit;
 ghost use mathlib.Core.Path.{_≡_};
-ghost use Prim.Native.Nat.{_+_, _<_};
+ghost use Prim.Native.Nat.{_*_, _<_};
 ghost use lib.ListN.{length};
 ghost use Rattle.listing.specs.Listing.{width, limits};
-ghost use Rattle.replay_saying.specs.Room.{spare};
 ghost use Rattle.io.specs.Counts.{Counts};
 
 // Lists up to this length are written out.
@@ -143,10 +142,10 @@ fn widen(list: &[u8], out: &mut [Index]) -> usize
 }
 
 // Room for the bytes of a list as wider numbers: of a list as long as the longest that is lent.
-fn room() -> [Index; BYTES]
-    ensures { λ r. ⌜ limits .flags + spare ≡ length r ⌝ }
+fn room() -> [Index; WRITTEN]
+    ensures { λ r. ⌜ 2 * limits .text ≡ length r ⌝ }
 {
-    [0; BYTES]
+    [0; WRITTEN]
 }
 
 // A list of bytes.

@@ -36,3 +36,23 @@ pub fn check_text(line: &[u8]) {
     let n = quoted::put_text(line, &mut bytes);
     say::number(text::check_text(&bytes[..n]) as u64);
 }
+
+// The text of a listing, and what is then in the slice lent.
+fn write_into(counts: &[Index], ends: &[Index], inc: &[Index], bytes: &mut [u8]) {
+    let w = text::write_text(counts, ends, inc, &mut *bytes);
+    say::answer(w.answer);
+    say::number(w.length as u64);
+    say::bytes(bytes);
+}
+
+// The same with room of a length, as far as there is so much.
+pub fn write(counts: &[Index], ends: &[Index], inc: &[Index], length: u64) {
+    let mut bytes = room::written();
+    let n = room::bytes(length, &bytes);
+    write_into(counts, ends, inc, &mut bytes[..n]);
+}
+
+// The text of a listing, with room of the length that the line asks for.
+pub fn write_text(line: &[u8], counts: &[Index], ends: &[Index], inc: &[Index]) {
+    write(counts, ends, inc, reading::plain(line, 0) as u64);
+}

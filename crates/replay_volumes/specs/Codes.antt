@@ -1,9 +1,10 @@
 -- Coordinates by their codes.
 --
--- metresFor   the coordinate of a code: up to 4000 so many metres less 2000, then NaN, both infinities, a half, -0.0
--- Written     the coordinates of codes stored from the start of a slice on, as far as there is room: what it held and
---             holds, where they end
--- Lendable    a slice has so many numbers to lend from its start; the second part follows, and lending looks for both
+-- metresFor      the coordinate of a code: up to 4000 so many metres less 2000, then NaN, both infinities, a half, -0.0
+-- MetresStored   the coordinates of codes stored from the start of a slice on, as far as there is room: what it held
+--                and holds, where they end
+-- Lendable       a slice has so many numbers to lend from its start; the second part follows, and lending looks for
+--                both
 use mathlib.Core.Path.{_≡_}
 use mathlib.Core.Bool.{true, false, cond}
 use mathlib.Core.List.{List, map}
@@ -23,7 +24,7 @@ metresFor code =
     (cond (eqb code 4004) (fin false 1 (negsuc 0))
     (fin true 0 (pos 0))))))
 
-pub record Written (codes : List ℕ) (old held : List Float) (r : ℕ) : Type 0 where
+pub record MetresStored (codes : List ℕ) (old held : List Float) (r : ℕ) : Type 0 where
   pub up-to : r ≡ min (length codes) (length old)
   pub holds : held ≡ sets old 0 (map metresFor codes)
 

@@ -1,7 +1,7 @@
 // Coordinates by their codes, since the lists of a line hold only numbers of 16 bits.
 use listing::Index;
 ghost use mathlib.Core.Path.{_≡_};
-ghost use Rattle.replay_volumes.specs.Codes.{metresFor, Written, Lendable};
+ghost use Rattle.replay_volumes.specs.Codes.{metresFor, MetresStored, Lendable};
 
 // The code of 0 metres.
 const ZERO: i64 = 2000;
@@ -22,7 +22,7 @@ fn metres_of(code: Index) -> f64
 
 // The coordinates of codes, into the start of a slice, as far as there is room; says how many it wrote.
 pub fn put_metres(codes: &[Index], out: &mut [f64]) -> usize
-    ensures { λ r. ⌜ Written (now (codes .entry)) (now (out .entry)) (now (out .exit)) r ⌝ }
+    ensures { λ r. ⌜ MetresStored (now (codes .entry)) (now (out .entry)) (now (out .exit)) r ⌝ }
     ensures { λ r. ⌜ Lendable r (now (out .exit)) ⌝ }
 {
     let mut n = 0;

@@ -1,15 +1,16 @@
--- Writing a text: the order of its refusals; what is answered and left, put together and taken apart again; that what was
--- written reads as the listing, and that what was read is written as the text.
+-- Writing a text: the order of its refusals; what is answered and left, put together and taken apart again; and that
+-- the text of a closed listing reads as that listing.
 -- Assumes nothing.
 use mathlib.Core.Path.{_≡_, refl, sym, ap, _∙_}
-use mathlib.Core.Logic.{inl, _↔_}
-use mathlib.Core.List.{List, [], _∷_}
+use mathlib.Core.Logic.{_⊎_, inl, inr, _↔_}
+use mathlib.Core.List.{List}
 use Prim.Native.Nat.{ℕ, zero, suc, _-_, _≤_, _<_}
 use native.Mathlib.Omega.{arith}
 use borrow.Author.Tests.{lt-ltb, le-ltb}
 use lib.ListN.{length, take}
 use Rattle.order.specs.Lists.{In, over}
 use Rattle.order.specs.Sums.{sum}
+use Rattle.order.proofs.Over.{over-length, over-front}
 use Rattle.listing.specs.declared.Answer.{Answer}
 use Rattle.listing.specs.Refusals.{bytesShort, longText}
 use Rattle.listing.specs.Answers.{plain, fine, _orElse_}
@@ -17,18 +18,18 @@ use Rattle.listing.specs.Listing.{Listing, Limits, limits, rank, count, before}
 use Rattle.listing.specs.Layers.{layers}
 use Rattle.listing.specs.Rules.{FirstBroken}
 use Rattle.listing.proofs.Answers.{or-fine, or-stop, or-no, no-or, no-of, stops, if-not}
-use Rattle.listing.proofs.Broken.{Tests, tests-over, broken-step, broken-last}
+use Rattle.listing.proofs.Broken.{tests-over, zero-or, broken-step, broken-last}
 use Rattle.listing.proofs.Layers.{layers-topped}
 use Rattle.listing.proofs.Places.{few-in-rank}
-use Rattle.listing_outputs.specs.Output.{after}
-use Rattle.listing_outputs.proofs.Output.{after-refused, after-full, over-front}
+use Rattle.listing.proofs.ShapeExact.{shaped-ranks}
+use Rattle.listing_outputs.proofs.Output.{after-refused, after-full}
 use Rattle.valid_incidence.specs.Incidence.{Incident}
 use Rattle.valid.specs.Tests.{closed}
 use Rattle.valid.specs.Closed.{Closed}
 use Rattle.valid.proofs.ClosedExact.{closed-exact}
 use Rattle.valid.proofs.DerivedSups.{closed-written}
 use Rattle.valid.proofs.TestsBroken.{closed-then}
-use Rattle.text_theory.specs.Text.{textWidth, linesIn, lineOf, lineAt, lineCount, textOf}
+use Rattle.text_theory.specs.Text.{linesIn, lineOf, lineAt, lineCount, textOf}
 use Rattle.text_theory.specs.Said.{listingIn, textTest}
 use Rattle.text_theory.specs.Places.{NumbersFit, Readable}
 use Rattle.text_theory.proofs.Spots.{spotted, spot-line}
@@ -61,33 +62,33 @@ module _ (m : Limits) (n room : ℕ) where
       )
 
 module _ (m : Limits) (L : Listing) (room : ℕ) where
-  abbrev bytes : ℕ
-  bytes = length (textOf (layers L))
+  abbrev size : ℕ
+  size = length (textOf (layers L))
 
   pub write-stops : (a : Answer) → a ≡ closed m L → (a .no ≡ 0 → ⊥) → a ≡ writeTest m L room
   unfolding writeTest
   write-stops a e s = e ∙ sym (or-stop (closed m L) _ (stops e s))
 
-  pub write-goes : closed m L .no ≡ 0 → writeTest m L room ≡ lengthTest m bytes room
+  pub write-goes : closed m L .no ≡ 0 → writeTest m L room ≡ lengthTest m size room
   unfolding writeTest
   write-goes z = or-fine (closed m L) _ z
 
   pub write-broken : FirstBroken (writeRules m L room) (writeTest m L room .no)
   unfolding writeTest lengthTest
   write-broken =
-      closed-then m L _ _ (λ C. broken-step _ (tests-over bytesShort (omega arith) room bytes) _
-      (λ h. broken-last (tests-over longText (omega arith) (m .text) bytes)))
+      closed-then m L _ _ (λ C. broken-step _ (tests-over bytesShort (omega arith) room size) _
+      (λ h. broken-last (tests-over longText (omega arith) (m .text) size)))
 
   -- it answers 0 exactly if the listing is closed and its text fits
-  pub write-exact : writeTest m L room .no ≡ 0 ↔ (Closed m L × (bytes ≤ room) × (bytes ≤ m .text))
+  pub write-exact : writeTest m L room .no ≡ 0 ↔ (Closed m L × (size ≤ room) × (size ≤ m .text))
   unfolding writeTest
   write-exact = (
     λ z.
         let p = or-no (closed m L) _ z in
-        let f = length-fits m bytes room (p .1) in
+        let f = length-fits m size room (p .1) in
         (closed-exact m L .0 (p .0), f .0, f .1),
     λ w. no-or (closed m L) _ (closed-exact m L .1 (w .0))
-        (ap (λ (a : Answer). a .no) (length-fine m bytes room (w .1) (w .2))),
+        (ap (λ (a : Answer). a .no) (length-fine m size room (w .1) (w .2))),
   )
 
 -- ---- what is answered and left
@@ -134,6 +135,19 @@ pub text-once : {t : Answer} {s old new new′ : List ℕ} {r r′ : Written} �
     → TextMade t s old new′ r′ → (r ≡ r′) × (new ≡ new′)
 text-once p q = (p .answer ∙ sym (q .answer), p .text ∙ sym (q .text))
 
+-- what is written lies inside the slice, which is as long as before
+module _ (m : Limits) (L : Listing) {old new : List ℕ} {r : Written}
+    (d : TextMade (writeTest m L (length old)) (textOf (layers L)) old new r) where
+  pub text-inside : (r .length ≤ length old) × (length new ≡ length old)
+  text-inside = go (zero-or (r .answer .no))
+    where
+      go : (r .answer .no ≡ 0) ⊎ (r .answer .no ≡ 0 → ⊥) → (r .length ≤ length old) × (length new ≡ length old)
+      go (inl z) =
+          let h = write-exact m L (length old) .0 (no-of (text-answer d) z) .1 in
+          let w = text-wrote d z in
+          (omega (arith, h, w .0), ap length (w .1) ∙ over-length (textOf (layers L)) old h)
+      go (inr s) = let u = text-untouched d s in (omega (arith, u .1), ap length (u .0))
+
 -- ---- a closed listing reads as itself
 
 module _ (L : Listing) (C : Closed limits L) where
@@ -155,8 +169,7 @@ module _ (L : Listing) (C : Closed limits L) where
   elements-few : sum (λ r. count L r) (suc (rank L)) ≤ limits .elements
   unfolding before
   elements-few =
-      let e : suc (rank L) ≡ length (L .counts) = omega (arith, C .shaped .some-rank) in
-      omega (arith, ap (before (L .counts)) e, C .shaped .few-elements)
+      omega (arith, ap (before (L .counts)) (shaped-ranks L (C .shaped)), C .shaped .few-elements)
 
   readable : length (textOf (layers L)) ≤ limits .text → Readable limits (layers L)
   readable h = record {

@@ -1,4 +1,5 @@
-// Listings as text: what a text says, written into lent slices, and whether that is closed; the text of a closed listing.
+// Listings as text: what a text says, written into lent slices, and whether that is closed; the text of a closed
+// listing.
 use listing::Answer;
 use listing::Built;
 use listing::Index;

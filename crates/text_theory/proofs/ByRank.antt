@@ -1,9 +1,9 @@
 -- The text of layers, rank by rank: the line of the rank, then the lines of each; and of a rank the line of its count,
 -- then one for each element.
 -- Assumes nothing.
-use mathlib.Core.Path.{_≡_, refl, ap, _∙_}
+use mathlib.Core.Path.{_≡_, ap, _∙_}
 use mathlib.Core.List.{List, [], _∷_, _++_}
-use Prim.Native.Nat.{ℕ, suc, _+_, _<_}
+use Prim.Native.Nat.{ℕ, suc}
 use native.Mathlib.Omega.{arith}
 use Rattle.order.specs.Sums.{sum}
 use Rattle.listing.specs.Layers.{Layers}

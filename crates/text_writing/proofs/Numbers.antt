@@ -1,6 +1,6 @@
 -- How many digits a number has; and a number as it is written from its last digit to its first.
 -- Assumes nothing.
-use mathlib.Core.Path.{_≡_, refl, sym, ap, _∙_}
+use mathlib.Core.Path.{_≡_, sym, ap, _∙_}
 use mathlib.Core.List.{List, [], _∷_, _++_, append-assoc, append-nil}
 use Prim.Native.Nat.{ℕ, _+_, _-_, _/_, _%_, _≤_, _<_}
 use native.Mathlib.Omega.{arith}
@@ -9,7 +9,7 @@ use Rattle.listing.specs.Laid.{LaidList}
 use Rattle.listing.proofs.Laying.{laid-none, list-before}
 use Rattle.text_theory.specs.Text.{digit, numeral}
 use Rattle.text_theory.proofs.Numerals.{numeral-short, numeral-long}
-use Rattle.text_writing.specs.Writing.{Put}
+use Rattle.text_writing.specs.Writing.{PutAt}
 
 -- ---- how many digits
 
@@ -62,14 +62,15 @@ module _ (x at : ℕ) (d : List ℕ) where
         let e : p ≡ p - 1 + 1 = omega (arith, s .place) in
         let one = digit (v % 10) ∷ [] in record {
           tail = digit (v % 10) ∷ s .tail;
-          whole = s .whole ∙ ap (λ (l : List ℕ). l ++ s .tail) (numeral-long v h) ∙ append-assoc (numeral (v / 10)) one _;
+          whole = s .whole ∙ ap (λ (l : List ℕ). l ++ s .tail) (numeral-long v h)
+              ∙ append-assoc (numeral (v / 10)) one _;
           place = omega (arith, s .place);
           laid = list-before (p - 1) d d′ (s .tail) (digit (v % 10)) (omega (arith, spelling-fits, s .place))
               (rw e at (s .laid));
         }
 
     pub spelling-done : v < 10 → (r : ℕ) → r ≡ at + length (numeral x)
-        → Put (numeral x) at d (set d′ at (digit v)) r
+        → PutAt (numeral x) at d (set d′ at (digit v)) r
     spelling-done h r e =
         let q : p ≡ at + 1 = omega (arith, s .place, one-digit v h) in
         let w = s .whole ∙ ap (λ (l : List ℕ). l ++ s .tail) (numeral-short v h) in

@@ -8,7 +8,7 @@ use native.Mathlib.Omega.{arith}
 use lib.ListN.{length, getD, take, drop, set, length-append, length-drop, take-append-drop}
 use lib.Seq.{take-all, take-suc}
 use Rattle.text_theory.specs.Text.{comma, numeral, parted, commas}
-use Rattle.text_writing.specs.Writing.{Put}
+use Rattle.text_writing.specs.Writing.{PutAt}
 use Rattle.text_writing.proofs.Putting.{put-byte, put-then, put-as}
 
 -- ---- commas
@@ -73,7 +73,7 @@ commas-length (x ∷ l) = omega arith
 
 -- ---- as they are written
 
-module _ (l : List ℕ) (at : ℕ) (d : List ℕ) (j : ℕ) (d′ : List ℕ) (p : ℕ) (s : Put (parted (take j l)) at d d′ p)
+module _ (l : List ℕ) (at : ℕ) (d : List ℕ) (j : ℕ) (d′ : List ℕ) (p : ℕ) (s : PutAt (parted (take j l)) at d d′ p)
     (h : j < length l) where
   -- there is room for a comma and the next number
   pub row-room : at + length (parted l) ≤ length d → p + 1 + length (numeral (getD l j 0)) ≤ length d′
@@ -81,7 +81,7 @@ module _ (l : List ℕ) (at : ℕ) (d : List ℕ) (j : ℕ) (d′ : List ℕ) (p
       omega (arith, room, parted-longer l j h, parted-part l (j + 1), s .next, s .laid .same-length)
 
   pub row-next : p < length d′ → (d″ : List ℕ) (q : ℕ)
-      → Put (numeral (getD l j 0)) (p + 1) (set d′ p comma) d″ q → Put (parted (take (j + 1) l)) at d d″ q
+      → PutAt (numeral (getD l j 0)) (p + 1) (set d′ p comma) d″ q → PutAt (parted (take (j + 1) l)) at d d″ q
   row-next k d″ q b =
       let t = put-then _ _ p d′ _ d″ _ q (put-byte comma p d′ k) b in
       put-as (sym (parted-next l j h)) (put-then _ _ at d d′ d″ p q s t)

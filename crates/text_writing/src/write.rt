@@ -1,5 +1,5 @@
-// A text written into a lent slice that has room for it: each function writes its part at a place, and returns the place
-// after it.
+// A text written into a lent slice that has room for it: each function writes its part at a place, and returns the
+// place after it.
 use crate::length;
 use listing::Index;
 use listing::inner;
@@ -12,12 +12,12 @@ ghost use Rattle.listing.specs.Shape.{Shaped};
 ghost use Rattle.listing.specs.Layers.{layers};
 ghost use Rattle.listing.specs.Written.{joined};
 ghost use Rattle.text_theory.specs.Text.{numeral, parted, commas, line, lineBytes, rankBytes, textOf};
-ghost use Rattle.text_writing.specs.Writing.{linesFrom, Put};
+ghost use Rattle.text_writing.specs.Writing.{linesFrom, PutAt};
 
 // Writes the bytes of a key.
 fn put_key(key: &[u8], text: &mut [u8], at: usize) -> usize
     requires { ⌜ at + size (now key) ≤ size (now text) ⌝ }
-    ensures { λ r. ⌜ Put (now (key .entry)) at (now (text .entry)) (now (text .exit)) r ⌝ }
+    ensures { λ r. ⌜ PutAt (now (key .entry)) at (now (text .entry)) (now (text .exit)) r ⌝ }
 {
     let mut k: usize = 0;
     while k < key.len() {
@@ -30,7 +30,7 @@ fn put_key(key: &[u8], text: &mut [u8], at: usize) -> usize
 // Writes a number in decimal, from its last digit to its first.
 fn put_number(x: Index, text: &mut [u8], at: usize) -> usize
     requires { ⌜ at + size (numeral x) ≤ size (now text) ⌝ }
-    ensures { λ r. ⌜ Put (numeral x) at (now (text .entry)) (now (text .exit)) r ⌝ }
+    ensures { λ r. ⌜ PutAt (numeral x) at (now (text .entry)) (now (text .exit)) r ⌝ }
 {
     let end = at + length::digits(x);
     let mut p = end;
@@ -47,7 +47,7 @@ fn put_number(x: Index, text: &mut [u8], at: usize) -> usize
 // Writes numbers, each after a comma.
 fn put_more(list: &[Index], text: &mut [u8], at: usize) -> usize
     requires { ⌜ at + size (parted (now list)) ≤ size (now text) ⌝ }
-    ensures { λ r. ⌜ Put (parted (now (list .entry))) at (now (text .entry)) (now (text .exit)) r ⌝ }
+    ensures { λ r. ⌜ PutAt (parted (now (list .entry))) at (now (text .entry)) (now (text .exit)) r ⌝ }
 {
     let mut p = at;
     let mut j: usize = 0;
@@ -62,7 +62,7 @@ fn put_more(list: &[Index], text: &mut [u8], at: usize) -> usize
 // Writes numbers, parted by commas.
 fn put_row(list: &[Index], text: &mut [u8], at: usize) -> usize
     requires { ⌜ at + size (commas (now list)) ≤ size (now text) ⌝ }
-    ensures { λ r. ⌜ Put (commas (now (list .entry))) at (now (text .entry)) (now (text .exit)) r ⌝ }
+    ensures { λ r. ⌜ PutAt (commas (now (list .entry))) at (now (text .entry)) (now (text .exit)) r ⌝ }
 {
     if list.len() == 0 {
         return at;
@@ -74,7 +74,7 @@ fn put_row(list: &[Index], text: &mut [u8], at: usize) -> usize
 // Writes a line.
 fn put_line(key: &[u8], list: &[Index], text: &mut [u8], at: usize) -> usize
     requires { ⌜ at + size (lineBytes (line (now key) (now list))) ≤ size (now text) ⌝ }
-    ensures { λ r. ⌜ Put (lineBytes (line (now (key .entry)) (now (list .entry)))) at
+    ensures { λ r. ⌜ PutAt (lineBytes (line (now (key .entry)) (now (list .entry)))) at
         (now (text .entry)) (now (text .exit)) r ⌝ }
 {
     let from = put_key(key, &mut *text, at);
@@ -83,7 +83,7 @@ fn put_line(key: &[u8], list: &[Index], text: &mut [u8], at: usize) -> usize
     end + 1
 }
 
-// Writes the lines of n elements, whose lists begin at place here.
+// Writes the lines of the n elements from place here on.
 fn put_elements(
     ends: &[Index],
     inc: &[Index],
@@ -94,7 +94,7 @@ fn put_elements(
 ) -> usize
     requires { ⌜ Ends (now ends) (now inc) × (2 * (here + n) ≤ size (now ends)) ⌝ }
     requires { ⌜ at + size (linesFrom (now ends) (now inc) here n) ≤ size (now text) ⌝ }
-    ensures { λ p. ⌜ Put (linesFrom (now (ends .entry)) (now (inc .entry)) here n) at
+    ensures { λ p. ⌜ PutAt (linesFrom (now (ends .entry)) (now (inc .entry)) here n) at
         (now (text .entry)) (now (text .exit)) p ⌝ }
 {
     let mut p = at;
@@ -120,7 +120,7 @@ fn put_rank(
     requires { ⌜ Shaped limits (held counts ends inc) ⌝ }
     requires { ⌜ (here ≡ before (now counts) r) × (r < size (now counts)) ⌝ }
     requires { ⌜ at + size (rankBytes (layers (held counts ends inc)) r) ≤ size (now text) ⌝ }
-    ensures { λ p. ⌜ Put (rankBytes (layers (held (counts .entry) (ends .entry) (inc .entry))) r) at
+    ensures { λ p. ⌜ PutAt (rankBytes (layers (held (counts .entry) (ends .entry) (inc .entry))) r) at
         (now (text .entry)) (now (text .exit)) p ⌝ }
 {
     let p = put_line(b"count=", &counts[r..r + 1], &mut *text, at);
@@ -130,8 +130,9 @@ fn put_rank(
 // Writes the lines of all ranks.
 fn put_ranks(counts: &[Index], ends: &[Index], inc: &[Index], text: &mut [u8], at: usize) -> usize
     requires { ⌜ Shaped limits (held counts ends inc) ⌝ }
-    requires { ⌜ at + size (joined (rankBytes (layers (held counts ends inc))) (size (now counts))) ≤ size (now text) ⌝ }
-    ensures { λ p. ⌜ Put
+    requires { ⌜ at + size (joined (rankBytes (layers (held counts ends inc))) (size (now counts)))
+        ≤ size (now text) ⌝ }
+    ensures { λ p. ⌜ PutAt
         (joined (rankBytes (layers (held (counts .entry) (ends .entry) (inc .entry)))) (size (now (counts .entry)))) at
         (now (text .entry)) (now (text .exit)) p ⌝ }
 {

@@ -2,12 +2,12 @@
 -- Assumes nothing.
 use mathlib.Core.Path.{_≡_, refl, sym, _∙_}
 use mathlib.Core.List.{List}
-use Prim.Native.Nat.{ℕ, suc, _+_, _-_, _≤_, _<_}
+use Prim.Native.Nat.{ℕ, suc, _+_, _-_, _<_}
 use native.Mathlib.Omega.{arith}
-use Rattle.order.specs.Lists.{In, Ascending, occurs}
+use Rattle.order.specs.Lists.{In, Ascending}
 use Rattle.order.proofs.Lists.{ascending-once, ascending-same}
 use Rattle.listing.specs.Listing.{Listing, Limits, count, subs, sups}
-use Rattle.listing.specs.Layers.{layers, derived}
+use Rattle.listing.specs.Layers.{layers, derived, Derived}
 use Rattle.listing.specs.Written.{written}
 use Rattle.listing.proofs.Layers.{derived-in, derived-ascending}
 use Rattle.listing.proofs.Written.{written-same}
@@ -38,15 +38,16 @@ module _ {m : Limits} (L : Listing) (C : Closed m L) where
       derived-ascending (layers L) r i
       (λ b l. ascending-once i (subs L (suc r) b) (C .ascends (suc r) b l 0 (omega arith)))
 
-  pub closed-sups : (r i : ℕ) → i < count L r → sups L r i ≡ derived (layers L) r i
-  unfolding Ascends
-  closed-sups r i h =
+  pub closed-derived : Derived L
+  unfolding Ascends Derived
+  closed-derived r i h =
       ascending-same _ _ (sup-derived L (C .incident) r i h) (derived-sup L (C .incident) r i h)
       (C .ascends r i h 1 (omega arith)) (derived-ascends r i)
 
   pub closed-written : written (layers L) (derived (layers L)) ≡ L
+  unfolding Derived
   closed-written =
       let own : ℕ → ℕ → List ℕ = λ r i. sups L r i in
       written-same (layers L) (layers L) (derived (layers L)) own refl (λ r. refl) (λ r i h. refl)
-      (λ r i h. sym (closed-sups r i h))
+      (λ r i h. sym (closed-derived r i h))
       ∙ written-own L (C .shaped)

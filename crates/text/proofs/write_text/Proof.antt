@@ -1,11 +1,8 @@
 -- `write_text`: the closed test, then the length, and then all that is asked for writing holds. Assumes nothing.
 use borrow.Author.Needs.{needs}
-use native.Mathlib.Omega.{arith}
 use mathlib.Core.Path.{_≡_, refl, sym, ap, _∙_}
 use Prim.Native.Nat.{ℕ, _≤_}
 use lib.ListN.{length}
-use Rattle.order.proofs.Over.{over-length}
-use Rattle.listing.specs.declared.Answer.{Answer}
 use Rattle.listing.specs.Listing.{Listing, listing, limits}
 use Rattle.listing.specs.Shape.{Shaped}
 use Rattle.listing.specs.Layers.{layers}
@@ -17,8 +14,8 @@ use Rattle.text.proofs.WrittenTexts.{length-fits, write-stops, write-go
 use Rattle.text.proofs.write_text.Statement.{statement}
 use Rattle.text.proofs.write_text.Tie as tie
 
--- where the function began, seen from where the listing has been found closed; the listing, and its text; and that place,
--- seen from where the length has been tested, and from where it has been found to fit
+-- where the function began, seen from where the listing has been found closed; the listing; and that place, seen from
+-- where the length has been tested, from where it has been found to fit, and from the end
 abbrev begun : tie.Else1 → tie.Start
 begun c = c .before .before .before .before .before .before .before
 

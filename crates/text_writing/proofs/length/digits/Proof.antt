@@ -4,6 +4,10 @@ use Rattle.text_writing.proofs.Numbers.{one-digit, two-digits, three-di
 use Rattle.text_writing.proofs.length.digits.Statement.{statement}
 use Rattle.text_writing.proofs.length.digits.Tie as tie
 
+-- where the function began, seen from where there are four digits or more
+abbrev begun : tie.Else3 → tie.Start
+begun c = c .before .before .before
+
 returns : tie.Need-returns
 returns c = (one-digit (c .before .args .x) (omega arith), omega arith)
 
@@ -14,10 +18,10 @@ returns-3 : tie.Need-returns-3
 returns-3 c = (three-digits (c .before .before .before .args .x) (omega arith) (omega arith), omega arith)
 
 returns-4 : tie.Need-returns-4
-returns-4 c = (four-digits (c .before .before .before .before .args .x) (omega arith) (omega arith), omega arith)
+returns-4 c = (four-digits (begun (c .before) .args .x) (omega arith) (omega arith), omega arith)
 
 returns-5 : tie.Need-returns-5
-returns-5 c = (five-digits (c .before .before .before .before .args .x) (omega arith) (omega arith), omega arith)
+returns-5 c = (five-digits (begun (c .before) .args .x) (omega arith) (omega arith), omega arith)
 
 pub digits-spec : {M : Type 1} → statement M
 digits-spec = tie.close (tie.spec returns returns-2 returns-3 returns-4 returns-5)

@@ -1,5 +1,4 @@
 -- `line_length`. A line is its key, its numbers and a newline. Assumes nothing.
-use borrow.Author.Needs.{needs}
 use native.Mathlib.Omega.{arith}
 use Rattle.text_writing.proofs.Parts.{line-length}
 use Rattle.text_writing.proofs.length.line_length.Statement.{statement}

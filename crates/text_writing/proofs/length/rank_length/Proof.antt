@@ -3,28 +3,33 @@
 use borrow.Author.Needs.{needs}
 use native.Mathlib.Omega.{arith}
 use mathlib.Core.Path.{_≡_, refl, sym, ap, _∙_}
-use Prim.Native.Nat.{_+_, _-_, _*_, _≤_, _<_}
+use Prim.Native.Nat.{_+_, _-_, _*_, _≤_}
 use lib.ListN.{length}
 use Rattle.listing.specs.Listing.{Listing, listing, width, count}
 use Rattle.listing.specs.Written.{joined}
 use Rattle.listing.proofs.ShapeExact.{shaped-ends}
+use Rattle.listing.proofs.Written.{joined-longer}
 use Rattle.listing.proofs.Places.{side-fits, few-in-rank}
-use Rattle.text_writing.proofs.Parts.{parts-length}
-use Rattle.text_writing.proofs.Ranks.{countLine, subsLine, rank-length, count-part, count-line, subs-line, list-narrow}
+use Rattle.text_writing.proofs.Ranks.{countBytes, subsBytes, rank-length, count-part, count-bytes, subs-bytes}
+use Rattle.text_writing.proofs.Ranks.{list-narrow}
 use Rattle.text_writing.proofs.length.rank_length.Statement.{statement}
 use Rattle.text_writing.proofs.length.rank_length.Tie as tie
 
 abbrev Inv-loop : tie.InvT-loop
 Inv-loop counts ends inc here r count n₀ i₀ t10 n i =
     let L = listing counts ends inc in
-    (i ≤ count) × (n ≡ length (countLine L r) + length (joined (subsLine L r) i)) × (n ≤ 8 * width * (i + 1))
+    (i ≤ count) × (n ≡ length (countBytes L r) + length (joined (subsBytes L r) i)) × (n ≤ 8 * width * (i + 1))
 
 abbrev μ-loop : tie.MeasureT-loop
 μ-loop counts ends inc here r count n₀ i₀ t10 n i = count - i
 
--- where the function began, seen from the loop, and the listing; a turn of the loop, seen from where its line is measured
+-- where the function began, seen from where the count is measured, and from the loop; the listing; a turn of the loop,
+-- seen from where its line is measured
+abbrev first : tie.After-line-length-arg2 Inv-loop μ-loop → tie.Start Inv-loop μ-loop
+first c = c .before .before .before .before .before .before
+
 abbrev begun : tie.At-loop Inv-loop μ-loop → tie.Start Inv-loop μ-loop
-begun l = l .before .before .before .before .before .before .before .before
+begun l = first (l .before .before)
 
 abbrev cell : tie.Start Inv-loop μ-loop → Listing
 cell s = listing (s .args .counts .now) (s .args .ends .now) (s .args .inc .now)
@@ -34,11 +39,11 @@ turn c = c .before .before .before
 
 -- how long the next line is
 next-line : (c : tie.After-line-length2 Inv-loop μ-loop) → let l = turn c .before in
-    c .line-length2 .result ≡ length (subsLine (cell (begun l)) (begun l .args .r) (l .loop .i))
+    c .line-length2 .result ≡ length (subsBytes (cell (begun l)) (begun l .args .r) (l .loop .i))
 next-line c =
     let s = begun (turn c .before) in
     c .line-length2 .ensures .0
-    ∙ ap length (subs-line (cell s) (s .args .r) _ (s .pre .1 .0) _ _ (c .before .side-of .ensures))
+    ∙ ap length (subs-bytes (cell s) (s .args .r) _ (s .pre .1 .0) _ _ (c .before .side-of .ensures))
 
 mul-count : tie.Need-mul-count Inv-loop μ-loop
 mul-count c = search needs
@@ -66,16 +71,16 @@ part-line-length-end c = search needs
 
 line-length-requires : tie.Need-line-length-requires Inv-loop μ-loop
 line-length-requires c κs =
-    let s = c .before .before .before .before .before .before in
+    let s = first c in
     (omega arith, omega (arith, ap length (count-part (cell s) (s .args .r) (s .pre .1 .1))))
 
 loop-holds : tie.Need-loop-holds Inv-loop μ-loop
 unfolding joined
 loop-holds c =
-    let s = c .before .before .before .before .before .before .before in
+    let s = first (c .before) in
     let e = c .line-length .ensures in
-    let l = count-line (cell s) (s .args .r) (s .pre .1 .1) in
-    let z : 0 ≡ length (joined (subsLine (cell s) (s .args .r)) 0) = refl in
+    let l = count-bytes (cell s) (s .args .r) (s .pre .1 .1) in
+    let z : 0 ≡ length (joined (subsBytes (cell s) (s .args .r)) 0) = refl in
     (omega arith, omega (arith, e .0, ap length l), omega (arith, e .1))
 
 slice-aggregate-line-length-2 : tie.Need-slice-aggregate-line-length-2 Inv-loop μ-loop
@@ -119,7 +124,7 @@ loop-again c =
     let s = begun l in
     let i = l .loop .inv in (
       omega (arith, turn c .loop-test .taken),
-      omega (arith, i .1, next-line c, parts-length (subsLine (cell s) (s .args .r)) (l .loop .i)),
+      omega (arith, i .1, next-line c, joined-longer (subsBytes (cell s) (s .args .r)) (l .loop .i)),
       omega (arith, i .2, c .line-length2 .ensures .1),
     )
 

@@ -1,5 +1,5 @@
--- `row_length`. Invariant: n is how long the first j numbers are, each after a comma, at most six bytes for each. Measure:
--- the numbers left. Assumes nothing.
+-- `row_length`. Invariant: n is how long the first j numbers are, each after a comma, at most six bytes for each.
+-- Measure: the numbers left. Assumes nothing.
 use borrow.Author.Needs.{needs}
 use native.Mathlib.Omega.{arith}
 use mathlib.Core.Path.{_≡_, sym, ap, _∙_}

@@ -2,18 +2,18 @@
 -- place here, and no rank has lines longer than is said. Measure: the ranks left. Assumes nothing.
 use borrow.Author.Needs.{needs}
 use native.Mathlib.Omega.{arith}
-use mathlib.Core.Path.{_≡_, refl, sym, ap, _∙_}
-use Prim.Native.Nat.{_+_, _-_, _*_, _≤_, _<_}
+use mathlib.Core.Path.{_≡_, sym, _∙_}
+use Prim.Native.Nat.{_+_, _-_, _*_, _≤_}
 use lib.ListN.{length}
 use Rattle.listing.specs.Listing.{Listing, listing, width, before}
 use Rattle.listing.specs.Layers.{layers}
 use Rattle.listing.specs.Written.{joined}
 use Rattle.listing.proofs.Listing.{before-zero, before-next}
 use Rattle.listing.proofs.Places.{few-before}
+use Rattle.listing.proofs.Written.{joined-longer}
 use Rattle.text_theory.specs.Text.{rankBytes}
-use Rattle.text_writing.proofs.Parts.{parts-length}
 use Rattle.text_writing.proofs.Ranks as ranks
-use Rattle.text_writing.proofs.Ranks.{rankLine}
+use Rattle.text_writing.proofs.Ranks.{rankFirst}
 use Rattle.text_writing.proofs.length.text_length.Statement.{statement}
 use Rattle.text_writing.proofs.length.text_length.Tie as tie
 
@@ -21,14 +21,18 @@ abbrev Inv-loop : tie.InvT-loop
 Inv-loop counts ends inc n₀ here₀ r₀ n here r =
     let L = listing counts ends inc in
     (r ≤ length counts) × (here ≡ before counts r)
-    × (n ≡ length (rankLine L) + length (joined (rankBytes (layers L)) r)) × (n ≤ 8 * width * width * (r + 1))
+    × (n ≡ length (rankFirst L) + length (joined (rankBytes (layers L)) r)) × (n ≤ 8 * width * width * (r + 1))
 
 abbrev μ-loop : tie.MeasureT-loop
 μ-loop counts ends inc n₀ here₀ r₀ n here r = length counts - r
 
--- where the function began, seen from the loop, and the listing; a turn of the loop, seen from where it ends
+-- where the function began, seen from where the first line has been measured, and from the loop; the listing; a turn of
+-- the loop, seen from where it ends
+abbrev first : tie.After-line-length Inv-loop μ-loop → tie.Start Inv-loop μ-loop
+first c = c .before .before .before .before .before .before
+
 abbrev begun : tie.At-loop Inv-loop μ-loop → tie.Start Inv-loop μ-loop
-begun l = l .before .before .before .before .before .before .before
+begun l = first (l .before)
 
 abbrev cell : tie.Start Inv-loop μ-loop → Listing
 cell s = listing (s .args .counts .now) (s .args .ends .now) (s .args .inc .now)
@@ -54,7 +58,7 @@ line-length-requires c κs = (omega arith, omega arith)
 loop-holds : tie.Need-loop-holds Inv-loop μ-loop
 unfolding joined
 loop-holds c =
-    let s = c .before .before .before .before .before .before in
+    let s = first c in
     let e = c .line-length .ensures in
     (omega arith, sym (before-zero (s .args .counts .now)), omega (arith, e .0), omega (arith, e .1))
 
@@ -98,7 +102,7 @@ loop-again c =
     let e = c .before .before .rank-length .ensures in (
       omega (arith, turn c .loop-test .taken),
       omega (arith, before-next (s .args .counts .now) (l .loop .r), i .1, c .wide .ensures .0),
-      omega (arith, i .2, e .0, parts-length (rankBytes (layers (cell s))) (l .loop .r)),
+      omega (arith, i .2, e .0, joined-longer (rankBytes (layers (cell s))) (l .loop .r)),
       omega (arith, i .3, e .1),
     )
 

@@ -1,32 +1,28 @@
--- `put_elements`. Invariant: the lines of the first i elements are written. Measure: the elements left. Assumes nothing.
+-- `put_elements`. Invariant: the lines of the first i elements are written. Measure: the elements left.
+-- Assumes nothing.
 use borrow.Author.Needs.{needs}
 use native.Mathlib.Omega.{arith}
-use mathlib.Core.Path.{_≡_, sym, ap}
+use mathlib.Core.Path.{_≡_, ap}
 use mathlib.Core.List.{List}
-use Prim.Native.Nat.{ℕ, _+_, _-_, _*_, _≤_, _<_}
+use Prim.Native.Nat.{ℕ, _-_, _≤_}
 use lib.ListN.{length}
-use Rattle.listing.specs.Listing.{entries}
 use Rattle.listing.specs.Written.{joined}
 use Rattle.text_theory.specs.Text.{subsKey, line, lineBytes}
-use Rattle.text_writing.specs.Writing.{linesFrom, Put}
+use Rattle.text_writing.specs.Writing.{lineFrom, linesFrom, PutAt}
 use Rattle.text_writing.proofs.Putting.{put-as}
 use Rattle.text_writing.proofs.Parts.{parts-none, parts-room, parts-next}
 use Rattle.text_writing.proofs.write.put_elements.Statement.{statement}
 use Rattle.text_writing.proofs.write.put_elements.Tie as tie
 
--- the line of element i
-abbrev lineFrom : List ℕ → List ℕ → ℕ → ℕ → List ℕ
-lineFrom ends inc here i = lineBytes (line subsKey (entries ends inc (2 * (here + i) + 0)))
-
 abbrev Inv-loop : tie.InvT-loop
 Inv-loop ends inc here n text₀ at p₀ i₀ t10 text p i =
-    (i ≤ n) × Put (joined (lineFrom ends inc here) i) at text₀ text p
+    (i ≤ n) × PutAt (joined (lineFrom ends inc here) i) at text₀ text p
 
 abbrev μ-loop : tie.MeasureT-loop
 μ-loop ends inc here n text₀ at p₀ i₀ t10 text p i = n - i
 
--- where the function began, seen from the loop; a turn of it, seen from where the line is put; and that, seen from behind
--- it
+-- where the function began, seen from the loop; a turn of it, seen from where the line is put; and that, seen from
+-- behind it
 abbrev begun : tie.At-loop Inv-loop μ-loop → tie.Start Inv-loop μ-loop
 begun l = l .before .before .before .before
 

@@ -1,6 +1,6 @@
 -- `put_line`. A key, numbers and a newline. Assumes nothing.
 use native.Mathlib.Omega.{arith}
-use mathlib.Core.Path.{_≡_, _∙_}
+use mathlib.Core.Path.{_∙_}
 use Prim.Native.Nat.{_+_, _≤_, _<_}
 use lib.ListN.{length, length-set}
 use Rattle.text_theory.specs.Text.{newline, commas}
@@ -25,7 +25,8 @@ room : (c : tie.After-put-key-arg) → let a = begun c .args in
 room c = let a = begun c .args in omega (arith, begun c .pre, line-length (a .key .now) (a .list .now))
 
 -- the newline lies inside
-inside : (c : tie.After-slice-known3) → c .before .before .put-row .result < length (c .before .before .put-row .last .1 .0)
+inside : (c : tie.After-slice-known3) → let r = c .before .before .put-row in
+    r .result < length (r .last .1 .0)
 inside c =
     let k = rowed c .before .before .before .put-key .ensures in
     let r = c .before .before .put-row .ensures in

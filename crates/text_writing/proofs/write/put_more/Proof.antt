@@ -2,24 +2,24 @@
 -- Assumes nothing.
 use borrow.Author.Needs.{needs}
 use native.Mathlib.Omega.{arith}
-use mathlib.Core.Path.{_≡_, sym}
-use Prim.Native.Nat.{_+_, _-_, _≤_, _<_}
+use mathlib.Core.Path.{sym}
+use Prim.Native.Nat.{_+_, _-_, _≤_}
 use lib.ListN.{length, getD, take, length-set}
 use Rattle.text_theory.specs.Text.{comma, numeral, parted}
-use Rattle.text_writing.specs.Writing.{Put}
+use Rattle.text_writing.specs.Writing.{PutAt}
 use Rattle.text_writing.proofs.Putting.{put-none, put-as}
 use Rattle.text_writing.proofs.Rows.{parted-none, parted-all, row-room, row-next}
 use Rattle.text_writing.proofs.write.put_more.Statement.{statement}
 use Rattle.text_writing.proofs.write.put_more.Tie as tie
 
 abbrev Inv-loop : tie.InvT-loop
-Inv-loop list text₀ at p₀ j₀ text p j = Put (parted (take j list)) at text₀ text p
+Inv-loop list text₀ at p₀ j₀ text p j = PutAt (parted (take j list)) at text₀ text p
 
 abbrev μ-loop : tie.MeasureT-loop
 μ-loop list text₀ at p₀ j₀ text p j = length list - j
 
--- where the function began, seen from the loop; a turn of it, seen from where the next number is put; and that, seen from
--- behind it
+-- where the function began, seen from the loop; a turn of it, seen from where the next number is put; and that, seen
+-- from behind it
 abbrev begun : tie.At-loop Inv-loop μ-loop → tie.Start Inv-loop μ-loop
 begun l = l .before .before .before
 

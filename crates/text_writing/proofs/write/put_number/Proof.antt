@@ -1,11 +1,9 @@
--- `put_number`. Invariant: of the number all but v stands there, from place p on (Spelling). Measure: what is left of it.
--- Assumes nothing.
+-- `put_number`. Invariant: of the number all but v stands there, from place p on (Spelling). Measure: what is left of
+-- it. Assumes nothing.
 use borrow.Author.Needs.{needs}
 use native.Mathlib.Omega.{arith}
-use mathlib.Core.Path.{_≡_, ap, _∙_}
-use Prim.Native.Nat.{_+_, _-_, _≤_, _<_}
+use Prim.Native.Nat.{_≤_, _<_}
 use lib.ListN.{length}
-use Rattle.text_theory.specs.Text.{numeral}
 use Rattle.text_theory.proofs.Numerals.{numeral-some}
 use Rattle.text_writing.proofs.Numbers.{Spelling, spelling-begun, spelling-fits, spelling-next, spelling-done}
 use Rattle.text_writing.proofs.write.put_number.Statement.{statement}

@@ -3,7 +3,7 @@
 use borrow.Author.Needs.{needs}
 use native.Mathlib.Omega.{arith}
 use mathlib.Core.Path.{_≡_, sym, ap}
-use Prim.Native.Nat.{_+_, _-_, _≤_, _<_}
+use Prim.Native.Nat.{_+_, _-_, _≤_}
 use lib.ListN.{length}
 use Rattle.listing.specs.Listing.{Listing, listing, before}
 use Rattle.listing.specs.Layers.{layers}
@@ -11,7 +11,7 @@ use Rattle.listing.specs.Written.{joined}
 use Rattle.listing.proofs.Listing.{before-zero, before-next}
 use Rattle.listing.proofs.Places.{few-before}
 use Rattle.text_theory.specs.Text.{rankBytes}
-use Rattle.text_writing.specs.Writing.{Put}
+use Rattle.text_writing.specs.Writing.{PutAt}
 use Rattle.text_writing.proofs.Putting.{put-as}
 use Rattle.text_writing.proofs.Parts.{parts-none, parts-room, parts-next}
 use Rattle.text_writing.proofs.write.put_ranks.Statement.{statement}
@@ -20,15 +20,18 @@ use Rattle.text_writing.proofs.write.put_ranks.Tie as tie
 abbrev Inv-loop : tie.InvT-loop
 Inv-loop counts ends inc text₀ at p₀ here₀ r₀ text p here r =
     (r ≤ length counts) × (here ≡ before counts r)
-    × Put (joined (rankBytes (layers (listing counts ends inc))) r) at text₀ text p
+    × PutAt (joined (rankBytes (layers (listing counts ends inc))) r) at text₀ text p
 
 abbrev μ-loop : tie.MeasureT-loop
 μ-loop counts ends inc text₀ at p₀ here₀ r₀ text p here r = length counts - r
 
--- where the function began, seen from the loop, and the listing; a turn of the loop, seen from where the rank is put; and
--- that, seen from the end of the turn
+-- where the function began, seen from where the loop begins, and from the loop; the listing; a turn of the loop, seen
+-- from where the rank is put; that, seen from behind it; and this, seen from the end of the turn
+abbrev first : tie.After-slice-known Inv-loop μ-loop → tie.Start Inv-loop μ-loop
+first c = c .before .before .before .before
+
 abbrev begun : tie.At-loop Inv-loop μ-loop → tie.Start Inv-loop μ-loop
-begun l = l .before .before .before .before .before
+begun l = first (l .before)
 
 abbrev cell : tie.Start Inv-loop μ-loop → Listing
 cell s = listing (s .args .counts .now) (s .args .ends .now) (s .args .inc .now)
@@ -36,11 +39,14 @@ cell s = listing (s .args .counts .now) (s .args .ends .now) (s .args .inc .now)
 abbrev turn : tie.After-put-rank-arg Inv-loop μ-loop → tie.In-loop Inv-loop μ-loop
 turn c = c .before
 
+abbrev put : tie.After-wide Inv-loop μ-loop → tie.After-put-rank Inv-loop μ-loop
+put c = c .before .before .before .before
+
 abbrev called : tie.After-wide Inv-loop μ-loop → tie.After-put-rank-arg Inv-loop μ-loop
-called c = c .before .before .before .before .before
+called c = put c .before
 
 loop-holds : tie.Need-loop-holds Inv-loop μ-loop
-loop-holds c = (omega arith, sym (before-zero (c .before .before .before .before .args .counts .now)), parts-none _ _ _)
+loop-holds c = (omega arith, sym (before-zero (first c .args .counts .now)), parts-none _ _ _)
 
 put-rank-requires : tie.Need-put-rank-requires Inv-loop μ-loop
 put-rank-requires c κs =
@@ -81,7 +87,7 @@ loop-again c =
     let i = l .loop .inv in (
       omega (arith, turn (called c) .loop-test .taken),
       omega (arith, before-next (s .args .counts .now) (l .loop .r), i .1, c .wide .ensures .0),
-      parts-next _ _ _ _ _ _ (i .2) _ _ (c .before .before .before .before .put-rank .ensures),
+      parts-next _ _ _ _ _ _ (i .2) _ _ (put c .put-rank .ensures),
     )
 
 same-length : tie.Need-same-length Inv-loop μ-loop

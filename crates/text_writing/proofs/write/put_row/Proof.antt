@@ -3,7 +3,7 @@ use borrow.Author.Needs.{needs}
 use native.Mathlib.Omega.{arith}
 use mathlib.Core.Path.{_≡_, sym, ap, _∙_}
 use mathlib.Core.List.{List}
-use Prim.Native.Nat.{ℕ, _+_, _≤_, _<_}
+use Prim.Native.Nat.{ℕ, _+_, _<_}
 use lib.ListN.{length, getD, drop, length-append}
 use Rattle.text_theory.specs.Text.{numeral, parted, commas}
 use Rattle.text_writing.proofs.Putting.{put-none, put-then, put-as}
@@ -11,12 +11,19 @@ use Rattle.text_writing.proofs.Rows.{commas-some, rest-part, commas-non
 use Rattle.text_writing.proofs.write.put_row.Statement.{statement}
 use Rattle.text_writing.proofs.write.put_row.Tie as tie
 
--- where the function began, seen from where the first number is put; that, seen from where the others are
+-- where the function began, seen from where the first number is put; that, seen from where it has been put; and this,
+-- seen from where the others are put, and from the end
 abbrev begun : tie.After-put-number-arg → tie.Start
 begun c = c .before .before .before .before .before
 
-abbrev first : tie.After-slice-known2 → tie.After-put-number-arg
-first c = c .before .before .before
+abbrev first : tie.After-put-number → tie.After-put-number-arg
+first c = c .before
+
+abbrev others : tie.After-put-more-arg2 → tie.After-put-number
+others c = c .before .before .before .before
+
+abbrev done : tie.After-slice-known3 → tie.After-put-more-arg2
+done c = c .before .before .before
 
 -- there is a first number
 some : (c : tie.After-put-number-arg) → 0 < length (begun c .args .list .now)
@@ -51,8 +58,8 @@ part-put-more-end c = search needs
 
 put-more-requires : tie.Need-put-more-requires
 put-more-requires c κs =
-    let d = first (c .before .before) in
-    let a = c .before .before .before .before .put-number .ensures in
+    let d = first (others c) in
+    let a = others c .put-number .ensures in
     let e = ap (λ (l : List ℕ). length (parted l)) (rest-part (begun d .args .list .now)) in
     omega (arith, e, both d, begun d .pre, a .next, a .laid .same-length)
 
@@ -61,10 +68,10 @@ same-length c = search needs
 
 returns-2 : tie.Need-returns-2
 returns-2 c =
-    let b = c .before .before .before .before .before in
+    let b = others (done c) in
     let l = begun (first b) .args .list .now in
     let r = put-as (ap parted (rest-part l)) (c .before .before .put-more .ensures) in
-    put-as (sym (commas-some l (some (first b)))) (put-then _ _ _ _ _ _ _ _ (b .before .before .put-number .ensures) r)
+    put-as (sym (commas-some l (some (first b)))) (put-then _ _ _ _ _ _ _ _ (b .put-number .ensures) r)
 
 pub put-row-spec : {M : Type 1} → statement M
 put-row-spec =

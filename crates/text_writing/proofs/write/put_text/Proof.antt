@@ -1,9 +1,7 @@
 -- `put_text`. The line of the rank, and those of all ranks, over what stood there. Assumes nothing.
 use borrow.Author.Needs.{needs}
 use native.Mathlib.Omega.{arith}
-use mathlib.Core.Path.{_≡_, sym, ap, _∙_}
-use Prim.Native.Nat.{_+_, _≤_, _<_}
-use lib.ListN.{length}
+use mathlib.Core.Path.{sym}
 use Rattle.listing.specs.Listing.{Listing, listing}
 use Rattle.listing.specs.Layers.{layers}
 use Rattle.listing.proofs.Laying.{list-over}
@@ -13,12 +11,16 @@ use Rattle.text_writing.proofs.Ranks.{text-put, text-length}
 use Rattle.text_writing.proofs.write.put_text.Statement.{statement}
 use Rattle.text_writing.proofs.write.put_text.Tie as tie
 
--- where the function began, and the listing; that, seen from where the rank is put; and this, seen from the end
+-- the listing; where the function began, seen from where its numbers are known, and from where the rank is put; that,
+-- seen from where all ranks are put; and these, seen from the end
 abbrev cell : tie.Start → Listing
 cell s = listing (s .args .counts .now) (s .args .ends .now) (s .args .inc .now)
 
+abbrev known : tie.After-slice-known → tie.Start
+known c = c .before .before .before .before
+
 abbrev begun : tie.After-put-line-arg2 → tie.Start
-begun c = c .before .before .before .before .before .before .before
+begun c = known (c .before .before .before)
 
 abbrev ranked : tie.After-put-ranks-arg → tie.After-put-line-arg2
 ranked c = c .before .before .before .before
@@ -27,10 +29,10 @@ abbrev done : tie.After-slice-known3 → tie.After-put-ranks-arg
 done c = c .before .before .before
 
 sub-t9 : tie.Need-sub-t9
-sub-t9 c = omega (arith, c .before .before .before .before .pre .0 .some-rank)
+sub-t9 c = omega (arith, known c .pre .0 .some-rank)
 
 cast-t10 : tie.Need-cast-t10
-cast-t10 c = omega (arith, c .before .before .before .before .pre .0 .few-ranks)
+cast-t10 c = omega (arith, known c .pre .0 .few-ranks)
 
 slice-aggregate-put-line : tie.Need-slice-aggregate-put-line
 slice-aggregate-put-line c = search needs
