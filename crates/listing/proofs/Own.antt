@@ -40,7 +40,8 @@ module _ {m : Limits} (L : Listing) (S : Shaped m L) where
   counts-own : tabulated (λ r. count L r) (suc (rank L)) ≡ L .counts
   counts-own =
       let n = tabulated-length (λ r. count L r) (suc (rank L)) in
-      ext-getD 0 _ (L .counts) (n ∙ shaped-ranks L S) (λ i h. tabulated-at (λ r. count L r) (suc (rank L)) i (omega arith))
+      ext-getD 0 _ (L .counts) (n ∙ shaped-ranks L S)
+      (λ i h. tabulated-at (λ r. count L r) (suc (rank L)) i (omega arith))
 
   end-own : (i : ℕ) → i < length (L .ends) → sum (lengths (nth (layers L) above)) (suc i) ≡ getD (L .ends) i 0
   end-own i h =

@@ -7,14 +7,13 @@
 -- order     the structure of layers: elements are a rank and an index
 -- gather    the numbers k below n whose list holds x, in order, once per occurrence
 -- derived   the sups of an element, gathered from the subs of the rank above: total, also where a sub does not exist
--- Derived   a listing whose sups are the derived ones, so that they say no more than its subs
 use mathlib.Core.Path.{_≡_}
 use mathlib.Core.List.{List, [], _++_}
 use Prim.Native.Nat.{ℕ, zero, suc, _<_}
 use lib.ListN.{replicate}
 use Rattle.order.specs.Lists.{In, occurs}
 use Rattle.order.specs.Structure.{Order}
-use Rattle.listing.specs.Listing.{Listing, rank, count, subs, sups}
+use Rattle.listing.specs.Listing.{Listing, rank, count, subs}
 
 pub record Layers : Type 0 where
   pub top : ℕ
@@ -43,6 +42,3 @@ gather f x (suc n) = gather f x n ++ replicate (occurs x (f n)) n
 
 unfoldable pub derived : Layers → ℕ → ℕ → List ℕ
 derived M r a = gather (M .under (suc r)) a (M .size (suc r))
-
-unfoldable pub Derived : Listing → Type 0
-Derived L = (r i : ℕ) → i < count L r → sups L r i ≡ derived (layers L) r i

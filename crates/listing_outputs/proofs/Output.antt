@@ -18,7 +18,8 @@ use Rattle.listing_outputs.specs.declared.outputs.Room.{Room}
 use Rattle.listing.specs.Refusals.{outputShort}
 use Rattle.listing.specs.Answers.{plain, fine, ifZero}
 use Rattle.listing.specs.Listing.{Listing, listing}
-use Rattle.listing_outputs.specs.Output.{Fits, needOf, shortTest, roomTest, builtOf, after, Made, prefix, Untouched, Wrote}
+use Rattle.listing_outputs.specs.Output.{Fits, needOf, shortTest, roomTest, builtOf, after, Made, prefix}
+use Rattle.listing_outputs.specs.Output.{Untouched, Wrote}
 use Rattle.listing.proofs.Answers.{if-not, no-of, stops}
 use Rattle.listing.proofs.Broken.{Tests, tests-on}
 

@@ -6,9 +6,10 @@ use mathlib.Core.Bool.{Bool}
 use Prim.Native.Nat.{ℕ, suc, _<_}
 use Rattle.order.specs.Structure.{Renumbering}
 use Rattle.listing.specs.Listing.{Listing}
-use Rattle.listing.specs.Layers.{Layers, layers, order, derived, Derived}
+use Rattle.listing.specs.Layers.{Layers, layers, order, derived}
 use Rattle.listing.proofs.Layers.{gather-same}
 use Rattle.listing.proofs.Written.{written-rank}
+use Rattle.valid.specs.Derived.{Derived}
 use Rattle.product_pairs.specs.Sound.{Listed}
 use Rattle.product_pairs.specs.Trimmed.{Used}
 use Rattle.product_pairs.specs.Product.{productOf}

@@ -13,7 +13,7 @@ use Rattle.order.proofs.Pairs.{pair-path}
 use Rattle.order.proofs.Lists.{ascending-once}
 use Rattle.listing.specs.Listing.{Listing, Limits, rank, count, side, subs}
 use Rattle.listing.specs.Shape.{Shaped}
-use Rattle.listing.specs.Layers.{layers, order, derived, Derived}
+use Rattle.listing.specs.Layers.{layers, order, derived}
 use Rattle.listing.proofs.Layers.{layers-topped, in-range, derived-in, derived-ascending}
 use Rattle.valid_incidence.specs.Incidence.{LowerAt, UpperAt, Incident}
 use Rattle.listing.proofs.Places.{at-sides}
@@ -21,6 +21,7 @@ use Rattle.valid_diamond.specs.Dyadic.{DiamondUpTo}
 use Rattle.valid.specs.Bounds.{Bounded}
 use Rattle.valid.specs.Ascent.{Ascends}
 use Rattle.valid.specs.Closed.{Closed}
+use Rattle.valid.specs.Derived.{Derived}
 use Rattle.product_pairs.specs.Sound.{Sound, Sorted}
 use Rattle.product_closure.proofs.Diamonds.{diamond-same}
 

@@ -14,7 +14,8 @@ use mathlib.Core.List.{[], _∷_, _++_, map}
 use Prim.Native.Nat.{_+_, _-_, _<_}
 use lib.Dec.{T}
 use Rattle.listing.specs.Listing.{Listing, rank, count, subs, sups}
-use Rattle.listing.specs.Layers.{layers, Derived}
+use Rattle.listing.specs.Layers.{layers}
+use Rattle.valid.specs.Derived.{Derived}
 use Rattle.product_pairs.specs.Paired.{El, Sooner}
 use Rattle.product_pairs.specs.Grown.{upTo}
 use Rattle.product_pairs.specs.Product.{usedSubs}

@@ -17,11 +17,12 @@ use Rattle.order.specs.Lists.{over}
 use Rattle.listing.specs.Refusals.{notBounded, notAscending, outputShort, longText}
 use Rattle.listing.specs.Answers.{plain}
 use Rattle.listing.specs.Listing.{Listing, limits}
-use Rattle.listing.specs.Layers.{Layers, Topped, layers, derived, Derived}
+use Rattle.listing.specs.Layers.{Layers, Topped, layers, derived}
 use Rattle.listing.specs.Written.{written}
 use Rattle.listing.specs.Rules.{FirstBroken}
 use Rattle.listing_outputs.specs.Output.{Fits, prefix, Untouched, Wrote}
 use Rattle.valid.specs.Closed.{Closed}
+use Rattle.valid.specs.Derived.{Derived}
 use Rattle.valid.proofs.closed.Reads as closed
 use Rattle.text_theory.specs.Text.{textOf}
 use Rattle.text_theory.specs.Said.{boundOf}

@@ -7,7 +7,7 @@ use native.Mathlib.Omega.{arith}
 use Rattle.order.specs.Lists.{In, Ascending}
 use Rattle.order.proofs.Lists.{ascending-once, ascending-same}
 use Rattle.listing.specs.Listing.{Listing, Limits, count, subs, sups}
-use Rattle.listing.specs.Layers.{layers, derived, Derived}
+use Rattle.listing.specs.Layers.{layers, derived}
 use Rattle.listing.specs.Written.{written}
 use Rattle.listing.proofs.Layers.{derived-in, derived-ascending}
 use Rattle.listing.proofs.Written.{written-same}
@@ -15,6 +15,7 @@ use Rattle.listing.proofs.Own.{written-own}
 use Rattle.valid_incidence.specs.Incidence.{Incident}
 use Rattle.valid.specs.Ascent.{Ascends}
 use Rattle.valid.specs.Closed.{Closed}
+use Rattle.valid.specs.Derived.{Derived}
 
 -- the numbers that lead from an element to those above it, and back
 module _ (L : Listing) (I : Incident L) (r i : ℕ) (h : i < count L r) where
