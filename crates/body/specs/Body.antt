@@ -11,7 +11,7 @@
 use Rattle.std.specs.Prelude.{List, ℕ, ltb, length}
 use Rattle.listing.specs.declared.Answer.{Answer}
 use Rattle.listing.specs.Refusals.{more_flags, several_parts}
-use Rattle.listing.specs.Answers.{plain, on, ◌orElse◌}
+use Rattle.listing.specs.Answers.{plain, on, ◌or_else◌}
 use Rattle.listing.specs.Listing.{Listing, Limits, rank}
 use Rattle.valid.specs.Tests.{closed}
 use Rattle.search_theory.specs.Search.{State}

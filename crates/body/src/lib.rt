@@ -1,4 +1,6 @@
 // Whether a listing is one body: closed, and all its flags in one piece.
+#![tactic(auto)]
+
 mod whole;
 
 ghost use Rattle.std.specs.Prelude.{◌≡◌};

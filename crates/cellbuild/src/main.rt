@@ -1,5 +1,7 @@
 // Reads two texts, one after another, from standard input; builds the product of their cells that the first argument
 // names; and writes its text. Where something is refused it writes one line: the number, and in words what it means.
+#![tactic(auto)]
+
 mod build;
 mod kind;
 mod say;

@@ -1,5 +1,7 @@
 // Reads a text from standard input, up to one byte past the limit, and prints closed= and the number that check_text
 // answers: 0 where the text says a closed listing.
+#![tactic(auto)]
+
 use libc::{STDIN_FILENO, STDOUT_FILENO};
 use listing::limit;
 

@@ -6,7 +6,7 @@
 use Rattle.std.specs.Prelude.{ℕ, length}
 use Rattle.listing.specs.declared.Answer.{Answer}
 use Rattle.listing.specs.declared.Built.{Built}
-use Rattle.listing.specs.Answers.{◌orElse◌}
+use Rattle.listing.specs.Answers.{◌or_else◌}
 use Rattle.listing.specs.Listing.{Listing, Limits}
 use Rattle.listing_outputs.specs.Output.{room_test, Made}
 use Rattle.valid.specs.Tests.{closed}

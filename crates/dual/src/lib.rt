@@ -1,4 +1,6 @@
 // The dual of a closed listing, written into lent slices.
+#![tactic(auto)]
+
 mod write;
 
 ghost use Rattle.listing.specs.Listing.{held, limits};

@@ -7,7 +7,7 @@
 use Rattle.std.specs.Prelude.{not, ◌&&◌, List, ℕ, ltb, replicate}
 use Rattle.listing.specs.declared.Answer.{Answer}
 use Rattle.listing.specs.Refusals.{outside_ranks}
-use Rattle.listing.specs.Answers.{plain, on, ◌orElse◌, if_zero}
+use Rattle.listing.specs.Answers.{plain, on, ◌or_else◌, if_zero}
 use Rattle.listing.specs.Listing.{Listing, Limits, limits, rank}
 use Rattle.flag_change.specs.Flags.{start_test}
 use Rattle.flag_change.specs.Change.{replaced_at, change_at, padded}

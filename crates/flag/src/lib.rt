@@ -1,4 +1,6 @@
 // Flags: chains of elements from the lowest rank to the highest. Here are the change of a flag and its orientation.
+#![tactic(auto)]
+
 pub mod made;
 pub mod parity;
 

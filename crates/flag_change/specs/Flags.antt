@@ -9,7 +9,7 @@ use Rattle.order.specs.Lists.{In, has}
 use Rattle.order.specs.Tests.{every}
 use Rattle.listing.specs.declared.Answer.{Answer}
 use Rattle.listing.specs.Refusals.{not_aFlag}
-use Rattle.listing.specs.Answers.{plain, on, ◌orElse◌}
+use Rattle.listing.specs.Answers.{plain, on, ◌or_else◌}
 use Rattle.listing.specs.Listing.{Listing, Limits, count, subs}
 use Rattle.valid.specs.Tests.{closed}
 

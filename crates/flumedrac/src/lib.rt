@@ -1,5 +1,7 @@
 // The C boundary: each function passes its numbers and slices on to the entry of its name. The class, the sign, the next
 // event and the volume cross as numbers. A slice crosses as a pointer and a length. Nothing is decided here.
+#![tactic(auto)]
+
 ghost use Rattle.std.specs.Prelude.{◌≡◌, true, false, length};
 ghost use Rattle.listing.specs.Refusals.{band, band_no};
 ghost use Rattle.listing_shape.specs.Counts.{rank_of, el_count_of, vertex_count_of, facet_count_of};

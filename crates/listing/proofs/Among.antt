@@ -6,7 +6,7 @@ use mathlib.Core.Bool.{Bool, true, false, cond}
 use mathlib.Core.List.{List, [], ◌∷◌}
 use Prim.Native.Nat.{ℕ, zero, suc, ◌-◌, ◌≤◌}
 use Rattle.listing.specs.declared.Answer.{Answer}
-use Rattle.listing.specs.Answers.{refusal, fine, on, ◌orElse◌, first_in, first_for, first_of}
+use Rattle.listing.specs.Answers.{refusal, fine, on, ◌or_else◌, first_in, first_for, first_of}
 use Rattle.listing.proofs.Answers.{or_fine, or_stop}
 use Rattle.listing.proofs.Broken.{zero_or}
 

@@ -13,7 +13,7 @@ use lib.ListN.{length, get_or, drop, drop_of_length-le}
 use lib.Seq.{drop-cons}
 use Rattle.order.specs.Lists.{In}
 use Rattle.listing.specs.declared.Answer.{Answer}
-use Rattle.listing.specs.Answers.{fine, if_zero, ◌orElse◌, on, first_in, first_for, first_of}
+use Rattle.listing.specs.Answers.{fine, if_zero, ◌or_else◌, on, first_in, first_for, first_of}
 
 abbrev number : Answer → ℕ
 number x = x.no
@@ -21,7 +21,7 @@ number x = x.no
 -- ---- one answer or else another
 
 pub or_fine : (x y : Answer) → x.no ≡ 0 → x or_else y ≡ y
-unfolding ◌orElse◌
+unfolding ◌or_else◌
 or_fine x y e = rw e
 
 pub if_not : {A : Type 0} (n : ℕ) (x y : A) → (n ≡ 0 → ⊥) → if_zero n x y ≡ y
@@ -29,7 +29,7 @@ if_not zero x y h = absurd (h refl)
 if_not (suc n) x y h = refl
 
 pub or_stop : (x y : Answer) → (x.no ≡ 0 → ⊥) → x or_else y ≡ x
-unfolding ◌orElse◌
+unfolding ◌or_else◌
 or_stop x y h = if_not x.no y x h
 
 pub or_no : (x y : Answer) → (x or_else y).no ≡ 0 → (x.no ≡ 0) × (y.no ≡ 0)
@@ -45,7 +45,7 @@ pub no_or : (x y : Answer) → x.no ≡ 0 → y.no ≡ 0 → (x or_else y).no �
 no_or x y e f = ap number (or_fine x y e) ∙ f
 
 pub or_assoc : (x y z : Answer) → x or_else (y or_else z) ≡ (x or_else y) or_else z
-unfolding ◌orElse◌
+unfolding ◌or_else◌
 or_assoc x y z = go x.no refl
   where
     go : (n : ℕ) → x.no ≡ n → if_zero n (if_zero y.no z y) x ≡ if_zero (if_zero n y x).no z (if_zero n y x)

@@ -6,7 +6,7 @@ use mathlib.Core.Logic.{◌↔◌, ◌⊎◌, inl, inr}
 use mathlib.Core.Bool.{Bool, true, false}
 use Prim.Native.Nat.{ℕ, zero, suc, ◌-◌}
 use Rattle.listing.specs.declared.Answer.{Answer}
-use Rattle.listing.specs.Answers.{plain, fine, on, ◌orElse◌, first_for, first_of}
+use Rattle.listing.specs.Answers.{plain, fine, on, ◌or_else◌, first_for, first_of}
 use Rattle.listing.proofs.Answers.{or_fine, or_stop, no_of}
 use Rattle.listing.proofs.Broken.{zero_or}
 

@@ -9,7 +9,7 @@ use borrow.Author.Tests.{eq-eqb, ne_eqb, eqb-true, eqb-false}
 use lib.Dec.{eqb}
 use lib.ListN.{length}
 use Rattle.listing.specs.declared.Answer.{Answer}
-use Rattle.listing.specs.Answers.{plain, fine, on, if_zero, ◌orElse◌}
+use Rattle.listing.specs.Answers.{plain, fine, on, if_zero, ◌or_else◌}
 use Rattle.listing.specs.Listing.{Listing, Limits}
 use Rattle.listing.specs.Shape.{fills, elements, shape_test, Shaped}
 use Rattle.listing.specs.Rules.{Rule, FirstBroken, Filled, shape_rules}
@@ -18,7 +18,7 @@ use Rattle.listing.proofs.Broken.{Tests, broken_step, broken_inner, tests_on, te
 
 -- nothing after a test
 pub or_nothing : (x : Answer) → (x or_else fine).no ≡ x.no
-unfolding ◌orElse◌
+unfolding ◌or_else◌
 or_nothing x = go x.no refl
   where
     go : (n : ℕ) → x.no ≡ n → (if_zero n fine x).no ≡ x.no

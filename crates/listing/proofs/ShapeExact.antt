@@ -14,7 +14,7 @@ use lib.ListN.{length, get_or, drop, drop_of_length-le}
 use lib.Seq.{drop-cons}
 use Rattle.order.proofs.Tests.{and_true}
 use Rattle.listing.specs.declared.Answer.{Answer}
-use Rattle.listing.specs.Answers.{plain, fine, ◌orElse◌}
+use Rattle.listing.specs.Answers.{plain, fine, ◌or_else◌}
 use Rattle.listing.specs.Refusals.{no_ranks, over_ranks, over_elements, wrong_ends, over_incidences, falling_ends}
 use Rattle.listing.specs.Listing.{Listing, Limits, rank, start, Ends}
 use Rattle.listing.specs.Shape.{fills, elements, shape_test, Shaped}
@@ -35,36 +35,36 @@ fills_end l k h from n = ap (λ (t : List ℕ). fills from t n) (drop_of_length-
 
 module _ (m : Limits) (L : Listing) where
   pub shape_1 : length L.counts ≡ 0 → shape_test m L ≡ plain no_ranks
-  unfolding shape_test ◌orElse◌
+  unfolding shape_test ◌or_else◌
   shape_1 h = rw (eq-eqb _ _ h)
 
   module _ (h1 : length L.counts ≡ 0 → ⊥) where
     pub shape_2 : m.ranks < length L.counts → shape_test m L ≡ plain over_ranks
-    unfolding shape_test ◌orElse◌
+    unfolding shape_test ◌or_else◌
     shape_2 h = rw (ne_eqb _ _ h1, lt-ltb _ _ h)
 
     module _ (h2 : length L.counts ≤ m.ranks) where
       pub shape_3 : m.elements < elements L → shape_test m L ≡ plain over_elements
-      unfolding shape_test ◌orElse◌
+      unfolding shape_test ◌or_else◌
       shape_3 h = rw (ne_eqb _ _ h1, le-ltb _ _ h2, lt-ltb _ _ h)
 
       module _ (h3 : elements L ≤ m.elements) where
         pub shape_4 : (length L.ends ≡ 2 * elements L → ⊥) → shape_test m L ≡ plain wrong_ends
-        unfolding shape_test ◌orElse◌
+        unfolding shape_test ◌or_else◌
         shape_4 h = rw (ne_eqb _ _ h1, le-ltb _ _ h2, le-ltb _ _ h3, ne_eqb _ _ h)
 
         module _ (h4 : length L.ends ≡ 2 * elements L) where
           pub shape_5 : m.incidences < length L.inc → shape_test m L ≡ plain over_incidences
-          unfolding shape_test ◌orElse◌
+          unfolding shape_test ◌or_else◌
           shape_5 h = rw (ne_eqb _ _ h1, le-ltb _ _ h2, le-ltb _ _ h3, eq-eqb _ _ h4, lt-ltb _ _ h)
 
           module _ (h5 : length L.inc ≤ m.incidences) where
             pub shape_6 : fills 0 L.ends (length L.inc) ≡ false → shape_test m L ≡ plain falling_ends
-            unfolding shape_test ◌orElse◌
+            unfolding shape_test ◌or_else◌
             shape_6 h = rw (ne_eqb _ _ h1, le-ltb _ _ h2, le-ltb _ _ h3, eq-eqb _ _ h4, le-ltb _ _ h5, h)
 
             pub shape_0 : fills 0 L.ends (length L.inc) ≡ true → shape_test m L ≡ fine
-            unfolding shape_test ◌orElse◌
+            unfolding shape_test ◌or_else◌
             shape_0 h = rw (ne_eqb _ _ h1, le-ltb _ _ h2, le-ltb _ _ h3, eq-eqb _ _ h4, le-ltb _ _ h5, h)
 
 -- ---- the ends, said of each

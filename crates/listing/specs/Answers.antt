@@ -25,10 +25,10 @@ abbrev pub if_zero : {A : Type 0} → ℕ → A → A → A
 if_zero zero x y = x
 if_zero (suc n) x y = y
 
-unfoldable pub ◌orElse◌ : Answer → Answer → Answer
+unfoldable pub ◌or_else◌ : Answer → Answer → Answer
 x or_else y = if_zero x.no y x
 
-infixr 20 ◌orElse◌
+infixr 20 ◌or_else◌
 abbrev pub on : Bool → Answer → Answer
 on t x = cond t x fine
 

@@ -1,4 +1,6 @@
 // Listings: cells in three lent slices. Here are their answers, refusals and limits, and how they are read.
+#![tactic(auto)]
+
 pub mod inner;
 pub mod limit;
 pub mod refusal;

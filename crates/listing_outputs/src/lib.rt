@@ -1,2 +1,4 @@
 // Output slices that a caller lends for a listing.
+#![tactic(auto)]
+
 pub mod outputs;

@@ -1,4 +1,6 @@
 // What is asked of a listing before all else: the four counts and the shape test; and the class of a refusal.
+#![tactic(auto)]
+
 ghost use Rattle.std.specs.Prelude.{◌≡◌};
 ghost use Rattle.listing.specs.Refusals.{band, band_no};
 ghost use Rattle.listing.specs.Listing.{held, limits};

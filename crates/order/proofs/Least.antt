@@ -1,6 +1,6 @@
 -- The least number of a list: it stands there, none is less, and it is the only one of which that holds.
 -- Assumes nothing.
-use mathlib.Core.Path.{◌≡◌, refl}
+use mathlib.Core.Path.{◌≡◌, refl, sym, subst}
 use mathlib.Core.Logic.{◌⊎◌, inl, inr}
 use mathlib.Core.List.{List, [], ◌∷◌}
 use Prim.Native.Nat.{ℕ, ◌≤◌, ◌<◌, min}
@@ -26,7 +26,8 @@ least_in (y ∷ z ∷ l) x m = go (dec_lt y (least_of (z ∷ l))) (least_in (z �
     go : Dec (y < least_of (z ∷ l)) → In (least_of (z ∷ l)) (z ∷ l)
         → (min y (least_of (z ∷ l)) ≡ y) ⊎ In (min y (least_of (z ∷ l))) (z ∷ l)
     go (yes h) i = inl (omega arith)
-    go (no h) i = let e : min y (least_of (z ∷ l)) ≡ least_of (z ∷ l) = omega arith in inr (rw e i)
+    go (no h) i = let e : min y (least_of (z ∷ l)) ≡ least_of (z ∷ l) = omega arith in
+        let P : ℕ → Type 0 = λ v. In v (z ∷ l) in inr (subst P (sym e) i)
 
 pub least_only : (l : List ℕ) (x : ℕ) → In x l → ((y : ℕ) → In y l → x ≤ y) → x ≡ least_of l
 least_only l x m h = omega (arith, least_le l x m, h (least_of l) (least_in l x m))

@@ -8,7 +8,7 @@ use lib.ListN.{length}
 use Rattle.listing.specs.declared.Answer.{Answer}
 use Rattle.listing.specs.declared.Built.{Built}
 use Rattle.listing.specs.Refusals.{comb_of_point}
-use Rattle.listing.specs.Answers.{plain, ◌orElse◌}
+use Rattle.listing.specs.Answers.{plain, ◌or_else◌}
 use Rattle.listing.specs.Listing.{Listing, Limits, limits}
 use Rattle.listing.specs.Cells.{nullitope}
 use Rattle.listing_outputs.specs.Output.{Made}
@@ -35,12 +35,12 @@ module _ (m : Limits) (min max : Bool) (A B : Listing) (c e i : ℕ) where
   rest_decides z = sym (or_fine _ _ z)
 
   pub comb_decides : comb_case min max A B ≡ true → plain comb_of_point ≡ rest_test m min max A B c e i
-  unfolding rest_test ◌orElse◌
+  unfolding rest_test ◌or_else◌
   comb_decides h = rw h
 
   sizes_decide : comb_case min max A B ≡ false
       → size_test m (result_of min max A B) c e i ≡ rest_test m min max A B c e i
-  unfolding rest_test ◌orElse◌
+  unfolding rest_test ◌or_else◌
   sizes_decide h = rw h
 
   -- no test refuses

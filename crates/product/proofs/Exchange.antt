@@ -7,7 +7,7 @@ use Prim.Native.Nat.{ℕ}
 use lib.ListN.{length}
 use Rattle.listing.specs.declared.Answer.{Answer}
 use Rattle.listing.specs.declared.Built.{Built}
-use Rattle.listing.specs.Answers.{plain, on, ◌orElse◌}
+use Rattle.listing.specs.Answers.{plain, on, ◌or_else◌}
 use Rattle.listing.specs.Refusals.{comb_of_point}
 use Rattle.listing.specs.Listing.{Listing, Limits, limits}
 use Rattle.listing_outputs.specs.Output.{short_test, built_of}

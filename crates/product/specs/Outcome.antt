@@ -9,7 +9,7 @@ use Rattle.std.specs.Prelude.{Bool, ℕ, length}
 use Rattle.listing.specs.declared.Answer.{Answer}
 use Rattle.listing.specs.declared.Built.{Built}
 use Rattle.listing.specs.Refusals.{comb_of_point}
-use Rattle.listing.specs.Answers.{plain, on, ◌orElse◌}
+use Rattle.listing.specs.Answers.{plain, on, ◌or_else◌}
 use Rattle.listing.specs.Listing.{Listing, Limits}
 use Rattle.listing_outputs.specs.Output.{Made}
 use Rattle.product_factors.specs.Factors.{factors_test}

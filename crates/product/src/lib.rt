@@ -1,4 +1,6 @@
 // The four products of cells.
+#![tactic(auto)]
+
 pub mod make;
 
 ghost use Rattle.listing.specs.Listing.{held, limits};

@@ -9,7 +9,7 @@ use borrow.Author.Tests.{eqb-false, ne_eqb}
 use lib.Dec.{eqb}
 use Rattle.order.specs.Sums.{sum}
 use Rattle.order.specs.Ends.{need}
-use Rattle.listing.specs.Answers.{◌orElse◌, first_in, first_for, first_of}
+use Rattle.listing.specs.Answers.{◌or_else◌, first_in, first_for, first_of}
 use Rattle.listing.specs.Listing.{Listing, limits, rank, before, entries}
 use Rattle.listing.specs.Shape.{fills, shape_test}
 use Rattle.listing.specs.Cells.{nullitope}
@@ -39,7 +39,7 @@ module _ (min max : Bool) (A B : Listing) where
 
 -- the nullitope is closed, by computing
 pub nullitope_closed : Closed limits nullitope
-unfolding sum before entries fills shape_test ◌orElse◌ first_in first_for first_of bounded_test along_test list_test
+unfolding sum before entries fills shape_test ◌or_else◌ first_in first_for first_of bounded_test along_test list_test
     element_test incidences_test climbs element_ascent ascent_test dyadic_test closed
 nullitope_closed = (closed_exact limits nullitope).0 refl
 

@@ -8,7 +8,7 @@ use borrow.Author.Tests.{eq-eqb, ne_eqb, eqb-true, not-false}
 use lib.Dec.{eqb}
 use Rattle.listing.specs.declared.Answer.{Answer}
 use Rattle.listing.specs.Refusals.{left_invalid, right_invalid}
-use Rattle.listing.specs.Answers.{plain, fine, ◌orElse◌}
+use Rattle.listing.specs.Answers.{plain, fine, ◌or_else◌}
 use Rattle.listing.specs.Listing.{Listing, Limits}
 use Rattle.listing.specs.Rules.{Rule, FirstBroken}
 use Rattle.listing.proofs.Answers.{on_no, on_or_no}
@@ -18,15 +18,15 @@ use Rattle.product_factors.specs.Factors.{factors_test, factor_rules}
 
 module _ (m : Limits) (A B : Listing) where
   pub factors_left : ((is_valid m A).no ≡ 0 → ⊥) → factors_test m A B ≡ plain left_invalid
-  unfolding factors_test ◌orElse◌
+  unfolding factors_test ◌or_else◌
   factors_left h = rw (ne_eqb _ _ h)
 
   pub factors_right : (is_valid m A).no ≡ 0 → ((is_valid m B).no ≡ 0 → ⊥) → factors_test m A B ≡ plain right_invalid
-  unfolding factors_test ◌orElse◌
+  unfolding factors_test ◌or_else◌
   factors_right a h = rw (eq-eqb _ _ a, ne_eqb _ _ h)
 
   pub factors_fine : (is_valid m A).no ≡ 0 → (is_valid m B).no ≡ 0 → factors_test m A B ≡ fine
-  unfolding factors_test ◌orElse◌
+  unfolding factors_test ◌or_else◌
   factors_fine a b = rw (eq-eqb _ _ a, eq-eqb _ _ b)
 
   -- where neither is refused both are valid

@@ -5,7 +5,7 @@
 use Rattle.std.specs.Prelude.{◌≡◌, not, List, [], ◌∷◌, eqb}
 use Rattle.listing.specs.declared.Answer.{Answer}
 use Rattle.listing.specs.Refusals.{left_invalid, right_invalid}
-use Rattle.listing.specs.Answers.{plain, on, ◌orElse◌}
+use Rattle.listing.specs.Answers.{plain, on, ◌or_else◌}
 use Rattle.listing.specs.Listing.{Listing, Limits}
 use Rattle.listing.specs.Rules.{Rule, rule}
 use Rattle.valid.specs.Tests.{is_valid}

@@ -6,7 +6,7 @@ use native.Mathlib.Omega.{arith}
 use borrow.Author.Tests.{lt-ltb, le-ltb, ltb-false}
 use lib.ListN.{length}
 use Rattle.listing.specs.Refusals.{product_ranks, product_elements, product_incidences}
-use Rattle.listing.specs.Answers.{plain, ◌orElse◌}
+use Rattle.listing.specs.Answers.{plain, ◌or_else◌}
 use Rattle.listing.specs.Listing.{Listing, Limits}
 use Rattle.listing.specs.Shape.{elements}
 use Rattle.listing_outputs.specs.declared.outputs.Room.{Room}
@@ -18,22 +18,22 @@ use Rattle.product_sizes.specs.Sizing.{Measures, totals_test, size_test}
 
 module _ (m : Limits) (t : Totals) (o : Room) where
   pub over_ranks : m.ranks < t.ranks → totals_test m t o ≡ plain product_ranks
-  unfolding totals_test ◌orElse◌
+  unfolding totals_test ◌or_else◌
   over_ranks h = rw (lt-ltb _ _ h)
 
   module _ (h1 : t.ranks ≤ m.ranks) where
     pub over_elements : m.elements < t.elements → totals_test m t o ≡ plain product_elements
-    unfolding totals_test ◌orElse◌
+    unfolding totals_test ◌or_else◌
     over_elements h = rw (le-ltb _ _ h1, lt-ltb _ _ h)
 
     module _ (h2 : t.elements ≤ m.elements) where
       pub over_incidences : m.incidences < t.incidences → totals_test m t o ≡ plain product_incidences
-      unfolding totals_test ◌orElse◌
+      unfolding totals_test ◌or_else◌
       over_incidences h = rw (le-ltb _ _ h1, le-ltb _ _ h2, lt-ltb _ _ h)
 
       pub room_decides : t.incidences ≤ m.incidences
           → totals_test m t o ≡ short_test (record { counts = t.ranks; ends = 2 * t.elements; inc = t.incidences }) o
-      unfolding totals_test ◌orElse◌
+      unfolding totals_test ◌or_else◌
       room_decides h3 = rw (le-ltb _ _ h1, le-ltb _ _ h2, le-ltb _ _ h3)
 
 -- the test of a listing is that of its three numbers

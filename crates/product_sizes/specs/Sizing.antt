@@ -14,7 +14,7 @@ use Rattle.std.specs.Prelude.{◌≡◌, Bool, List, ℕ, suc, ◌+◌, ◌-◌,
 use Rattle.order.specs.Ends.{need}
 use Rattle.listing.specs.declared.Answer.{Answer}
 use Rattle.listing.specs.Refusals.{product_ranks, product_elements, product_incidences}
-use Rattle.listing.specs.Answers.{plain, on, ◌orElse◌}
+use Rattle.listing.specs.Answers.{plain, on, ◌or_else◌}
 use Rattle.listing.specs.Listing.{Listing, Limits, limits, rank}
 use Rattle.listing.specs.Shape.{elements}
 use Rattle.listing.specs.Layers.{Layers}

@@ -11,7 +11,7 @@ use borrow.Author.Tests.{leb-true, leb-false}
 use lib.Dec.{leb}
 use Rattle.order.specs.Lists.{Earlier, In, occurs}
 use Rattle.listing.specs.declared.Answer.{Answer}
-use Rattle.listing.specs.Answers.{fine, on, ◌orElse◌, first_in, first_for, first_of}
+use Rattle.listing.specs.Answers.{fine, on, ◌or_else◌, first_in, first_for, first_of}
 use Rattle.listing.specs.Listing.{Listing, count}
 use Rattle.listing.proofs.Answers.{or_fine, or_stop, on_no, of_each}
 use Rattle.valid_diamond.specs.Dyadic.{third_test}

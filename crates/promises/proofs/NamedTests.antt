@@ -13,7 +13,7 @@ use lib.ListN.{length}
 use Rattle.order.specs.Lists.{In, Ascending, occurs}
 use Rattle.order.proofs.Lists.{in_right, occurs_nil}
 use Rattle.listing.specs.declared.Answer.{Answer}
-use Rattle.listing.specs.Answers.{plain, on, ◌orElse◌}
+use Rattle.listing.specs.Answers.{plain, on, ◌or_else◌}
 use Rattle.listing.specs.Listing.{Listing, Limits, rank, count, side}
 use Rattle.listing.specs.Shape.{elements, fills, shape_test}
 use Rattle.listing.proofs.Answers.{on_no}

@@ -5,7 +5,7 @@ use mathlib.Core.List.{map}
 use native.Mathlib.Decide.{dec_lt}
 use Rattle.order.specs.Lists.{has, occurs}
 use Rattle.order.specs.Sums.{choose, sum, sum_over, part_at}
-use Rattle.listing.specs.Answers.{◌orElse◌, first_in, first_for, first_of}
+use Rattle.listing.specs.Answers.{◌or_else◌, first_in, first_for, first_of}
 use Rattle.listing.specs.Listing.{before, entries}
 use Rattle.listing.specs.Shape.{fills, shape_test}
 use Rattle.listing.specs.Layers.{gather, derived}
@@ -47,7 +47,7 @@ use Rattle.promises.specs.Starred.{quoted, answered, tried}
 
 -- Computing each row of the table gives the answers that stand in it.
 pub starred : map answered tried ≡ tried
-unfolding dec_lt has occurs choose sum part_at ◌orElse◌ first_in first_for first_of before entries fills shape_test gather
+unfolding dec_lt has occurs choose sum part_at ◌or_else◌ first_in first_for first_of before entries fills shape_test gather
     derived joined tabulated list_at nth written bounded_test entry_test along_test list_test element_test incidences_test
     climbs element_ascent ascent_test subs_of_all third_test seen_after lone_test sections_test dyadic_test is_valid closed
     trim_size trim_under block offset position pair_of pair_at left_subs right_subs up_to min_size min_under max_size max_under

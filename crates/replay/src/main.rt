@@ -1,6 +1,8 @@
 // Answers a list of questions, read from standard input, a line each: the line, then ' = ' and the answer. Lines that
 // are empty or begin with '#' come back as they are. The lines expected are answers of the Rust program, and answers
 // by the rules where the Rust has none.
+#![tactic(auto)]
+
 mod ask;
 mod bodies;
 mod cell;

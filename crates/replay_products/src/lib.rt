@@ -1,2 +1,4 @@
 // Questions on products, read from their lines and put to the library; the answers are printed, and returned is nothing.
+#![tactic(auto)]
+
 pub mod pair;

@@ -1,4 +1,6 @@
 // Answers as text: numbers, lists and flags, printed; and the arrays that are lent for them. The functions of `say`
 // return nothing.
+#![tactic(auto)]
+
 pub mod room;
 pub mod say;

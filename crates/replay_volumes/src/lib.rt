@@ -1,4 +1,6 @@
 // Questions on volumes, read from their lines and put to the library; the answers are printed, and returned is nothing.
+#![tactic(auto)]
+
 pub mod codes;
 
 ghost use Rattle.std.specs.Prelude.{◌≡◌, ◌+◌, ◌*◌, length};

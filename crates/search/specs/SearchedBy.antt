@@ -15,7 +15,7 @@ use Rattle.std.specs.Prelude.{not, cond, ◌||◌, List, ℕ, ◌+◌, ◌/◌, 
 use Rattle.order.specs.Lists.{over}
 use Rattle.listing.specs.declared.Answer.{Answer}
 use Rattle.listing.specs.Refusals.{outside_ranks, more_flags}
-use Rattle.listing.specs.Answers.{plain, if_zero, on, ◌orElse◌}
+use Rattle.listing.specs.Answers.{plain, if_zero, on, ◌or_else◌}
 use Rattle.listing.specs.Listing.{Listing, Limits, rank}
 use Rattle.flag_change.specs.Flags.{start_test}
 use Rattle.search_theory.specs.Search.{State}

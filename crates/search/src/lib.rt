@@ -1,4 +1,6 @@
 // The search for the flags of a cell that changes lead to from a first flag, and for an orientation of them.
+#![tactic(auto)]
+
 pub mod answer;
 
 ghost use Rattle.std.specs.Prelude.{◌≡◌};

@@ -1,5 +1,7 @@
 // The events of a finished search, in their order: its flags, and that the cell is not orientable. A cursor is lent and
 // goes on from one to the next.
+#![tactic(auto)]
+
 ghost use Rattle.std.specs.Prelude.{◌≡◌};
 ghost use Rattle.search_events.specs.Events.{marked, event_at, events, next_at, said_of, Stepped};
 

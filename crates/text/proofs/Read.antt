@@ -10,7 +10,7 @@ use lib.ListN.{length}
 use Rattle.order.proofs.Over.{over_length}
 use Rattle.listing.specs.declared.Answer.{Answer}
 use Rattle.listing.specs.declared.Built.{Built}
-use Rattle.listing.specs.Answers.{plain, fine, ◌orElse◌}
+use Rattle.listing.specs.Answers.{plain, fine, ◌or_else◌}
 use Rattle.listing.specs.Listing.{Listing, Limits, limits}
 use Rattle.listing.specs.Shape.{Shaped, elements}
 use Rattle.listing.specs.Layers.{derived}

@@ -11,7 +11,7 @@ use lib.ListN.{length}
 use Rattle.listing.specs.declared.Answer.{Answer}
 use Rattle.listing.specs.Refusals.{over_ranks, over_incidences, not_bounded, not_ascending, output_short, wrong_key}
 use Rattle.listing.specs.Refusals.{more_bytes}
-use Rattle.listing.specs.Answers.{◌orElse◌}
+use Rattle.listing.specs.Answers.{◌or_else◌}
 use Rattle.listing.specs.Listing.{Limits, rank}
 use Rattle.listing.specs.Shape.{shape_test}
 use Rattle.listing.specs.Layers.{Layers}

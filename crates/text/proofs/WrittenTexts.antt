@@ -13,7 +13,7 @@ use Rattle.order.specs.Sums.{sum}
 use Rattle.order.proofs.Over.{over_length, over_front}
 use Rattle.listing.specs.declared.Answer.{Answer}
 use Rattle.listing.specs.Refusals.{bytes_short, long_text}
-use Rattle.listing.specs.Answers.{plain, fine, ◌orElse◌}
+use Rattle.listing.specs.Answers.{plain, fine, ◌or_else◌}
 use Rattle.listing.specs.Listing.{Listing, Limits, limits, rank, count, before}
 use Rattle.listing.specs.Layers.{layers}
 use Rattle.listing.specs.Rules.{FirstBroken}
@@ -42,15 +42,15 @@ use Rattle.text.specs.WrittenTexts.{length_test, write_test, written_of, TextMad
 
 module _ (m : Limits) (n room : ℕ) where
   pub length_short : room < n → length_test m n room ≡ plain bytes_short
-  unfolding length_test ◌orElse◌
+  unfolding length_test ◌or_else◌
   length_short h = rw (lt-ltb room n h)
 
   pub length_over : n ≤ room → m.text < n → length_test m n room ≡ plain long_text
-  unfolding length_test ◌orElse◌
+  unfolding length_test ◌or_else◌
   length_over h k = rw (le-ltb room n h, lt-ltb m.text n k)
 
   pub length_fine : n ≤ room → n ≤ m.text → length_test m n room ≡ fine
-  unfolding length_test ◌orElse◌
+  unfolding length_test ◌or_else◌
   length_fine h k = rw (le-ltb room n h, le-ltb m.text n k)
 
   pub length_fits : (length_test m n room).no ≡ 0 → (n ≤ room) × (n ≤ m.text)

@@ -4,7 +4,7 @@
 -- check_test   those of check_text: the text's, then the closed test's of the listing that it says
 use Rattle.std.specs.Prelude.{List, ℕ}
 use Rattle.listing.specs.declared.Answer.{Answer}
-use Rattle.listing.specs.Answers.{◌orElse◌}
+use Rattle.listing.specs.Answers.{◌or_else◌}
 use Rattle.listing.specs.Listing.{Limits}
 use Rattle.listing_outputs.specs.Output.{room_test}
 use Rattle.valid.specs.Tests.{closed}

@@ -8,7 +8,7 @@
 use Rattle.std.specs.Prelude.{◌≡◌, List, ℕ, ltb, length}
 use Rattle.listing.specs.declared.Answer.{Answer}
 use Rattle.listing.specs.Refusals.{bytes_short, long_text}
-use Rattle.listing.specs.Answers.{plain, if_zero, on, ◌orElse◌}
+use Rattle.listing.specs.Answers.{plain, if_zero, on, ◌or_else◌}
 use Rattle.listing.specs.Listing.{Listing, Limits}
 use Rattle.listing.specs.Layers.{layers}
 use Rattle.listing_outputs.specs.Output.{after}

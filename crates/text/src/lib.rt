@@ -1,5 +1,7 @@
 // Listings as text: what a text says, written into lent slices, and whether that is closed; the text of a closed
 // listing.
+#![tactic(auto)]
+
 ghost use Rattle.std.specs.Prelude.{◌≡◌, ℕ, length};
 ghost use Rattle.listing.specs.Listing.{held, limits};
 ghost use Rattle.listing.specs.Layers.{layers};

@@ -12,7 +12,7 @@ use Rattle.order.specs.Lists.{occurs}
 use Rattle.order.specs.Sums.{sum}
 use Rattle.order.proofs.Sums.{sum_none}
 use Rattle.listing.specs.Refusals.{long_text, over_ranks, more_bytes}
-use Rattle.listing.specs.Answers.{plain, fine, ◌orElse◌, first_of}
+use Rattle.listing.specs.Answers.{plain, fine, ◌or_else◌, first_of}
 use Rattle.listing.specs.Listing.{Limits}
 use Rattle.listing.specs.Shape.{Shaped}
 use Rattle.listing.specs.Layers.{Topped, derived}
@@ -37,11 +37,11 @@ use Rattle.text_sizes.proofs.Lefts.{LineAt, line_refused, line_over, line_goes, 
 -- a text that is too long, and any other
 module _ (m : Limits) (t : List ℕ) where
   pub text_over : m.text < length t → text_test m t ≡ plain long_text
-  unfolding text_test ◌orElse◌
+  unfolding text_test ◌or_else◌
   text_over h = rw (lt-ltb m.text (length t) h) refl
 
   pub text_left : length t ≤ m.text → text_test m t ≡ left_test m t 0
-  unfolding text_test left_test ◌orElse◌
+  unfolding text_test left_test ◌or_else◌
   text_left h = rw (le-ltb m.text (length t) h) refl
 
 -- a reading that ends with the text's number
@@ -130,13 +130,13 @@ module _ {m : Limits} {t : List ℕ} {s : Headway} {up many subs : List ℕ} (c 
   no_line_left = of_end _ (line_test m t) _ _ refl (omega (arith, at_last))
 
   pub bytes_over : s.at < length t → text_test m t ≡ plain more_bytes
-  unfolding left_test ◌orElse◌
+  unfolding left_test ◌or_else◌
   bytes_over h =
       let z : 0 < length (from_line t (line_count (said t))) = omega (arith, rest_length, length-drop s.at t) in
       c.left ∙ rw (no_line_left, lt-ltb 0 _ z) refl
 
   pub bytes_none : length t ≤ s.at → text_test m t ≡ fine
-  unfolding left_test ◌orElse◌
+  unfolding left_test ◌or_else◌
   bytes_none h =
       let z : length (from_line t (line_count (said t))) ≤ 0 = omega (arith, rest_length, length-drop s.at t) in
       c.left ∙ rw (no_line_left, le-ltb 0 _ z) refl

@@ -16,7 +16,7 @@ use Rattle.std.specs.Prelude.{◌≡◌, List, ℕ, suc, ◌+◌, ◌*◌, ◌�
 use Rattle.order.specs.Sums.{sum}
 use Rattle.listing.specs.declared.Answer.{Answer}
 use Rattle.listing.specs.Refusals.{more_bytes}
-use Rattle.listing.specs.Answers.{plain, on, ◌orElse◌, first_of}
+use Rattle.listing.specs.Answers.{plain, on, ◌or_else◌, first_of}
 use Rattle.listing.specs.Listing.{Limits}
 use Rattle.listing.specs.Shape.{Shaped}
 use Rattle.listing.specs.Layers.{Layers, derived}

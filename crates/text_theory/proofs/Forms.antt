@@ -11,7 +11,7 @@ use borrow.Author.Tests.{ltb-true, ltb-false, not-false}
 use lib.Dec.{ltb}
 use Rattle.order.proofs.Tests.{and_true}
 use Rattle.listing.specs.Refusals.{wrong_key, bad_line}
-use Rattle.listing.specs.Answers.{plain, ◌orElse◌}
+use Rattle.listing.specs.Answers.{plain, ◌or_else◌}
 use Rattle.listing.specs.Listing.{Limits}
 use Rattle.listing.specs.Layers.{Layers}
 use Rattle.listing.proofs.Answers.{or_no, on_no}
@@ -49,11 +49,11 @@ module _ (l : Line) (t : List ℕ) where
   form_goes e = yes_goes (not-false _ (on_no _ (plain bad_line) (λ q. omega arith) (or_no _ _ e).1))
 
   pub form_exact : ((form_test l t).no ≡ 0) ↔ Goes l t
-  unfolding form_test ◌orElse◌
+  unfolding form_test ◌or_else◌
   form_exact = (form_goes, λ h. rw ((begins_exact l.key t).1 (goes_key l t h), goes_yes h))
 
   pub judged : (b : Bound) → Judged l b t (form_test l t or_else bound_test b).no
-  unfolding form_test ◌orElse◌
+  unfolding form_test ◌or_else◌
   judged b =
       go (begins l.key t) (begins (line_bytes l) t && numbers_fit l.numbers) (ltb b.most b.amount)
       refl refl refl

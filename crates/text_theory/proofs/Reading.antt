@@ -12,7 +12,7 @@ use lib.Dec.{ltb, eqb}
 use lib.ListN.{length, get_or, drop}
 use Rattle.listing.specs.declared.Answer.{Answer}
 use Rattle.listing.specs.Refusals.{wrong_key, bad_line}
-use Rattle.listing.specs.Answers.{plain, fine, on, ◌orElse◌}
+use Rattle.listing.specs.Answers.{plain, fine, on, ◌or_else◌}
 use Rattle.order.proofs.Tests.{and_true}
 use Rattle.listing.proofs.Answers.{on_or_no, on_no}
 use Rattle.text_theory.specs.Text.{text_width, newline, comma, commas, Line, line_bytes}
@@ -127,12 +127,12 @@ numbers_nil (x ∷ t) z = absurd (omega arith)
 
 module _ (l : Line) (t : List ℕ) where
   pub form_key : begins l.key t ≡ false → form_test l t ≡ plain wrong_key
-  unfolding form_test ◌orElse◌
+  unfolding form_test ◌or_else◌
   form_key e = rw e
 
   pub form_is : begins l.key t ≡ true
       → form_test l t ≡ on (not (good_row l.numbers (drop (length l.key) t))) (plain bad_line)
-  unfolding form_test ◌orElse◌ good_row line_bytes
+  unfolding form_test ◌or_else◌ good_row line_bytes
   form_is e =
       let line = commas l.numbers ++ (newline ∷ []) in
       let b = ap (begins (l.key ++ line)) (begins_split l.key t e) ∙ begins_past l.key line _ in

@@ -10,7 +10,7 @@ use lib.ListN.{length, drop}
 use Rattle.order.specs.Sums.{sum}
 use Rattle.order.proofs.Sums.{sum_lt, part_ok, part_at_lem}
 use Rattle.listing.specs.Refusals.{over_ranks}
-use Rattle.listing.specs.Answers.{◌orElse◌}
+use Rattle.listing.specs.Answers.{◌or_else◌}
 use Rattle.listing.specs.Listing.{Limits}
 use Rattle.listing.specs.Layers.{Layers, Topped}
 use Rattle.text_theory.specs.Text.{rank_key, subs_key, lines_in, line_of, spot, line_at, line_count}

@@ -13,7 +13,7 @@ use lib.Dec.{ltb}
 use lib.ListN.{length}
 use Rattle.listing.specs.declared.Answer.{Answer}
 use Rattle.listing.specs.Refusals.{long_text, more_bytes}
-use Rattle.listing.specs.Answers.{plain, on, ◌orElse◌, first_of}
+use Rattle.listing.specs.Answers.{plain, on, ◌or_else◌, first_of}
 use Rattle.listing.specs.Listing.{Limits}
 use Rattle.listing.proofs.Answers.{or_fine, or_stop, or_no, on_or_no, on_no, of_next, of_stop, of_each, of_all}
 use Rattle.listing.proofs.Broken.{zero_or}
@@ -72,7 +72,7 @@ module _ (m : Limits) (t : List ℕ) where
   more = on (ltb 0 (length (from_line t (line_count (said t))))) (plain more_bytes)
 
   pub text_long : m.text < length t → (text_test m t).no ≡ long_text
-  unfolding text_test ◌orElse◌
+  unfolding text_test ◌or_else◌
   text_long h = rw (lt-ltb m.text (length t) h)
 
   text_short : length t ≤ m.text → text_test m t ≡ along or_else more

@@ -30,7 +30,7 @@ use Rattle.std.specs.Prelude.{Bool, true, false, cond, not, ◌&&◌, List, [], 
 use Rattle.order.specs.Sums.{sum}
 use Rattle.listing.specs.declared.Answer.{Answer}
 use Rattle.listing.specs.Refusals.{over_ranks, over_elements, over_incidences, wrong_key, bad_line, long_text, more_bytes}
-use Rattle.listing.specs.Answers.{plain, on, ◌orElse◌, first_of}
+use Rattle.listing.specs.Answers.{plain, on, ◌or_else◌, first_of}
 use Rattle.listing.specs.Listing.{Listing, Limits}
 use Rattle.listing.specs.Layers.{Layers, derived}
 use Rattle.listing.specs.Written.{written}

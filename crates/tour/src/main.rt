@@ -1,4 +1,6 @@
 // A tour: the tests, the products and a dual on cells by name, a row of a table for each.
+#![tactic(auto)]
+
 mod made;
 mod names;
 mod row;

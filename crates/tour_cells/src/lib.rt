@@ -1,4 +1,6 @@
 // Cells by name, each a module with its three slices.
+#![tactic(auto)]
+
 pub mod dyad;
 pub mod hemicube;
 pub mod leaking_box;

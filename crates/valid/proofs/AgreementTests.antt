@@ -9,7 +9,7 @@ use native.Mathlib.Omega.{arith}
 use lib.ListN.{length}
 use Rattle.order.specs.Lists.{In, Ascending}
 use Rattle.order.proofs.Lists.{ascending_once}
-use Rattle.listing.specs.Answers.{fine, ◌orElse◌}
+use Rattle.listing.specs.Answers.{fine, ◌or_else◌}
 use Rattle.listing.specs.Listing.{Listing, count, side, subs, sups}
 use Rattle.listing.specs.Layers.{layers}
 use Rattle.listing.proofs.Answers.{no_or}

@@ -4,7 +4,7 @@ use mathlib.Core.Path.{◌≡◌, refl}
 use mathlib.Core.List.{List, [], ◌∷◌, ◌++◌}
 use Prim.Native.Nat.{◌-◌}
 use Rattle.listing.specs.declared.Answer.{Answer}
-use Rattle.listing.specs.Answers.{fine, ◌orElse◌}
+use Rattle.listing.specs.Answers.{fine, ◌or_else◌}
 use Rattle.listing.specs.Listing.{Listing, Limits, rank}
 use Rattle.listing.specs.Shape.{shape_test}
 use Rattle.listing.specs.Rules.{Rule, FirstBroken}

@@ -10,7 +10,7 @@ use Rattle.std.specs.Prelude.{Bool, true, not, ◌&&◌, List, [], ◌∷◌, �
 use Rattle.order.specs.Lists.{Ascending}
 use Rattle.listing.specs.declared.Answer.{Answer}
 use Rattle.listing.specs.Refusals.{not_ascending}
-use Rattle.listing.specs.Answers.{refusal, on, ◌orElse◌, first_of}
+use Rattle.listing.specs.Answers.{refusal, on, ◌or_else◌, first_of}
 use Rattle.listing.specs.Listing.{Listing, count, side}
 
 unfoldable pub climbs : ℕ → List ℕ → Bool

@@ -7,7 +7,7 @@
 -- closed             shape, 1, 2, ascent, 3 at the ranks to the top
 use Rattle.std.specs.Prelude.{◌-◌}
 use Rattle.listing.specs.declared.Answer.{Answer}
-use Rattle.listing.specs.Answers.{◌orElse◌}
+use Rattle.listing.specs.Answers.{◌or_else◌}
 use Rattle.listing.specs.Listing.{Listing, Limits, rank}
 use Rattle.listing.specs.Shape.{shape_test}
 use Rattle.valid_incidence.specs.Incidence.{incidences_test}

@@ -1,5 +1,7 @@
 // The tests of a cell: those of the Rust's is_valid, and the closed test, which also looks at the top. Each entry takes
 // any three slices and tests their shape first; the modules hold the tests of a listing whose shape is known.
+#![tactic(auto)]
+
 pub mod agreement;
 pub mod ascent;
 pub mod bounds;

@@ -1,6 +1,6 @@
 // Tests 2 and 19 together, on a listing that is known to be shaped and bounded.
 ghost use Rattle.std.specs.Prelude.{◌≡◌, get_or};
-ghost use Rattle.listing.specs.Answers.{◌orElse◌};
+ghost use Rattle.listing.specs.Answers.{◌or_else◌};
 ghost use Rattle.listing.specs.Listing.{held, limits};
 ghost use Rattle.listing.specs.Shape.{Shaped};
 ghost use Rattle.valid_incidence.specs.Incidence.{incidences_test};

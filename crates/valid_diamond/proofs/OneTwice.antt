@@ -10,7 +10,7 @@ use lib.Dec.{eqb}
 use lib.ListN.{length, get_or}
 use Rattle.order.specs.Lists.{occurs}
 use Rattle.listing.specs.declared.Answer.{Answer}
-use Rattle.listing.specs.Answers.{fine, on, ◌orElse◌}
+use Rattle.listing.specs.Answers.{fine, on, ◌or_else◌}
 use Rattle.listing.specs.Listing.{Listing, count, entries}
 use Rattle.listing.proofs.Answers.{or_fine, of_fine}
 use Rattle.valid_diamond.specs.Dyadic.{subs_of_all, walk, third_test, seen_after, lone_test, third, lone, sections_test}
@@ -44,7 +44,7 @@ module _ (ends inc : List ℕ) (b : ℕ) (l : List ℕ) {first second : List ℕ
 
 module _ (x : ℕ) where
   third_passes : (f : ℕ → Answer) → third_test f [] (x ∷ x ∷ []) ≡ fine
-  unfolding third_test occurs ◌orElse◌
+  unfolding third_test occurs ◌or_else◌
   third_passes f = rw (eq-eqb x x refl) refl
 
   -- every index was met twice or not at all

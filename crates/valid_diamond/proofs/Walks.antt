@@ -12,7 +12,7 @@ use lib.Dec.{leb, eqb}
 use lib.ListN.{length, get_or, take, drop, set, length-set, replicate, length-replicate, get_or-replicate}
 use lib.Seq.{take-suc, take_all, split_at, get_or-set_same, get_or-set_other}
 use Rattle.order.specs.Lists.{In, occurs}
-use Rattle.listing.specs.Answers.{fine, on, ◌orElse◌, first_of}
+use Rattle.listing.specs.Answers.{fine, on, ◌or_else◌, first_of}
 use Rattle.listing.specs.Listing.{Listing, Limits, count, before, entries, subs}
 use Rattle.listing.specs.Shape.{Shaped}
 use Rattle.listing.specs.declared.Answer.{Answer}

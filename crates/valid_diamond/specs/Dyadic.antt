@@ -20,7 +20,7 @@ use Rattle.order.specs.Lists.{In, occurs}
 use Rattle.order.specs.Diamond.{OneOther}
 use Rattle.listing.specs.declared.Answer.{Answer}
 use Rattle.listing.specs.Refusals.{third_between, lone_between}
-use Rattle.listing.specs.Answers.{refusal, fine, on, ◌orElse◌, first_of}
+use Rattle.listing.specs.Answers.{refusal, fine, on, ◌or_else◌, first_of}
 use Rattle.listing.specs.Listing.{Listing, count, before, entries, side, subs}
 
 unfoldable pub subs_of_all : List ℕ → List ℕ → ℕ → List ℕ → List ℕ

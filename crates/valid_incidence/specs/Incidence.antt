@@ -11,7 +11,7 @@
 use Rattle.std.specs.Prelude.{ℕ, ◌+◌, ◌-◌, ◌<◌, length}
 use Rattle.order.specs.Lists.{In}
 use Rattle.listing.specs.declared.Answer.{Answer}
-use Rattle.listing.specs.Answers.{◌orElse◌, first_of}
+use Rattle.listing.specs.Answers.{◌or_else◌, first_of}
 use Rattle.listing.specs.Listing.{Listing, rank, count, subs, sups}
 use Rattle.valid_incidence.specs.Ways.{down, up, list_test}
 

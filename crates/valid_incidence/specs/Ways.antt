@@ -12,7 +12,7 @@ use Rattle.std.specs.Prelude.{cond, not, ◌&&◌, List, ℕ, ◌+◌, ◌-◌, 
 use Rattle.order.specs.Lists.{has}
 use Rattle.listing.specs.declared.Answer.{Answer}
 use Rattle.listing.specs.Refusals.{no_subs, no_sups, sub_not_back, sup_not_back, sub_missing, sup_missing}
-use Rattle.listing.specs.Answers.{refusal, on, ◌orElse◌, first_in}
+use Rattle.listing.specs.Answers.{refusal, on, ◌or_else◌, first_in}
 use Rattle.listing.specs.Listing.{Listing, rank, count, below, before, entries}
 use Rattle.valid_incidence.specs.declared.incidence.Way.{Way}
 

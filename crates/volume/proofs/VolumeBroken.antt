@@ -12,7 +12,7 @@ use lib.ListN.{length}
 use lib.Ieee.{Float}
 use Rattle.listing.specs.declared.Answer.{Answer}
 use Rattle.listing.specs.Refusals.{outside_ranks, more_flags, not_rank_four, not_orientable, wrong_coordinates, not_in_metres}
-use Rattle.listing.specs.Answers.{plain, fine, if_zero, on, ◌orElse◌}
+use Rattle.listing.specs.Answers.{plain, fine, if_zero, on, ◌or_else◌}
 use Rattle.listing.specs.Listing.{Listing, limits, rank, count}
 use Rattle.listing.specs.Rules.{FirstBroken, rule}
 use Rattle.listing.proofs.Answers.{or_fine, or_stop, or_assoc}

@@ -15,7 +15,7 @@ use Rattle.std.specs.Float.{binary64}
 use Rattle.std.specs.Float.Ieee.{of_int}
 use Rattle.listing.specs.declared.Answer.{Answer}
 use Rattle.listing.specs.Refusals.{not_rank_four, not_orientable, wrong_coordinates, not_in_metres}
-use Rattle.listing.specs.Answers.{plain, on, if_zero, ◌orElse◌}
+use Rattle.listing.specs.Answers.{plain, on, if_zero, ◌or_else◌}
 use Rattle.listing.specs.Listing.{Listing, Limits, rank}
 use Rattle.search_masks.specs.Masks.{every_rank}
 use Rattle.search.specs.declared.Searched.{Searched}

@@ -1,4 +1,6 @@
 // Six times the volume of a cell of rank 4.
+#![tactic(auto)]
+
 mod checks;
 
 ghost use Rattle.std.specs.Prelude.{◌≡◌};

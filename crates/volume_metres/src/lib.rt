@@ -1,3 +1,5 @@
 // Coordinates in whole metres, and the determinant of three points.
+#![tactic(auto)]
+
 pub mod metres;
 pub mod point;

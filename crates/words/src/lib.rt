@@ -1,5 +1,7 @@
 // What an answer says, in words: those of docs/REFUSALS.md, with the elements named as an engineer names them. Every
 // function here prints, and returns nothing.
+#![tactic(auto)]
+
 mod element;
 pub mod print;
 mod sentence;

@@ -11,7 +11,7 @@ use lib.Dec.{eqb}
 use lib.ListN.{length, get_or}
 use lib.Ieee.{Float}
 use Rattle.listing.specs.Refusals.{not_in_metres}
-use Rattle.listing.specs.Answers.{plain, on, ◌orElse◌}
+use Rattle.listing.specs.Answers.{plain, on, ◌or_else◌}
 use Rattle.listing.proofs.Answers.{if_not}
 use Rattle.search.specs.declared.Searched.{Searched}
 use Rattle.volume_metres.specs.Whole.{all_coordinates}
@@ -25,7 +25,7 @@ last_test : (counts : List ℕ) (xs : List Float) (s : Searched) → s.answer.no
     → eqb (length counts - 1) cell_rank ≡ true → eqb s.orientable 0 ≡ false
     → eqb (length xs) (3 * get_or counts 1 0) ≡ true → {b : Bool} → all_coordinates xs ≡ b
     → (on (not b) (plain not_in_metres)).no ≡ (volume_test counts xs s).no
-unfolding volume_test ◌orElse◌
+unfolding volume_test ◌or_else◌
 last_test counts xs s z r o t e = rw (z, r, o, t, e)
 
 -- ---- points of the code: where it began, where each test has passed
@@ -62,19 +62,19 @@ three_are c =
     (omega (arith, c.if4.false, c.before.wide.ensures.0))
 
 returns : tie.Need-returns
-unfolding volume_test ◌orElse◌
+unfolding volume_test ◌or_else◌
 returns c =
     let s = c.before.before.before.before.before in
     rw (if_not s.args.s.answer.no _ _ c.if1.true)
 
 returns-2 : tie.Need-returns-2
-unfolding volume_test ◌orElse◌
+unfolding volume_test ◌or_else◌
 returns-2 c =
     let d = c.before in
     rw (d.if1.false, ne_eqb (length (begun d).args.counts.now - 1) cell_rank (λ e. c.if2.true (omega arith)))
 
 returns-3 : tie.Need-returns-3
-unfolding volume_test ◌orElse◌
+unfolding volume_test ◌or_else◌
 returns-3 c =
     let d = c.before.before in
     rw ((of_search d).if1.false, ranks_are d, eq-eqb (begun (of_search d)).args.s.orientable 0 c.if3.true)
@@ -89,7 +89,7 @@ mul-if4 : tie.Need-overflow-mul-if4
 mul-if4 c = search rules
 
 returns-4 : tie.Need-returns-4
-unfolding volume_test ◌orElse◌
+unfolding volume_test ◌or_else◌
 returns-4 c =
     let d = of_sides c.before in
     let e = of_rank d in
