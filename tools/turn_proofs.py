@@ -207,6 +207,7 @@ class Function:
                         return m.group(0)
                     return f"c.{step}.ensures{path}"
                 text = re.sub(r"(?<![\w'-])c\." + re.escape(step) + r"\.ensures((?:\.\d+)*)(?![\w.])", named, text)
+        text = re.sub(r"(?<=[\w])\.type-inv(?![\w-])", ".type_inv", text)
         text = re.sub(r"(?<=[\w])\.inv(?![\w-])", ".invariant", text)
         text = re.sub(r"(?<=[\w])\.taken(?![\w-])", ".true", text)
         text = re.sub(r"(c\.(?:if|loop)[\w-]*)\.left(?![\w-])", r"\1.false", text)
@@ -232,6 +233,30 @@ def plain_c(text, var, hops):
             if name != "c":
                 text = re.sub(r"(?<![\w'.-])" + re.escape(name) + r"(?![\w'-])", "c", text)
         if text == old:
+            return text
+
+
+def inline_parts(text, fn):
+    """With each let that names a part of several clauses written out where it is used."""
+    while True:
+        done = True
+        for m in re.finditer(r"let (" + WORD + r") = (c\.[A-Za-z][\w'-]*(?:\.[A-Za-z][\w'-]*)*?(?:\.\d+)*) in\s*", text):
+            path = m.group(2)
+            k = re.match(r"c\.(pre|requires)((?:\.\d+)*)$", path)
+            several = False
+            if k:
+                several = len(fn.own_requires) > 1 and (not k.group(2) or by_clause(k.group(2), fn.own_requires) is None)
+            k = re.match(r"c\.([\w'-]+)\.ensures((?:\.\d+)*)$", path)
+            if k:
+                got = fn.steps.get(squash(k.group(1)))
+                names = fn.clause_names(got[1], "ensures") if got else []
+                several = len(names) > 1 and (not k.group(2) or by_clause(k.group(2), names) is None)
+            if several:
+                name = m.group(1)
+                text = text[:m.start()] + re.sub(r"(?<![\w'.-])" + re.escape(name) + r"(?![\w'-])", path, text[m.end():])
+                done = False
+                break
+        if done:
             return text
 
 
@@ -400,6 +425,12 @@ def turn_file(path, rel, crate, text, fn, said):
         term = term.replace("\0", "")
         inv_text += f"{comment}abbrev pub {kind}-{new} : goal.{kind}-{new}\n{kind}-{new} l = {term.strip()}\n\n"
 
+    others_by_name = {}
+    for comment, old, name, unfolding, body in answers:
+        m = re.match(r"(?s)^(" + WORD + r")\s*(.*?)\s*=\s(.*)$", body)
+        if m:
+            args, term = m.group(2).split(), m.group(3).strip()
+            others_by_name[name] = "omega arith" if term == "search rules" else plain_c(term, args[0] if args else None, hops)
     ans_text = ""
     for comment, old, name, unfolding, body in answers:
         new = None
@@ -417,6 +448,11 @@ def turn_file(path, rel, crate, text, fn, said):
             new = "GONE-" + old
         var = args[0] if args else None
         term = plain_c(term, var, hops)
+        for oname, obody in others_by_name.items():
+            if oname == name:
+                continue
+            term = re.sub(r"\(" + re.escape(oname) + r"\s+c(?:\s+[κ_]\w*)?\)|(?<![\w'.-])" + re.escape(oname) + r"\s+c(?:\s+[κ_]\w*)?(?![\w'.-])", lambda m: "(" + obody + ")", term)
+        term = inline_parts(term, fn)
         heads, unfold, term = head_of(term)
         term = fn.turn(term)
         heads = heads
@@ -428,7 +464,14 @@ def turn_file(path, rel, crate, text, fn, said):
             names = [n for n in fn.own[1] if n]
         if len(names) > 1:
             before, last = last_term(term)
+            wrapped = re.match(r"(?s)\s*(rw .*?) (\(.*\))\s*$", last)
             parts = flat(last, len(names))
+            if not parts and wrapped:
+                for k in range(len(last)):
+                    if last[k] == "(" and flat(last[k:].strip(), len(names)):
+                        before, parts = before + " " + last[:k].strip(), flat(last[k:].strip(), len(names))
+                        before += " " if parts else ""
+                        break
             if parts:
                 term = before + (" " if before else "") + "record {\n" + "".join(
                     f"        {n} = {p};\n" for n, p in zip(names, parts)) + "    }"

@@ -5,7 +5,7 @@ ghost use Rattle.cellbuild.specs.Kinds.{kind, is_word, kind_of};
 use text_lines::lines;
 
 // Whether there is a product of a name, and whether it leaves out minimal and maximal elements.
-#[derive(Drop)]
+#[derive(Clone, Copy)]
 pub struct Kind {
     pub known: bool,
     pub min: bool,

@@ -12,7 +12,7 @@ ghost use Rattle.dual.specs.Writing.{reversed, turned_from, ListsPut};
 use listing::{Index, inner};
 
 // How many ends stand, and how many numbers of lists.
-#[derive(Drop)]
+#[derive(Clone, Copy)]
 struct Place {
     ends: usize,
     inc: usize,

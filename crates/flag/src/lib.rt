@@ -15,7 +15,7 @@ use listing::{Answer, Index, inner, limit, refusal};
 // What a change answers: a refusal or 0; the new flag, 0 above the top; and what was replaced, the index that the
 // change took out and the one that it put in.
 #[repr(C)]
-#[derive(Drop)]
+#[derive(Clone, Copy)]
 pub struct Changed {
     pub answer: Answer,
     pub flag: [Index; limit::RANKS],
@@ -62,7 +62,7 @@ pub fn change(counts: &[Index], ends: &[Index], inc: &[Index], flag: &[Index], r
 }
 
 // The parity of a flag, which each change flips.
-#[derive(Drop)]
+#[derive(Clone, Copy)]
 pub enum Orientation {
     Even,
     Odd,

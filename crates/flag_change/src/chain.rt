@@ -12,7 +12,7 @@ use listing::{Answer, Index, inner, limit, refusal};
 use listing_membership::members;
 
 // What a change replaces: the index that it takes out of a flag, and the one that it puts in.
-#[derive(Drop)]
+#[derive(Clone, Copy)]
 pub struct Replaced {
     pub taken: Index,
     pub put: Index,

@@ -13,7 +13,7 @@ pub const LARGEST: Index = 65535;
 
 // What a test answers: a refusal's number, 0 for none, and the fields that it carries.
 #[repr(C)]
-#[derive(Drop)]
+#[derive(Clone, Copy)]
 pub struct Answer {
     pub no: u16,
     pub a: Index,
@@ -24,7 +24,7 @@ pub struct Answer {
 
 // What a count answers: a refusal's number, 0 for none, and the count.
 #[repr(C)]
-#[derive(Drop)]
+#[derive(Clone, Copy)]
 pub struct Number {
     pub no: u16,
     pub value: usize,
@@ -32,7 +32,7 @@ pub struct Number {
 
 // What a function that writes a listing answers: a refusal or 0, and how many numbers it wrote into each output slice.
 #[repr(C)]
-#[derive(Drop)]
+#[derive(Clone, Copy)]
 pub struct Built {
     pub answer: Answer,
     pub counts: u16,
@@ -41,14 +41,14 @@ pub struct Built {
 }
 
 // An element: its rank, and its index there.
-#[derive(Drop)]
+#[derive(Clone, Copy)]
 pub struct Element {
     pub rank: Index,
     pub index: Index,
 }
 
 // The class of a refusal.
-#[derive(Drop)]
+#[derive(Clone, Copy)]
 pub enum Band {
     Nothing,
     Shape,

@@ -6,7 +6,7 @@ ghost use Rattle.listing_outputs.specs.Output.{need_of, short_test, built_of};
 use listing::{Answer, Built, inner, refusal};
 
 // How many numbers the three slices of a listing take, or have room for.
-#[derive(Drop)]
+#[derive(Clone, Copy)]
 pub struct Room {
     pub counts: usize,
     pub ends: usize,

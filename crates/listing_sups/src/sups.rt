@@ -11,7 +11,7 @@ ghost use Rattle.listing_sups.specs.Sups.{Fillable, SupsFilled};
 use listing::{Index, inner, limit};
 
 // How many elements a rank has, and how many the rank above it.
-#[derive(Drop)]
+#[derive(Clone, Copy)]
 struct Two {
     n: usize,
     m: usize,

@@ -11,7 +11,7 @@ use product_places::put::{Shift, Spot};
 use product_places::{Poles, put};
 
 // A pair of a block: element a of its first rank and element b of its second.
-#[derive(Drop)]
+#[derive(Clone, Copy)]
 pub struct Pair {
     pub a: usize,
     pub b: usize,

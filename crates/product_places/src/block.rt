@@ -9,7 +9,7 @@ use crate::Poles;
 use listing::{Index, inner};
 
 // The pairs of the elements of two ranks.
-#[derive(Drop)]
+#[derive(Clone, Copy)]
 pub struct Block {
     // the ranks: of the first factor, and of the second
     pub i: usize,

@@ -9,7 +9,7 @@ ghost use Rattle.product_places.specs.Places.{subs_of};
 use listing::{Index, inner};
 
 // Where an element is written: its number among all, and the place of `inc` at which its lists begin.
-#[derive(Drop)]
+#[derive(Clone, Copy)]
 pub struct Spot {
     pub e: usize,
     pub at: usize,
@@ -17,7 +17,7 @@ pub struct Spot {
 
 // How the subs of an element follow from those of its two members: a 0 where `low` is set, then left + x * scale for
 // each sub x of the first, then right + y for each sub y of the second.
-#[derive(Drop)]
+#[derive(Clone, Copy)]
 pub struct Shift {
     pub low: bool,
     pub left: usize,

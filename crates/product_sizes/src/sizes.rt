@@ -13,7 +13,7 @@ use product_places::{Poles, block};
 
 // How large the part of a factor is that a product uses: its ranks, elements and subs, and the elements of its lowest
 // and of its highest rank.
-#[derive(Drop)]
+#[derive(Clone, Copy)]
 pub struct Extent {
     pub ranks: usize,
     pub elements: usize,
@@ -23,7 +23,7 @@ pub struct Extent {
 }
 
 // How large a product is.
-#[derive(Drop)]
+#[derive(Clone, Copy)]
 pub struct Totals {
     pub ranks: usize,
     pub elements: usize,

@@ -15,7 +15,7 @@ const LARGEST_BYTE: u8 = 255;
 
 // A number that is being read: its value, how often it stands, and whether a star has come, after which the digits say
 // how often.
-#[derive(Drop)]
+#[derive(Clone, Copy)]
 pub struct Item {
     pub value: u32,
     pub times: u32,

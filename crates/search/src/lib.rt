@@ -16,7 +16,7 @@ use search_walk::walk;
 // What a search answers: a refusal or 0; how many flags there are, how many came before the cell showed itself not
 // orientable (0 if it never did), and whether it is orientable.
 #[repr(C)]
-#[derive(Drop)]
+#[derive(Clone, Copy)]
 pub struct Searched {
     pub answer: Answer,
     pub count: u16,

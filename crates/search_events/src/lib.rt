@@ -6,7 +6,7 @@ ghost use Rattle.std.specs.Prelude.{◌≡◌};
 ghost use Rattle.search_events.specs.Events.{marked, event_at, events, next_at, said_of, Stepped};
 
 // An event of a search: a flag by its number, or that the cell is not orientable; Nothing past the last.
-#[derive(Drop)]
+#[derive(Clone, Copy)]
 pub enum Event {
     Flag(u16),
     NonOrientable,
@@ -15,7 +15,7 @@ pub enum Event {
 
 // An event as two numbers.
 #[repr(C)]
-#[derive(Drop)]
+#[derive(Clone, Copy)]
 pub struct Said {
     pub kind: u16,
     pub flag: u16,
@@ -23,7 +23,7 @@ pub struct Said {
 
 // How far the events of a search have been taken: 0 at first.
 #[repr(C)]
-#[derive(Drop)]
+#[derive(Clone, Copy)]
 pub struct Cursor {
     pub at: u32,
 }

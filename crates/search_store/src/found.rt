@@ -12,7 +12,7 @@ use search_index::{index, row};
 
 // How far a search has come: how many flags it has found, how many there were when the cell showed itself not
 // orientable (0 while it has not), and whether one more turned up than there is room for.
-#[derive(Drop)]
+#[derive(Clone, Copy)]
 pub struct Progress {
     pub count: u16,
     pub place: u16,

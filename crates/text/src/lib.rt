@@ -20,7 +20,7 @@ use text_writing::{length as lengths, write};
 
 // What a function that writes a text answers: a refusal or 0, and how many bytes it wrote.
 #[repr(C)]
-#[derive(Drop)]
+#[derive(Clone, Copy)]
 pub struct Written {
     pub answer: Answer,
     pub length: usize,

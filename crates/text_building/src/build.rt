@@ -11,7 +11,7 @@ use listing::{Index, inner};
 use listing_sups::sups;
 
 // Where the subs of an element begin among those noted, and where its lists begin in `inc`.
-#[derive(Drop)]
+#[derive(Clone, Copy)]
 struct FromTo {
     from: usize,
     to: usize,

@@ -8,7 +8,7 @@ ghost use Rattle.text_lines.specs.Lines.{Key, TermRead, form_of, LineRead};
 use listing::{inner, refusal};
 
 // A number that was read: whether it stands there as numbers are written, its value, and the place after its digits.
-#[derive(Drop)]
+#[derive(Clone, Copy)]
 pub struct Word {
     pub good: bool,
     pub value: usize,
@@ -17,7 +17,7 @@ pub struct Word {
 
 // A number of a row: whether it is good and then ends with a comma or with the line; whether it is a comma; its value;
 // and the place after that.
-#[derive(Drop)]
+#[derive(Clone, Copy)]
 pub struct Term {
     pub good: bool,
     pub more: bool,
@@ -34,7 +34,7 @@ const NONE: Term = Term {
 };
 
 // A line with one number: the number that refuses it, 0 for none; its value; and the place after its newline.
-#[derive(Drop)]
+#[derive(Clone, Copy)]
 pub struct Single {
     pub no: u16,
     pub value: usize,

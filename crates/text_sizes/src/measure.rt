@@ -12,7 +12,7 @@ use text_lines::lines;
 
 // How far the reading has come: the number that refuses the text, 0 for none; the place of the next line; the rank
 // that it belongs to; how many elements the rank below has, and all ranks below that one; the incidences; the subs.
-#[derive(Drop)]
+#[derive(Clone, Copy)]
 pub struct Headway {
     pub no: u16,
     pub at: usize,
@@ -24,7 +24,7 @@ pub struct Headway {
 }
 
 // What the reading finds: the number that refuses the text, 0 for none; and how much room its listing needs.
-#[derive(Drop)]
+#[derive(Clone, Copy)]
 pub struct Measured {
     pub no: u16,
     pub need: Room,

@@ -14,7 +14,7 @@ use text_lines::lines;
 
 // A row of numbers: the number that refuses it, 0 for none; how many there are; how many of them name an element; and
 // the place after the newline.
-#[derive(Drop)]
+#[derive(Clone, Copy)]
 pub struct Row {
     pub no: u16,
     pub count: usize,

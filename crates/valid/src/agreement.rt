@@ -12,7 +12,7 @@ ghost use Rattle.valid.specs.Agreement.{Agrees, Cursors, AscendsBelow, AllBelow,
 use listing::{Index, inner, limit};
 
 // Where the elements of a rank stand: the place of the first, and how many there are.
-#[derive(Drop)]
+#[derive(Clone, Copy)]
 struct Rank {
     place: usize,
     size: Index,

@@ -12,14 +12,14 @@ ghost use Rattle.valid_diamond.specs.Tally.{MetIn, TotalsIn, Tally, Tallied, lon
 use listing::{Answer, Element, Index, inner, limit, refusal};
 
 // How many indices a walk has met, and how many of them twice.
-#[derive(Drop)]
+#[derive(Clone, Copy)]
 struct Totals {
     met: Index,
     twice: Index,
 }
 
 // What a walk leaves: its answer, and its totals.
-#[derive(Drop)]
+#[derive(Clone, Copy)]
 struct Counted {
     answer: Answer,
     totals: Totals,

@@ -10,7 +10,7 @@ use listing::{Answer, Element, Index, inner, refusal};
 use listing_membership::members;
 
 // Where the entries of a list lead.
-#[derive(Drop)]
+#[derive(Clone, Copy)]
 pub struct Way {
     // how many elements they may name
     pub size: Index,

@@ -11,7 +11,7 @@ use listing::Index;
 use volume_sum::parts;
 
 // What is answered: six times the volume, or the number of a refusal.
-#[derive(Drop)]
+#[derive(Clone, Copy)]
 pub enum Volume {
     Six(f64),
     Refused(u16),
@@ -19,7 +19,7 @@ pub enum Volume {
 
 // An answer as two numbers: the refusal's, 0 for none, and six times the volume, 0.0 on a refusal.
 #[repr(C)]
-#[derive(Drop)]
+#[derive(Clone, Copy)]
 pub struct Measured {
     pub no: u16,
     pub six: f64,

@@ -6,7 +6,7 @@ ghost use Rattle.volume_metres.specs.Formulas.{det_in};
 use listing::{Index, inner};
 
 // Where a vertex stands.
-#[derive(Drop)]
+#[derive(Clone, Copy)]
 pub struct Point {
     pub x: f64,
     pub y: f64,
