@@ -206,7 +206,7 @@ class Function:
                             self.said(f"a part of ensures: {m.group(0)}")
                         return m.group(0)
                     return f"c.{step}.ensures{path}"
-                text = re.sub(r"(?<![\w'-])c\." + re.escape(step) + r"\.ensures((?:\.\d+)*)(?![\w.])", named, text)
+                text = re.sub(r"(?<![\w'-])c\." + re.escape(step) + r"\.ensures((?:\.\d+)*)(?!\w)", named, text)
         text = re.sub(r"(?<=[\w])\.type-inv(?![\w-])", ".type_inv", text)
         text = re.sub(r"(?<=[\w])\.inv(?![\w-])", ".invariant", text)
         text = re.sub(r"(?<=[\w])\.taken(?![\w-])", ".true", text)

@@ -2,7 +2,7 @@
 ghost use Rattle.std.specs.Prelude.{◌≡◌, [], ◌∷◌, ℕ, ◌+◌, ◌*◌, ◌≤◌, ◌<◌, length, get_or, replicate};
 ghost use Rattle.order.specs.Lists.{occurs};
 ghost use Rattle.order.specs.Sums.{sum};
-ghost use Rattle.listing.specs.Listing.{width, held, before, start, Ends, subs_at};
+ghost use Rattle.listing.specs.Listing.{width, listing, before, start, Ends, subs_at};
 ghost use Rattle.listing.specs.Layers.{gather};
 ghost use Rattle.listing.specs.Laid.{Laid};
 ghost use Rattle.listing_sups.specs.Sups.{UpCounts, Raised, Strewn, Apart, span};
@@ -84,7 +84,7 @@ pub fn tally(up: &mut [Index], counts: &[Index], ends: &[Index], inc: &[Index], 
     requires counts_in_bounds { 2 * (base + before counts.now (length counts.now)) ≤ length ends.now }
     requires counts_in_bounds_2 { before counts.now (length counts.now) ≤ length up.old }
     requires by_index { (k : ℕ) → get_or up.old k 0 ≡ 0 }
-    ensures { UpCounts base (held counts.entry ends.entry inc.entry) up.new }
+    ensures { UpCounts base (listing counts.now ends.now inc.now) up.new }
 {
     let mut from: usize = 0;
     let mut rank: usize = 0;
@@ -184,11 +184,11 @@ fn set_cursors(next: &mut [Index], ends: &[Index], n: usize)
 
 // Fills in the sups of all ranks, with a cursor for each element.
 fn fill_ranks(counts: &[Index], ends: &[Index], inc: &mut [Index], next: &mut [Index])
-    requires fillable { Fillable (held counts ends inc) }
+    requires fillable { Fillable (listing counts.now ends.now inc.old) }
     requires counts_in_bounds { before counts.now (length counts.now) ≤ length next.old }
     requires by_index { (e : ℕ) → e < before counts.now (length counts.now)
         → get_or next.old e 0 ≡ get_or ends.now (2 * e) 0 }
-    ensures { SupsFilled (held counts.entry ends.entry inc.entry) (length counts.now)
+    ensures { SupsFilled (listing counts.now ends.now inc.old) (length counts.now)
         inc.new }
 {
     let mut from: usize = 0;
@@ -203,8 +203,8 @@ fn fill_ranks(counts: &[Index], ends: &[Index], inc: &mut [Index], next: &mut [I
 
 // Fills in the sups of all elements, from their subs. A sub that names no element is passed over.
 pub fn fill(counts: &[Index], ends: &[Index], inc: &mut [Index])
-    requires { Fillable (held counts ends inc) }
-    ensures { SupsFilled (held counts.entry ends.entry inc.entry) (length counts.now)
+    requires { Fillable (listing counts.now ends.now inc.old) }
+    ensures { SupsFilled (listing counts.now ends.now inc.old) (length counts.now)
         inc.new }
 {
     let mut next: [Index; limit::ELEMENTS] = [0; limit::ELEMENTS];

@@ -8,4 +8,4 @@ pub returns : goal.returns
 returns c =
     let s = c.wrapping_sub_usize in
     let e = ap (λ n. n.value) (sym c.rank-r.ensures) in
-    c.el_count.ensures ∙ facets_wrapped _ _ s.result e (omega arith) s.type_inv s.ensures
+    c.el_count.ensures ∙ facets_wrapped _ _ s.result e (omega arith) s.type_inv s.ensures.value

@@ -86,8 +86,8 @@ loop-rank-preserved c =
     let v = c.loop-rank.invariant in (
       omega arith,
       p.0,
-      c.fill_rank.ensures.0.same_length ∙ v.2,
-      λ e h l. c.fill_rank.ensures.0.later e (omega (arith, p.0)) ∙ v.3 e (omega (arith, p.0, v.1)) l,
+      c.fill_rank.ensures.raised.same_length ∙ v.2,
+      λ e h l. c.fill_rank.ensures.raised.later e (omega (arith, p.0)) ∙ v.3 e (omega (arith, p.0, v.1)) l,
       filled_next known _ c.fill_rank.ensures.strewn,
     )
 

@@ -78,7 +78,7 @@ loop-rank-preserved c =
     let h = here_is c.args.base _ _ _ p.0 in (
       omega arith,
       p.0,
-      c.tally_rank.ensures.0.same_length ∙ v.2,
+      c.tally_rank.ensures.raised.same_length ∙ v.2,
       counted_next _ L _ _ _ _ _ _ _ v.1 n.0 n.1 h v.3 c.tally_rank.ensures.raised c.tally_rank.ensures.by_index_2,
     )
 
