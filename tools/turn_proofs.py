@@ -163,6 +163,11 @@ class Function:
         for p in names["places"]:
             pass
         self.needs = {squash(o): n for o, n in names["needs"]}
+        self.asked = {}
+        for o, n in names["needs"]:
+            for key in (o, n):
+                if key in (names.get("asked") or {}):
+                    self.asked[n] = names["asked"][key]
         self.loops = {squash(l[0][0]): (l[0][1], l[1], c) for l, c in zip(names["loops"], names["changed"])}
         self.sources = sources
         self.own = sources.get(qualified, ([], []))
@@ -346,7 +351,7 @@ def turn_file(path, rel, crate, text, fn, said):
         if m:
             hops.append(name)
             continue
-        m = re.match(r"(?s)(?:\((\S+) : tie\.[A-Z][^()]*\)|tie\.[A-Z]\S*(?: (?:invariant|decreases)\S*)*)\s+→\s+(.*)$", sig)
+        m = re.match(r"(?s)(?:\((\S+) : tie\.[A-Z][^()]*\)|tie\.[A-Z]\S*(?: (?:invariant|decreases)\S*)*)\s+(?:→\s+)?(.*)$", sig)
         if m:
             helpers[name] = [m.group(1), m.group(2), unfolding, body, comment]
             continue
@@ -458,8 +463,8 @@ def turn_file(path, rel, crate, text, fn, said):
         heads = heads
         # parts of several clauses
         names = []
-        if new.endswith(("-requires",)) or "-requires-" in new:
-            names = fn.names.get("asked", {}).get(new) or []
+        if new in fn.asked:
+            names = fn.asked[new]
         elif new.startswith("returns"):
             names = [n for n in fn.own[1] if n]
         if len(names) > 1:
