@@ -191,7 +191,9 @@ class Function:
                     return "c.requires" + rest
                 return "c.requires" + path
             return "c.requires" + rest
-        if name in ("args", "ranges", "lifetimes", "type_inv", "utf8"):
+        if name == "good":
+            name = "well_formed"
+        if name in ("args", "ranges", "lifetimes", "type_inv", "utf8", "well_formed"):
             return f"c.{name}{rest}"
         got = self.steps.get(squash(name))
         if not got:
@@ -212,11 +214,25 @@ class Function:
                         return m.group(0)
                     return f"c.{step}.ensures{path}"
                 text = re.sub(r"(?<![\w'-])c\." + re.escape(step) + r"\.ensures((?:\.\d+)*)(?!\w)", named, text)
+        for step, callee in self.steps.values():
+            params = self.names["params"].get(callee or "") or []
+
+            def after(m):
+                steps = m.group(1).split(".")[1:]
+                k = 0
+                while steps and steps[0] == "1" and k < len(params) - 1:
+                    steps.pop(0)
+                    k += 1
+                if k < len(params) - 1 or (steps and steps[0] == "0" and k < len(params)):
+                    if steps and steps[0] == "0":
+                        steps.pop(0)
+                return f"c.{step}.new.{params[k]}" + "".join("." + t for t in steps) if params else m.group(0)
+            text = re.sub(r"(?<![\w'-])c\." + re.escape(step) + r"\.(?:new|last)((?:\.\d+)+)(?!\w)", after, text)
         text = re.sub(r"(?<=[\w])\.type-inv(?![\w-])", ".type_inv", text)
         text = re.sub(r"(?<=[\w])\.inv(?![\w-])", ".invariant", text)
         text = re.sub(r"(?<=[\w])\.taken(?![\w-])", ".true", text)
-        text = re.sub(r"(c\.(?:if|loop)[\w-]*)\.left(?![\w-])", r"\1.false", text)
-        text = re.sub(r"(c\.(?:if|loop)[\w-]*)\.right(?![\w-])", r"\1.true", text)
+        text = re.sub(r"(c\.(?:if[\w-]*|[\w-]*-test))\.left(?![\w-])", r"\1.false", text)
+        text = re.sub(r"(c\.(?:if[\w-]*|[\w-]*-test))\.right(?![\w-])", r"\1.true", text)
         return text
 
 
@@ -317,6 +333,10 @@ def parse(block):
 
 
 def turn_file(path, rel, crate, text, fn, said):
+    # another name for a place
+    for m in list(re.finditer(r"(?m)^abbrev (" + WORD + r") : Type 0\n\1 = (tie\.[^\n]*)\n", text)):
+        text = text.replace(m.group(0), "")
+        text = re.sub(r"(?<![\w'.-])" + re.escape(m.group(1)) + r"(?![\w'-])", m.group(2), text)
     blocks = blocks_of(text)
     uses, comments, hops, helpers, answers, invariants, others = [], [], [], {}, [], [], []
     head = None
@@ -369,6 +389,8 @@ def turn_file(path, rel, crate, text, fn, said):
             continue
         args = m.group(3).split()
         term = plain_c(m.group(4), m.group(2), hops)
+        if re.search(r"(?m)^\s*where$", term):
+            said.append(f"a helper with a where: {name}")
         if args:
             term = "λ " + " ".join(args) + ". " + term
         lets[name] = (plain_c(typ, var, hops), unfolding, term)
