@@ -228,6 +228,8 @@ class Function:
                         steps.pop(0)
                 return f"c.{step}.new.{params[k]}" + "".join("." + t for t in steps) if params else m.group(0)
             text = re.sub(r"(?<![\w'-])c\." + re.escape(step) + r"\.(?:new|last)((?:\.\d+)+)(?!\w)", after, text)
+        text = re.sub(r"\(not-(?:false|true) (?:_|c\.[\w.+-]+) (c\.[\w.+-]+)\)", r"\1", text)
+        text = re.sub(r"not-(?:false|true) (?:_|c\.[\w.+-]+) (c\.[\w.+-]+)", r"\1", text)
         text = re.sub(r"(?<=[\w])\.type-inv(?![\w-])", ".type_inv", text)
         text = re.sub(r"(?<=[\w])\.inv(?![\w-])", ".invariant", text)
         text = re.sub(r"(?<=[\w])\.taken(?![\w-])", ".true", text)
@@ -393,7 +395,7 @@ def turn_file(path, rel, crate, text, fn, said):
             said.append(f"a helper with a where: {name}")
         if args:
             term = "λ " + " ".join(args) + ". " + term
-        lets[name] = (plain_c(typ, var, hops), unfolding, term)
+        lets[name] = (plain_c(typ, var, hops), unfolding, inline_parts(term, fn))
 
     def closed(term):
         """With each helper of c by its name alone, and the helpers that it needs."""
