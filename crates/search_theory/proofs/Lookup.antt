@@ -56,12 +56,16 @@ module _ {A : Type 0} (same : A → A → Bool) (decides : Decides same) where
 
   pub index_in_lem : (l : List A) (y : A) → Memᴰ y l → index_in same l y < length l
   unfolding index_in
-  index_in_lem l y (Memᴰ.head {x = x} {xs = m} e) = omega (arith, index_here same x y m ((decides x y).1 (sym e)))
-  index_in_lem l y (Memᴰ.tail {x = x} {xs = m} h) = go (tested x y) (index_in_lem m y h)
+  index_in_lem l y h = go l h
     where
-      go : Tested x y → index_in same m y < length m → index_in same (x ∷ m) y < suc (length m)
-      go (inl t) ih = omega (arith, index_here same x y m t.0)
-      go (inr t) ih = omega (arith, index_later same x y m t.0)
+      later : (x : A) (m : List A) → Tested x y → index_in same m y < length m
+          → index_in same (x ∷ m) y < suc (length m)
+      later x m (inl t) ih = omega (arith, index_here same x y m t.0)
+      later x m (inr t) ih = omega (arith, index_later same x y m t.0)
+
+      go : (l : List A) → Memᴰ y l → index_in same l y < length l
+      go l (Memᴰ.head {x = x} {xs = m} e) = omega (arith, index_here same x y m ((decides x y).1 (sym e)))
+      go l (Memᴰ.tail {x = x} {xs = m} h) = later x m (tested x y) (go m h)
 
   -- any index at which the thing stands is the first
   pub index_only : (l : List A) (d y : A) (k : ℕ) → Once l → k < length l → same (get_or l k d) y ≡ true

@@ -47,8 +47,11 @@ module _ {A : Type 0} where
 
   taken : (l : List A) (x : A) → Once l → Memᴰ x l → Taken l x
   unfolding Once
-  taken l x o (Memᴰ.head {x = y} {xs = m} e) = taken_first x y m e o
-  taken l x o (Memᴰ.tail {x = y} {xs = m} h) = taken_later x y m h o (taken m x o.1 h)
+  taken l x o h = go l o h
+    where
+      go : (l : List A) → Once l → Memᴰ x l → Taken l x
+      go l o (Memᴰ.head {x = y} {xs = m} e) = taken_first x y m e o
+      go l o (Memᴰ.tail {x = y} {xs = m} h) = taken_later x y m h o (go m o.1 h)
 
   -- ---- the sum along matched lists
 

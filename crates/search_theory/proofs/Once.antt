@@ -20,8 +20,11 @@ module _ {A : Type 0} where
   mem_at (x ∷ l) d (suc k) h = Memᴰ.tail (mem_at l d k (le_of_suc-le-suc h))
 
   pub at_in : (l : List A) (d y : A) → Memᴰ y l → (k : ℕ) × (k < length l) × (get_or l k d ≡ y)
-  at_in l d y (Memᴰ.head e) = (0, omega arith, sym e)
-  at_in l d y (Memᴰ.tail {xs = m} h) = let p = at_in m d y h in (suc p.0, omega arith, p.2)
+  at_in l d y h = go l h
+    where
+      go : (l : List A) → Memᴰ y l → (k : ℕ) × (k < length l) × (get_or l k d ≡ y)
+      go l (Memᴰ.head e) = (0, omega arith, sym e)
+      go l (Memᴰ.tail {xs = m} h) = let p = go m h in (suc p.0, omega arith, p.2)
 
   pub take_mem : {x : A} (n : ℕ) (l : List A) → Memᴰ x (take n l) → Memᴰ x l
   take_mem zero l h = absurd (Memᴰ.not-nil h)
@@ -70,18 +73,21 @@ module _ {A : Type 0} where
     others : (z : A) → z ≢ x → Memᴰ z l → Memᴰ z rest
 
   without : (l : List A) (x : A) → Memᴰ x l → Without l x
-  without l x (Memᴰ.head {xs = m} e) = record {
-    rest = m;
-    fewer = refl;
-    others = λ z d h. ⊎_elim (λ q. absurd (d (q ∙ sym e))) (λ n. n) (Memᴰ.cases_cons h);
-  }
-  without l x (Memᴰ.tail {x = y} {xs = m} h) =
-      let s = without m x h in
-      record {
-        rest = y ∷ s.rest;
-        fewer = omega arith;
-        others = λ z d k. ⊎_elim Memᴰ.head (λ n. Memᴰ.tail (s.others z d n)) (Memᴰ.cases_cons k);
+  without l x h = go l h
+    where
+      go : (l : List A) → Memᴰ x l → Without l x
+      go l (Memᴰ.head {xs = m} e) = record {
+        rest = m;
+        fewer = refl;
+        others = λ z d h. ⊎_elim (λ q. absurd (d (q ∙ sym e))) (λ n. n) (Memᴰ.cases_cons h);
       }
+      go l (Memᴰ.tail {x = y} {xs = m} h) =
+          let s = go m h in
+          record {
+            rest = y ∷ s.rest;
+            fewer = omega arith;
+            others = λ z d k. ⊎_elim Memᴰ.head (λ n. Memᴰ.tail (s.others z d n)) (Memᴰ.cases_cons k);
+          }
 
   -- a list in which nothing stands twice is no longer than one that has all its members
   pub once_fits : (l m : List A) → Once l → ((x : A) → Memᴰ x l → Memᴰ x m) → length l ≤ length m

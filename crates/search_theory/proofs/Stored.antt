@@ -67,11 +67,14 @@ module _ {A : Type 0} (same : A → A → Bool) (decides : Decides same) (room :
       → length s.bytes ≡ length s.found → (meet_all same room b s l).overflow ≡ false
       → Stored d b y (meet_all same room b s l)
   unfolding meet_all
-  meets_stored d b s l y (Memᴰ.head {x = x} {xs = m} e) p o =
-      let g = meets_grown same room b (meet same room b s x) m in
-      rw e (Stored-grown d b x g (meet_paired same room b s x p) (meet_stored d b s x p (g.overflow o)))
-  meets_stored d b s l y (Memᴰ.tail {x = x} {xs = m} n) p o =
-      meets_stored d b (meet same room b s x) m y n (meet_paired same room b s x p) o
+  meets_stored d b s l y n p o = go s l n p o
+    where
+      go : (s : State A) (l : List A) → Memᴰ y l → length s.bytes ≡ length s.found
+          → (meet_all same room b s l).overflow ≡ false → Stored d b y (meet_all same room b s l)
+      go s l (Memᴰ.head {x = x} {xs = m} e) p o =
+          let g = meets_grown same room b (meet same room b s x) m in
+          rw e (Stored-grown d b x g (meet_paired same room b s x p) (meet_stored d b s x p (g.overflow o)))
+      go s l (Memᴰ.tail {x = x} {xs = m} n) p o = go (meet same room b s x) m n (meet_paired same room b s x p) o
 
   module _ (nbrs : A → List A) (a : A) where
     -- the first k were worked: all their neighbours are stored

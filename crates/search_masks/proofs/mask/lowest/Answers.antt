@@ -5,14 +5,10 @@ use native.Mathlib.Omega.{arith}
 use lib.Count.{trailing_le}
 use Rattle.listing.specs.Listing.{limits}
 use Rattle.search_masks.proofs.Low.{low_inside}
-use Rattle.search_masks.proofs.mask.lowest.Statement.{statement}
-use Rattle.search_masks.proofs.mask.lowest.Tie as tie
+use Rattle.search_masks.proofs.mask.lowest.Goals as goal
 
-cast-result : tie.Need-overflow-cast-result
-cast-result c = omega (arith, trailing_le limits.ranks c.args.left)
+pub overflow_cast-result : goal.overflow_cast-result
+overflow_cast-result c = omega (arith, trailing_le limits.ranks c.args.left)
 
-returns : tie.Need-returns
+pub returns : goal.returns
 returns c = (refl, low_inside limits.ranks c.args.left (omega arith) (omega arith))
-
-pub lowest-spec : {M : Type 1} → statement M
-lowest-spec = tie.close (tie.spec cast-result returns)
