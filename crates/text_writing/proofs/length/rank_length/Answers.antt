@@ -1,13 +1,12 @@
 use native.Mathlib.Omega.{arith}
 use mathlib.Core.Path.{◌≡◌, refl, sym, ap, ◌∙◌}
-use Prim.Native.Nat.{◌-◌}
 use lib.ListN.{length}
 use Rattle.listing.specs.Listing.{Listing, listing, count}
 use Rattle.listing.specs.Written.{joined}
 use Rattle.listing.proofs.ShapeExact.{shaped_ends}
 use Rattle.listing.proofs.Written.{joined_longer}
 use Rattle.listing.proofs.Places.{side_fits, few_in_rank}
-use Rattle.text_writing.proofs.Ranks.{count_bytes, subs_bytes, rank_length, count_part, count_bytes_lem, subs_bytes_lem}
+use Rattle.text_writing.proofs.Ranks.{subs_bytes, rank_length, count_part, count_bytes_lem, subs_bytes_lem}
 use Rattle.text_writing.proofs.Ranks.{list_narrow}
 use Rattle.text_writing.proofs.length.rank_length.Goals as goal
 

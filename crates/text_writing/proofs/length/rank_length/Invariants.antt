@@ -3,14 +3,15 @@
 use mathlib.Core.Path.{◌≡◌}
 use Prim.Native.Nat.{◌+◌, ◌-◌, ◌*◌, ◌≤◌}
 use lib.ListN.{length}
-use Rattle.listing.specs.Listing.{listing, width, count}
+use Rattle.listing.specs.Listing.{listing, width}
 use Rattle.listing.specs.Written.{joined}
 use Rattle.text_writing.proofs.Ranks.{count_bytes, subs_bytes}
 use Rattle.text_writing.proofs.length.rank_length.Given as goal
 
 abbrev pub invariant-loop-i : goal.invariant-loop-i
 invariant-loop-i l = let L = listing l.counts l.ends l.inc in
-    (i ≤ l.count) × (l.i ≡ length (count_bytes L l.r) + length (joined (subs_bytes L l.r) i)) × (l.i ≤ 8 * width * (i + 1))
+    (l.i ≤ l.count) × (l.n ≡ length (count_bytes L l.r) + length (joined (subs_bytes L l.r) l.i))
+    × (l.n ≤ 8 * width * (l.i + 1))
 
 abbrev pub decreases-loop-i : goal.decreases-loop-i
-decreases-loop-i l = l.count - i
+decreases-loop-i l = l.count - l.i

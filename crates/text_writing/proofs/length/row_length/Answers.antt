@@ -1,6 +1,5 @@
 use native.Mathlib.Omega.{arith}
 use mathlib.Core.Path.{◌≡◌, sym, ap, ◌∙◌}
-use Prim.Native.Nat.{◌-◌}
 use lib.ListN.{length}
 use Rattle.text_theory.specs.Text.{parted}
 use Rattle.text_writing.proofs.Rows.{parted_none, parted_all, parted_longer, commas_length}

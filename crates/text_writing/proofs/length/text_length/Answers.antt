@@ -1,8 +1,8 @@
 use native.Mathlib.Omega.{arith}
 use mathlib.Core.Path.{◌≡◌, sym, ◌∙◌}
-use Prim.Native.Nat.{◌+◌, ◌-◌}
+use Prim.Native.Nat.{◌+◌}
 use lib.ListN.{length}
-use Rattle.listing.specs.Listing.{Listing, listing, before}
+use Rattle.listing.specs.Listing.{Listing, listing}
 use Rattle.listing.specs.Layers.{layers}
 use Rattle.listing.specs.Written.{joined}
 use Rattle.listing.proofs.Listing.{before_zero, before_next}
@@ -12,11 +12,11 @@ use Rattle.text_theory.specs.Text.{rank_bytes}
 use Rattle.text_writing.proofs.Ranks as ranks
 use Rattle.text_writing.proofs.length.text_length.Goals as goal
 
-pub GONE-overflow-sub-t10 : goal.GONE-overflow-sub-t10
-GONE-overflow-sub-t10 c = omega (arith, c.requires.some_rank)
+pub overflow_sub-rank : goal.overflow_sub-rank
+overflow_sub-rank c = omega (arith, c.requires.some_rank)
 
-pub GONE-overflow-cast-t11 : goal.GONE-overflow-cast-t11
-GONE-overflow-cast-t11 c = omega (arith, c.requires.few_ranks)
+pub overflow_cast-rank : goal.overflow_cast-rank
+overflow_cast-rank c = omega (arith, c.requires.few_ranks)
 
 pub line_length-n-requires : goal.line_length-n-requires
 line_length-n-requires c = (omega arith, omega arith)
@@ -28,7 +28,10 @@ loop-r-init c =
     (omega arith, sym (before_zero c.args.counts.now), omega (arith, e.0), omega (arith, e.1))
 
 pub rank_length-n-requires : goal.rank_length-n-requires
-rank_length-n-requires c = (c.requires, (c.loop-r.invariant.1, c.loop-r-test.true))
+rank_length-n-requires c = record {
+  shaped = c.requires;
+  here_value = (c.loop-r.invariant.1, c.loop-r-test.true);
+}
 
 pub overflow_add-n : goal.overflow_add-n
 overflow_add-n c =

@@ -1,7 +1,7 @@
 use native.Mathlib.Omega.{arith}
 use mathlib.Core.Path.{◌≡◌, ap}
 use mathlib.Core.List.{List}
-use Prim.Native.Nat.{ℕ, ◌-◌}
+use Prim.Native.Nat.{ℕ}
 use lib.ListN.{length}
 use Rattle.text_theory.specs.Text.{subs_key, line, line_bytes}
 use Rattle.text_writing.specs.Writing.{line_from, lines_from}
@@ -13,7 +13,10 @@ pub loop-i-init : goal.loop-i-init
 loop-i-init c = (omega arith, parts_none _ _ _)
 
 pub side_of-subs-requires : goal.side_of-subs-requires
-side_of-subs-requires c = (c.requires.ends.0, omega (arith, c.requires.ends.1, c.loop-i-test.true))
+side_of-subs-requires c = record {
+  ends = c.requires.ends.0;
+  s_in_bounds = omega (arith, c.requires.ends.1, c.loop-i-test.true);
+}
 
 pub put_line-p-requires : goal.put_line-p-requires
 unfolding lines_from

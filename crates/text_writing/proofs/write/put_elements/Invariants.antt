@@ -2,12 +2,11 @@
 -- Assumes nothing.
 use Prim.Native.Nat.{◌-◌, ◌≤◌}
 use Rattle.listing.specs.Written.{joined}
-use Rattle.text_theory.specs.Text.{line}
 use Rattle.text_writing.specs.Writing.{line_from, PutAt}
 use Rattle.text_writing.proofs.write.put_elements.Given as goal
 
 abbrev pub invariant-loop-i : goal.invariant-loop-i
-invariant-loop-i l = (i ≤ l.n) × PutAt (joined (line_from l.ends l.inc l.here) i) l.at l.initial.text l.p l.i
+invariant-loop-i l = (l.i ≤ l.n) × PutAt (joined (line_from l.ends l.inc l.here) l.i) l.at l.initial.text l.text l.p
 
 abbrev pub decreases-loop-i : goal.decreases-loop-i
-decreases-loop-i l = l.n - i
+decreases-loop-i l = l.n - l.i

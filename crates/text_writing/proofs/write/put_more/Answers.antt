@@ -1,8 +1,8 @@
 use native.Mathlib.Omega.{arith}
 use mathlib.Core.Path.{sym}
-use Prim.Native.Nat.{◌+◌, ◌-◌, ◌≤◌}
+use Prim.Native.Nat.{◌+◌, ◌≤◌}
 use lib.ListN.{length, get_or, length-set}
-use Rattle.text_theory.specs.Text.{comma, numeral, parted}
+use Rattle.text_theory.specs.Text.{comma, numeral}
 use Rattle.text_writing.proofs.Putting.{put_none, put_as}
 use Rattle.text_writing.proofs.Rows.{parted_none, parted_all, row_room, row_next}
 use Rattle.text_writing.proofs.write.put_more.Goals as goal

@@ -1,8 +1,8 @@
 use native.Mathlib.Omega.{arith}
 use mathlib.Core.Path.{◌≡◌, sym, ap}
-use Prim.Native.Nat.{◌+◌, ◌-◌}
+use Prim.Native.Nat.{◌+◌}
 use lib.ListN.{length}
-use Rattle.listing.specs.Listing.{Listing, listing, before}
+use Rattle.listing.specs.Listing.{Listing, listing}
 use Rattle.listing.specs.Layers.{layers}
 use Rattle.listing.specs.Written.{joined}
 use Rattle.listing.proofs.Listing.{before_zero, before_next}
@@ -19,10 +19,11 @@ pub put_rank-p-requires : goal.put_rank-p-requires
 put_rank-p-requires c =
     let cell : Listing = listing c.args.counts.now c.args.ends.now c.args.inc.now in
     let h = c.loop-r-test.true in
-    let f = rank_bytes (layers cell) in (
-      c.requires.shaped,
-      ((c.loop-r.invariant.1, h), parts_room f _ _ _ _ _ c.loop-r.invariant.2 (length c.args.counts.now) h c.requires.counts_bound),
-    )
+    let f = rank_bytes (layers cell) in record {
+      shaped = c.requires.shaped;
+      here_value = (c.loop-r.invariant.1, h);
+      r_bound = parts_room f _ _ _ _ _ c.loop-r.invariant.2 (length c.args.counts.now) h c.requires.counts_bound;
+    }
 
 pub overflow_add-here : goal.overflow_add-here
 overflow_add-here c =

@@ -9,11 +9,11 @@ use Rattle.text_writing.proofs.Putting.{put_then, put_as}
 use Rattle.text_writing.proofs.Ranks.{text_put, text_length}
 use Rattle.text_writing.proofs.write.put_text.Goals as goal
 
-pub GONE-overflow-sub-t9 : goal.GONE-overflow-sub-t9
-GONE-overflow-sub-t9 c = omega (arith, c.requires.shaped.some_rank)
+pub overflow_sub-rank : goal.overflow_sub-rank
+overflow_sub-rank c = omega (arith, c.requires.shaped.some_rank)
 
-pub GONE-overflow-cast-t10 : goal.GONE-overflow-cast-t10
-GONE-overflow-cast-t10 c = omega (arith, c.requires.shaped.few_ranks)
+pub overflow_cast-rank : goal.overflow_cast-rank
+overflow_cast-rank c = omega (arith, c.requires.shaped.few_ranks)
 
 pub put_line-p-requires : goal.put_line-p-requires
 put_line-p-requires c =
@@ -34,5 +34,5 @@ returns c =
     let p = c.put_line-p.ensures in
     let a = put_then _ _ _ _ _ _ _ _ p c.put_ranks.ensures in
     let w = put_as (sym (text_put cell c.requires.shaped)) a in
-    let new = c.put_ranks.new.1.1.1.0 in
+    let new = c.put_ranks.new.text in
     list_over (text_of (layers cell)) c.args.text.now new c.requires.inc_bound w.laid
