@@ -56,11 +56,11 @@ returns-then-s-text c =
     let o = bytes_over (c.measure_ranks-s.ensures.comes.go z) (c.measure_ranks-s.ensures.rank_value z).0 c.if-s-text.true in
     sizes_refused _ _ _ _ _ (λ q. omega arith) c.refused-then-s-text.ensures o
 
-pub GONE-overflow-add-t11 : goal.GONE-overflow-add-t11
-GONE-overflow-add-t11 c =
+pub overflow_add-need : goal.overflow_add-need
+overflow_add-need c =
     let short : length c.args.text.now ≤ limits.text = c.if-text-gt-TEXT.false in
     let top : c.single_at-c.result.value ≡ (said c.args.text.now).top = let q = c.single_at-c.ensures in
-    top_is limits _ short _ _ q.0 c.if-c-ne0.false _ (q.1 c.if-c-ne0.false) in
+    top_is limits _ short _ _ q.line_read c.if-c-ne0.false _ (q.value_value c.if-c-ne0.false) in
     omega (arith, top, (c.measure_ranks-s.ensures.comes.go c.if-s-ne0.false).ranks)
 
 pub overflow_add-need-2 : goal.overflow_add-need-2
@@ -73,6 +73,6 @@ pub returns : goal.returns
 returns c =
     let short : length c.args.text.now ≤ limits.text = c.if-text-gt-TEXT.false in
     let top : c.single_at-c.result.value ≡ (said c.args.text.now).top = let q = c.single_at-c.ensures in
-    top_is limits _ short _ _ q.0 c.if-c-ne0.false _ (q.1 c.if-c-ne0.false) in
+    top_is limits _ short _ _ q.line_read c.if-c-ne0.false _ (q.value_value c.if-c-ne0.false) in
     let z = c.if-s-ne0.false in
     sizes_read (c.measure_ranks-s.ensures.comes.go z) (c.measure_ranks-s.ensures.rank_value z).0 c.if-s-text.false _ (c.measure_ranks-s.ensures.rank_value z).1 _ top _ refl

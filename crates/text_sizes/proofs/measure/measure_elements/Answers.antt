@@ -1,9 +1,6 @@
 use borrow.Author.Rules.{rules}
 use native.Mathlib.Omega.{arith}
 use mathlib.Core.Path.{refl, ◌∙◌}
-use Prim.Native.Nat.{◌-◌, ◌≤◌}
-use lib.ListN.{length}
-use Rattle.listing.specs.Listing.{limits}
 use Rattle.text_sizes.proofs.Entering.{going_begun, going_all, stopped_so}
 use Rattle.text_sizes.proofs.Lists.{subs_stop, subs_counted, subs_over, subs_next}
 use Rattle.text_sizes.proofs.measure.measure_elements.Goals as goal
@@ -25,37 +22,32 @@ tally_subs-r-requires c =
       by_index = g.low;
     }
 
-pub returns-then-r-ne0 : goal.returns-then-r-ne0
-returns-then-r-ne0 c =
+pub returns-then-r-ne0-clause-comes : goal.returns-then-r-ne0-clause-comes
+returns-then-r-ne0-clause-comes c =
     let b = c.loop-i.invariant in
     let e = c.stopped.ensures in
     let o = subs_stop b.0 b.2 c.loop-i-test.true c.tally_subs-r.ensures c.if-r-ne0.true in
-    stopped_so _ _ _ _ c.if-r-ne0.true e o
+    (stopped_so {X = ⊥} _ _ _ _ c.if-r-ne0.true e o).0
 
 pub overflow_add-incidences : goal.overflow_add-incidences
 overflow_add-incidences c =
-    let small : let r = c.tally_subs-r.result in
-    (r.count ≤ limits.text) × (r.known ≤ limits.text) = let b = c.loop-i.invariant in
+    let b = c.loop-i.invariant in
     let r = subs_counted b.0 b.2 c.loop-i-test.true c.tally_subs-r.ensures c.if-r-ne0.false in
-    (omega (arith, r.small, r.inside, b.0.short), omega (arith, r.small, r.inside, b.0.short)) in
-    omega (arith, small)
+    omega (arith, r.small, r.inside, b.0.short)
 
 pub overflow_add-incidences-in-loop-i : goal.overflow_add-incidences-in-loop-i
 overflow_add-incidences-in-loop-i c =
-    let small : let r = c.tally_subs-r.result in
-    (r.count ≤ limits.text) × (r.known ≤ limits.text) = let b = c.loop-i.invariant in
-    let r = subs_counted b.0 b.2 c.loop-i-test.true c.tally_subs-r.ensures c.if-r-ne0.false in
-    (omega (arith, r.small, r.inside, b.0.short), omega (arith, r.small, r.inside, b.0.short)) in
     let b = c.loop-i.invariant in
-    omega (arith, small, b.2.few)
+    let r = subs_counted b.0 b.2 c.loop-i-test.true c.tally_subs-r.ensures c.if-r-ne0.false in
+    omega (arith, r.small, r.inside, b.0.short, b.2.few)
 
-pub returns-then-incidences-gt-INCIDENCES : goal.returns-then-incidences-gt-INCIDENCES
-returns-then-incidences-gt-INCIDENCES c =
+pub returns-then-incidences-gt-INCIDENCES-clause-comes : goal.returns-then-incidences-gt-INCIDENCES-clause-comes
+returns-then-incidences-gt-INCIDENCES-clause-comes c =
     let b = c.loop-i.invariant in
     let e = c.stopped-then-incidences-gt-INCIDENCES.ensures in
     let w = c.tally_subs-r.ensures in
     let o = subs_over b.0 b.2 c.loop-i-test.true w c.if-r-ne0.false c.if-incidences-gt-INCIDENCES.true in
-    stopped_so _ _ _ _ (λ z. omega arith) e o
+    (stopped_so {X = ⊥} _ _ _ _ (λ z. omega arith) e o).0
 
 pub overflow_cast-many : goal.overflow_cast-many
 overflow_cast-many c = omega (arith, c.if-incidences-gt-INCIDENCES.false)
@@ -73,12 +65,9 @@ bounds-many-first c =
 
 pub overflow_add-to : goal.overflow_add-to
 overflow_add-to c =
-    let small : let r = c.tally_subs-r.result in
-    (r.count ≤ limits.text) × (r.known ≤ limits.text) = let b = c.loop-i.invariant in
-    let r = subs_counted b.0 b.2 c.loop-i-test.true c.tally_subs-r.ensures c.if-r-ne0.false in
-    (omega (arith, r.small, r.inside, b.0.short), omega (arith, r.small, r.inside, b.0.short)) in
     let b = c.loop-i.invariant in
-    omega (arith, small, b.2.light, b.2.few)
+    let r = subs_counted b.0 b.2 c.loop-i-test.true c.tally_subs-r.ensures c.if-r-ne0.false in
+    omega (arith, r.small, r.inside, b.0.short, b.2.light, b.2.few)
 
 pub loop-i-preserved : goal.loop-i-preserved
 loop-i-preserved c =

@@ -13,11 +13,11 @@ single_at-c-requires c =
       key = inr (inl refl);
     }
 
-pub returns-then-c-ne0 : goal.returns-then-c-ne0
-returns-then-c-ne0 c =
+pub returns-then-c-ne0-clause-comes : goal.returns-then-c-ne0-clause-comes
+returns-then-c-ne0-clause-comes c =
     let e = c.stopped.ensures in
     let o = rank_stop c.requires.arrived c.requires.rank_bound.0 c.single_at-c.ensures.line_read c.if-c-ne0.true in
-    stopped_so _ _ _ _ c.if-c-ne0.true e o
+    (stopped_so {X = ⊥} _ _ _ _ c.if-c-ne0.true e o).0
 
 pub overflow_add-s : goal.overflow_add-s
 overflow_add-s c = omega (arith, c.requires.arrived.elements)
@@ -27,11 +27,11 @@ overflow_add-s-2 c =
     let f = rank_fits c.requires.arrived c.requires.rank_bound.0 c.single_at-c.ensures.line_read c.if-c-ne0.false _ (c.single_at-c.ensures.value_value c.if-c-ne0.false) in
     omega (arith, f, c.requires.arrived.elements)
 
-pub returns-then-s-c-gt-ELEMENTS : goal.returns-then-s-c-gt-ELEMENTS
-returns-then-s-c-gt-ELEMENTS c =
+pub returns-then-s-c-gt-ELEMENTS-clause-comes : goal.returns-then-s-c-gt-ELEMENTS-clause-comes
+returns-then-s-c-gt-ELEMENTS-clause-comes c =
     let e = c.stopped-then-s-c-gt-ELEMENTS.ensures in
     let o = rank_over c.requires.arrived c.requires.rank_bound.0 c.single_at-c.ensures.line_read c.if-c-ne0.false _ (c.single_at-c.ensures.value_value c.if-c-ne0.false) c.if-s-c-gt-ELEMENTS.true in
-    stopped_so _ _ _ _ (λ z. omega arith) e o
+    (stopped_so {X = ⊥} _ _ _ _ (λ z. omega arith) e o).0
 
 pub overflow_cast-noted : goal.overflow_cast-noted
 overflow_cast-noted c =

@@ -1,7 +1,6 @@
 use borrow.Author.Rules.{rules}
 use native.Mathlib.Omega.{arith}
 use mathlib.Core.Path.{refl}
-use Prim.Native.Nat.{◌-◌}
 use Rattle.text_sizes.proofs.measure.measure_ranks.Goals as goal
 
 pub loop-s-init : goal.loop-s-init

@@ -1,6 +1,6 @@
 use native.Mathlib.Omega.{arith}
 use mathlib.Core.Path.{refl}
-use Prim.Native.Nat.{◌+◌, ◌-◌, ◌<◌}
+use Prim.Native.Nat.{◌+◌, ◌<◌}
 use lib.ListN.{length}
 use Rattle.text_sizes.proofs.Tallies.{row_begun, row_end, row_bad, row_more, row_good, row_last}
 use Rattle.text_sizes.proofs.Tallies.{row_refused, row_tallied}
