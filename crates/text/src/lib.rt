@@ -3,7 +3,7 @@
 #![tactic(auto)]
 
 ghost use Rattle.std.specs.Prelude.{◌≡◌, ℕ, length};
-ghost use Rattle.listing.specs.Listing.{held, limits};
+ghost use Rattle.listing.specs.Listing.{held, limits, listing};
 ghost use Rattle.listing.specs.Layers.{layers};
 ghost use Rattle.listing_outputs.specs.Output.{Made};
 ghost use Rattle.text_theory.specs.Text.{text_of};
@@ -31,8 +31,8 @@ pub fn read_text(text: &[u8], counts: &mut [Index], ends: &mut [Index], inc: &mu
     ensures { Made
         (read_test limits text.now (length counts.old) (length ends.old)
         (length inc.old))
-        (listing_in text.now) (held counts.entry ends.entry inc.entry)
-        (held counts.exit ends.exit inc.exit) result }
+        (listing_in text.now) (listing counts.old ends.old inc.old)
+        (listing counts.new ends.new inc.new) result }
 {
     let mut up: [Index; limit::ELEMENTS] = [0; limit::ELEMENTS];
     let mut noted: [Index; limit::RANKS] = [0; limit::RANKS];

@@ -1,6 +1,6 @@
 // The listing of layers whose numbers have been noted down flat, written into lent slices: no text is read.
 ghost use Rattle.std.specs.Prelude.{List, ℕ, ◌+◌, ◌*◌, ◌≤◌, ◌<◌, length, get_or};
-ghost use Rattle.listing.specs.Listing.{width, held};
+ghost use Rattle.listing.specs.Listing.{width, listing};
 ghost use Rattle.listing.specs.Layers.{Layers, derived};
 ghost use Rattle.listing.specs.Laid.{Laid};
 ghost use Rattle.listing.specs.Written.{written};
@@ -101,8 +101,8 @@ pub fn build(
     ensures { (M : Layers)
         → Source M noted.now many.now subs.now up.now ranks n
         (length counts.old) (length ends.old) (length inc.old)
-        → StandsOver (written M (derived M)) (held counts.entry ends.entry inc.entry)
-        (held counts.exit ends.exit inc.exit) }
+        → StandsOver (written M (derived M)) (listing counts.old ends.old inc.old)
+        (listing counts.new ends.new inc.new) }
 {
     copy(noted, 0, ranks, &mut *counts, 0);
     put_elements(many, subs, up, n, &mut *ends, &mut *inc);

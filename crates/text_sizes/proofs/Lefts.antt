@@ -10,9 +10,9 @@ use lib.ListN.{length, drop}
 use Rattle.listing.specs.declared.Answer.{Answer}
 use Rattle.order.specs.Sums.{sum}
 use Rattle.listing.specs.Refusals.{over_elements, over_incidences}
-use Rattle.listing.specs.Answers.{plain, fine, ◌or_else◌, first_of}
+use Rattle.listing.specs.Answers.{plain, fine, ◌or_else◌}
 use Rattle.listing.specs.Listing.{Limits}
-use Rattle.listing.proofs.Answers.{or_fine, or_stop, no_or, of_next, of_stop, of_end}
+use Rattle.listing.proofs.Answers.{or_fine, or_stop, of_next, of_stop}
 use Rattle.text_theory.specs.Text.{Line, count_key, subs_key, line_of, line_count}
 use Rattle.text_theory.specs.Said.{from_line, after_line, count_line, said, value, values, form_test, Bound, bound_of, bound_test}
 use Rattle.text_theory.specs.Said.{line_test, incidences_to}

@@ -1,10 +1,10 @@
 -- The line of an element as the reading meets it: refused, over the limit, or passed.
 -- Assumes nothing.
-use mathlib.Core.Path.{◌≡◌, refl, sym, ap, ◌∙◌}
+use mathlib.Core.Path.{◌≡◌, sym, ◌∙◌}
 use mathlib.Core.List.{List}
-use Prim.Native.Nat.{ℕ, suc, ◌+◌, ◌≤◌, ◌<◌}
+use Prim.Native.Nat.{ℕ, ◌+◌, ◌≤◌, ◌<◌}
 use native.Mathlib.Omega.{arith}
-use lib.ListN.{length, set, drop}
+use lib.ListN.{set}
 use Rattle.listing.specs.Refusals.{over_incidences}
 use Rattle.listing.specs.Answers.{plain}
 use Rattle.listing.specs.Listing.{Limits}

@@ -13,7 +13,7 @@ use Rattle.order.specs.Lists.{occurs}
 use Rattle.order.proofs.Lists.{occurs_le, occurs_append}
 use Rattle.listing.specs.Refusals.{bad_line}
 use Rattle.listing.specs.Laid.{Laid}
-use Rattle.listing.proofs.Laying.{laid_none, laid_next, laid_list}
+use Rattle.listing.proofs.Laying.{laid_none, laid_next}
 use Rattle.listing_sups.specs.Sups.{Raised}
 use Rattle.listing_sups.proofs.Raising.{raised_none, raised_then, raised_most}
 use Rattle.text_theory.specs.Said.{after_line, values_from, below_in}

@@ -4,7 +4,7 @@ use mathlib.Core.Path.{◌≡◌, refl, sym, ap, ◌∙◌}
 use mathlib.Core.Logic.{⊎_elim}
 use mathlib.Core.List.{List, [], ◌∷◌}
 use Prim.Native.Nat.{ℕ, suc, ◌+◌, ◌*◌, ◌≤◌, ◌<◌}
-use native.Mathlib.Nat.{eq-or-lt_of_le, le_of_suc-le-suc}
+use native.Mathlib.Nat.{eq-or-lt_of_le}
 use native.Mathlib.Omega.{arith}
 use borrow.Author.Tests.{lt-ltb, le-ltb}
 use lib.ListN.{length, get_or, drop, length-drop}
@@ -14,9 +14,8 @@ use Rattle.order.proofs.Sums.{sum_none}
 use Rattle.listing.specs.Refusals.{long_text, over_ranks, more_bytes}
 use Rattle.listing.specs.Answers.{plain, fine, ◌or_else◌, first_of}
 use Rattle.listing.specs.Listing.{Limits}
-use Rattle.listing.specs.Shape.{Shaped}
 use Rattle.listing.specs.Layers.{Topped, derived}
-use Rattle.listing.proofs.Answers.{or_fine, or_stop, of_end}
+use Rattle.listing.proofs.Answers.{of_end}
 use Rattle.listing.proofs.Layers.{in_range, derived_length}
 use Rattle.listing.proofs.Written.{written_counts_length, written_ends_length, written_inc_length, written_shaped}
 use Rattle.listing_outputs.specs.Output.{need_of}

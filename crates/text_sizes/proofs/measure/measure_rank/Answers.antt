@@ -1,0 +1,57 @@
+-- `measure_rank`. By the line with the count; past it the count is noted and the rank is entered. Assumes nothing.
+use native.Mathlib.Omega.{arith}
+use mathlib.Core.Path.{refl}
+use mathlib.Core.Logic.{inl, inr}
+use Rattle.text_sizes.proofs.Entering.{stopped_so}
+use Rattle.text_sizes.proofs.Ranks.{rank_stop, rank_fits, rank_over, rank_noted, rank_entered}
+use Rattle.text_sizes.proofs.measure.measure_rank.Goals as goal
+
+pub single_at-c-requires : goal.single_at-c-requires
+single_at-c-requires c =
+    record {
+      at_in_bounds = c.requires.arrived.inside;
+      key = inr (inl refl);
+    }
+
+pub returns-then-c-ne0-clause-comes : goal.returns-then-c-ne0-clause-comes
+returns-then-c-ne0-clause-comes c =
+    let e = c.stopped.ensures in
+    let o = rank_stop c.requires.arrived c.requires.rank_bound.0 c.single_at-c.ensures.line_read c.if-c-ne0.true in
+    (stopped_so {X = ⊥} _ _ _ _ c.if-c-ne0.true e o).0
+
+pub overflow_add-s : goal.overflow_add-s
+overflow_add-s c = omega (arith, c.requires.arrived.elements)
+
+pub overflow_add-s-2 : goal.overflow_add-s-2
+overflow_add-s-2 c =
+    let f = rank_fits c.requires.arrived c.requires.rank_bound.0 c.single_at-c.ensures.line_read c.if-c-ne0.false _ (c.single_at-c.ensures.value_value c.if-c-ne0.false) in
+    omega (arith, f, c.requires.arrived.elements)
+
+pub returns-then-s-c-gt-ELEMENTS-clause-comes : goal.returns-then-s-c-gt-ELEMENTS-clause-comes
+returns-then-s-c-gt-ELEMENTS-clause-comes c =
+    let e = c.stopped-then-s-c-gt-ELEMENTS.ensures in
+    let o = rank_over c.requires.arrived c.requires.rank_bound.0 c.single_at-c.ensures.line_read c.if-c-ne0.false _ (c.single_at-c.ensures.value_value c.if-c-ne0.false) c.if-s-c-gt-ELEMENTS.true in
+    (stopped_so {X = ⊥} _ _ _ _ (λ z. omega arith) e o).0
+
+pub overflow_cast-noted : goal.overflow_cast-noted
+overflow_cast-noted c =
+    let f = rank_fits c.requires.arrived c.requires.rank_bound.0 c.single_at-c.ensures.line_read c.if-c-ne0.false _ (c.single_at-c.ensures.value_value c.if-c-ne0.false) in
+    omega (arith, f)
+
+pub offset_bounds-noted-rank : goal.offset_bounds-noted-rank
+offset_bounds-noted-rank c = omega (arith, c.requires.rank_bound.0, c.requires.arrived.ranks)
+
+pub bounds-noted-rank : goal.bounds-noted-rank
+bounds-noted-rank c =
+    omega (arith, c.requires.rank_bound.0, c.requires.arrived.ranks, c.requires.rank_bound.1.long)
+
+pub measure_elements-requires : goal.measure_elements-requires
+measure_elements-requires c =
+    rank_entered c.requires.arrived c.requires.rank_bound.0 c.single_at-c.ensures.line_read c.if-c-ne0.false _ (c.single_at-c.ensures.value_value c.if-c-ne0.false) c.if-s-c-gt-ELEMENTS.false _ refl
+
+pub returns : goal.returns
+returns c =
+    let k = rank_noted c.requires.arrived c.requires.rank_bound.0 c.single_at-c.ensures.line_read c.if-c-ne0.false _ (c.single_at-c.ensures.value_value c.if-c-ne0.false) c.requires.rank_bound.1 in record {
+      comes = c.measure_elements.ensures.comes;
+      rank_value = λ z. (c.measure_elements.ensures.rank_value z, rw (c.measure_elements.ensures.rank_value z) k);
+    }
