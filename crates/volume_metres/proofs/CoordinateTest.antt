@@ -2,7 +2,7 @@
 -- the float itself.
 -- Assumes nothing.
 use Rattle.std.proofs.Common.{◌≡◌, ℕ, zero, suc, ◌+◌, ◌-◌, ◌*◌, ◌/◌, ◌%◌, ◌^◌, ◌<◌, ◌≤◌, min, Bool, true, false, ◌&&◌, ◌||◌, T, eqb, ltb, leb, ℤ, pos, neg_ℤ, sym, refl, ap, ◌∙◌, lt_of_le_of_lt, mul-lt-mul_of_pos_right, div-add-mod', zero-mul, mul-one, mul_right_comm, arith, ltb-false, ltb-true, lt-ltb, eq-eqb, ne_eqb, eqb-true, le-leb, leb-true}
-use mathlib.Core.Bool.{false≢true, and_true, beq}
+use mathlib.Core.Bool.{false≢true, and-true, beq}
 use native.Mathlib.Nat.{div-le_of_le-mul, eq_of_mul-eq-mul_right}
 use borrow.Author.Tests.{eqb-false}
 use borrow.Author.Tests.{lt-leb}
@@ -152,9 +152,11 @@ cut_equal : (y : Float) (s : Bool) (m : ℕ) (e : ℤ)
     → HasValue y (s && ltb 0 (m * up e / down e)) (m * up e / down e) 1
     → eq y (fin s m e) ≡ eqb (m * up e % down e) 0
 unfolding eq
+cut_equal nan s m e v = elim v [ ]
+cut_equal (inf r) s m e v = elim v [ ]
 cut_equal (fin t k d) s m e (p, q) =
     let f : k * up d ≡ m * up e / down e * down d = sym (mul-one (k * up d)) ∙ q in
-    rw (p, f, cut_sign s (m * up e / down e) (down e) (down d), and_true _)
+    rw (p, f, cut_sign s (m * up e / down e) (down e) (down d), and-true _)
     (cut_same (m * up e) (down e) (down d) (down_pos d))
 
 pub cut_exact : (x : Float) → le (lower 125 3) x ≡ true → le x (upper 125 3) ≡ true

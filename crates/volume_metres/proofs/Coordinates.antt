@@ -24,6 +24,8 @@ coordinate_metres (fin s m e) h =
 -- a whole number that is near passes
 near_passes : (x : Float) (z : ℤ) → IsWhole x z → nat_abs z ≤ farthest → coordinate x ≡ true
 unfolding coordinate
+near_passes nan z w h = elim w [ ]
+near_passes (inf s) z w h = elim w [ ]
 near_passes (fin s m e) z (n, p, u) h =
     let l : n ≤ farthest = omega (arith, abs_signed s n, ap nat_abs u) in
     rw (p, le-leb (n * down e) (farthest * down e) (mul-le-mul_right (down e) l), mul-mod_left n (down e))

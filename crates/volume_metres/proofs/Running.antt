@@ -3,7 +3,7 @@
 -- Assumes nothing.
 use Rattle.std.proofs.Common.{◌≡◌, ℕ, zero, suc, ◌+◌, ◌*◌, ◌^◌, ◌<◌, ◌≤◌, Bool, true, false, cond, not, ltb, ◌≢◌, List, [], ◌∷◌, ℤ, pos, negsuc, ◌+ℤ◌, neg_ℤ, nat_abs, sym, refl, ap, ◌∙◌, le_of_lt, mul-one, arith}
 use mathlib.Core.Bool.{false≢true}
-use lib.Ieee.{Float, inf, fin, Format, prec, emax, low, up, odd, units, round, binary64, of_bits, of_int, neg, add}
+use lib.Ieee.{Float, nan, inf, fin, Format, prec, emax, low, up, odd, units, round, binary64, of_bits, of_int, neg, add}
 use lib.Ieee.Exact.{HasValue}
 use lib.Ieee.Back.{round_whole}
 use Rattle.volume_metres.specs.Whole.{signed, IsWhole}
@@ -61,6 +61,10 @@ as_int true (suc n) h = refl
 
 plus_next : (x y : Float) (s : Bool) (i : ℕ) (b : ℤ) → HasValue x s i 1 → (s ≡ true → 0 < i) → IsWhole y b
     → add binary64 x y ≡ of_int binary64 (signed s i +ℤ b)
+plus_next nan y s i b v h w = elim v [ ]
+plus_next (inf r) y s i b v h w = elim v [ ]
+plus_next (fin r m e) nan s i b v h w = elim w [ ]
+plus_next (fin r m e) (inf t) s i b v h w = elim w [ ]
 plus_next (fin r m e) (fin t k d) s i b (f, p) h (j, q, v) =
     ap (λ r. add binary64 (fin r m e) (fin t k d)) f
     ∙ add_amount s m e t k d i j (sym (mul-one (m * up e)) ∙ p) q

@@ -4,7 +4,7 @@
 use Rattle.std.proofs.Common.{◌≡◌, ℕ, ◌+◌, ◌-◌, ◌*◌, ◌<◌, ◌≤◌, Bool, true, false, cond, ◌&&◌, ltb, ℤ, ◌+ℤ◌, ◌-ℤ◌, ◌*ℤ◌, neg_ℤ, nat_abs, sym, refl, ap, ◌∙◌, ap₂, mul_assoc, mul_comm, add-mul, lt_of_mul-lt-mul_right, mul-pos, mul-one, le_of_mul-le-mul_right, arith, ltb-false, ltb-true, le-ltb, lt-ltb}
 use mathlib.Core.Bool.{beq}
 use native.Mathlib.Nat.{mul-sub, mul-mul-mul_comm}
-use lib.Ieee.{Float, fin, binary64, up, down, unlike, round, sum, add, sub, mul, neg}
+use lib.Ieee.{Float, nan, inf, fin, binary64, up, down, unlike, round, sum, add, sub, mul, neg}
 use lib.Ieee.Fits.{down_pos}
 use lib.Ieee.Exact.{HasValue}
 use lib.Ieee.Back.{round_whole}
@@ -24,6 +24,8 @@ pub round_keeps : (s : Bool) (n : ℕ) → n ≤ most_exact → IsWhole (round b
 round_keeps s n h = go (round binary64 s n 1) (round_whole binary64 s n h)
   where
     go : (x : Float) → HasValue x s n 1 → IsWhole x (signed s n)
+    go nan v = elim v [ ]
+    go (inf t) v = elim v [ ]
     go (fin t m e) v = (n, sym (mul-one (m * up e)) ∙ v.1, ap (λ b. signed b n) v.0)
 
 exact_at : (s : Bool) (n : ℕ) (z : ℤ) → signed s n ≡ z → nat_abs z ≤ most_exact → IsWhole (round binary64 s n 1) z
@@ -35,6 +37,10 @@ exact_at s n z e h =
 pub whole_mul : (x y : Float) (a b : ℤ) → IsWhole x a → IsWhole y b → nat_abs (a *ℤ b) ≤ most_exact
     → IsWhole (mul binary64 x y) (a *ℤ b)
 unfolding mul
+whole_mul nan y a b v w h = elim v [ ]
+whole_mul (inf s) y a b v w h = elim v [ ]
+whole_mul (fin s m e) nan a b v w h = elim w [ ]
+whole_mul (fin s m e) (inf t) a b v w h = elim w [ ]
 whole_mul (fin s m e) (fin t k d) a b (i, p, u) (j, q, v) h =
     let c = down e * down d in
     let r = ap₂ ◌*◌ p q ∙ mul-mul-mul_comm i (down e) j (down d) in
@@ -83,6 +89,10 @@ add_amount s m e t k d i j p q =
 
 pub whole_add : (x y : Float) (a b : ℤ) → IsWhole x a → IsWhole y b → nat_abs (a +ℤ b) ≤ most_exact
     → IsWhole (add binary64 x y) (a +ℤ b)
+whole_add nan y a b v w h = elim v [ ]
+whole_add (inf s) y a b v w h = elim v [ ]
+whole_add (fin s m e) nan a b v w h = elim w [ ]
+whole_add (fin s m e) (inf t) a b v w h = elim w [ ]
 whole_add (fin s m e) (fin t k d) a b (i, p, u) (j, q, v) h =
     rw (add_amount s m e t k d i j p q)
     (exact_at (sign_of s i t j) (amount_of s i t j) (a +ℤ b) (signed_add s i t j ∙ ap₂ ◌+ℤ◌ u v) h)
@@ -91,6 +101,8 @@ whole_add (fin s m e) (fin t k d) a b (i, p, u) (j, q, v) h =
 
 whole_neg : (x : Float) (a : ℤ) → IsWhole x a → IsWhole (neg x) (neg_ℤ a)
 unfolding neg
+whole_neg nan a v = elim v [ ]
+whole_neg (inf s) a v = elim v [ ]
 whole_neg (fin s m e) a (n, p, u) = (n, p, signed_not s n ∙ ap neg_ℤ u)
 
 pub whole_sub : (x y : Float) (a b : ℤ) → IsWhole x a → IsWhole y b → nat_abs (a -ℤ b) ≤ most_exact

@@ -2,12 +2,8 @@
 -- Assumes nothing.
 use Rattle.std.proofs.Common.{refl}
 use Rattle.volume_metres.specs.Formulas.{in_floats, det_formula, det_in}
-use Rattle.volume_metres.proofs.point.det.Statement.{statement}
-use Rattle.volume_metres.proofs.point.det.Tie as tie
+use Rattle.volume_metres.proofs.point.det.Goals as goal
 
-returns : tie.Need-returns
+pub returns : goal.returns
 unfolding det_in in_floats det_formula
 returns c = refl
-
-pub det-spec : {M : Type 1} → statement M
-det-spec = tie.close (tie.spec returns)
