@@ -13,7 +13,7 @@ use lib.Dec.{leb}
 use lib.ListN.{length, get_or, set, replicate, length-append, length-replicate, length-take}
 use lib.ListN.{get_or-replicate, get_or-append}
 use lib.Seq.{sets, set_out, length-sets, get_or-append-add}
-use Rattle.io.specs.Counts.{IsPrefixLen}
+use Rattle.lent_input.specs.Counts.{IsPrefixLen}
 use Rattle.replay_reading.specs.Text.{Stored}
 
 pub sets_out : (l : List ℕ) (i : ℕ) (vs : List ℕ) → length l ≤ i → sets l i vs ≡ l

@@ -1,7 +1,7 @@
 // Letters, numbers and lists out of a line of text. A list is numbers in brackets, where 5*3 stands for 5 5 5. Numbers
 // outside of lists come after a space, after all lists and all that stands in quotes.
 ghost use Rattle.std.specs.Prelude.{◌≡◌, ◌+◌, ◌-◌, ◌≤◌, min, length, get_or, drop, replicate};
-ghost use Rattle.io.specs.Counts.{IsPrefixLen};
+ghost use Rattle.lent_input.specs.Counts.{IsPrefixLen};
 ghost use Rattle.listing.specs.Listing.{width};
 ghost use Rattle.replay_reading.specs.Text.{until, opened, bracketed, closes, after_closing, spaced};
 ghost use Rattle.replay_reading.specs.Text.{largest, with_digit, goes_on, with_byte, numbers_in, Stored};

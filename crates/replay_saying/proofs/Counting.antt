@@ -6,7 +6,7 @@
 -- Assumes nothing.
 use Rattle.std.proofs.Common.{◌≡◌, ℕ, ◌*◌, ◌<◌, ◌≤◌, List, length, replicate, sym, mul-le-mul, arith, length-take}
 use lib.ListN.{length-replicate}
-use Rattle.io.specs.Counts.{IsPrefixLen}
+use Rattle.lent_input.specs.Counts.{IsPrefixLen}
 use Rattle.listing.specs.Listing.{width, limits}
 
 pub counted : (n : ℕ) (xs : List ℕ) → n ≤ length xs → IsPrefixLen n xs

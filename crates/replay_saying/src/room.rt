@@ -1,7 +1,7 @@
 // Arrays to read into and to lend, full of the largest number, each a little larger than its limit, and how much of
 // them is lent. Each contract fixes what is returned, and then gives the length, which lending an array needs.
 ghost use Rattle.std.specs.Prelude.{◌≡◌, ◌+◌, ◌-◌, ◌*◌, min, length, replicate};
-ghost use Rattle.io.specs.Counts.{IsPrefixLen};
+ghost use Rattle.lent_input.specs.Counts.{IsPrefixLen};
 ghost use Rattle.listing.specs.Listing.{width, limits};
 ghost use Rattle.replay_saying.specs.Room.{spare};
 

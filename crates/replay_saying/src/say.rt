@@ -1,7 +1,7 @@
 // Answers as text. A list of more than 300 numbers is given by its length, its sum and its check number.
 ghost use Rattle.std.specs.Prelude.{◌≡◌, ◌*◌, ◌<◌, length};
 ghost use Rattle.listing.specs.Listing.{width, limits};
-ghost use Rattle.io.specs.Counts.{IsPrefixLen};
+ghost use Rattle.lent_input.specs.Counts.{IsPrefixLen};
 
 use crate::room::WRITTEN;
 use libc::STDOUT_FILENO;

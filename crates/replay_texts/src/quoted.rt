@@ -1,7 +1,7 @@
 // The text in the quotes of a line: pieces one after another, each perhaps with a star after it and how often it stands
 // there, where \n in a piece is a newline. Nothing else is escaped: "x"*3"\n" is xxx and a newline.
 ghost use Rattle.std.specs.Prelude.{◌≡◌, [], ◌∷◌, ◌≤◌, length};
-ghost use Rattle.io.specs.Counts.{IsPrefixLen};
+ghost use Rattle.lent_input.specs.Counts.{IsPrefixLen};
 ghost use Rattle.replay_reading.specs.Text.{Stored};
 ghost use Rattle.replay_texts.specs.Quoted.{unescaped, times_said, copies, quoted_in};
 

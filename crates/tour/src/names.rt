@@ -4,8 +4,6 @@ use crate::table::Name;
 // Boxes.
 pub const BOX: Name = *b"box                           ";
 
-pub const BOX_DUAL: Name = *b"dual of the box               ";
-
 pub const INSURERS_CELL: Name = *b"insurer's cell, edge 0 doubled";
 
 pub const NO_LID: Name = *b"box without a lid             ";

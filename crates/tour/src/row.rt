@@ -3,6 +3,7 @@ use crate::table;
 use crate::table::Name;
 use listing::{Index, limit};
 use search::Searched;
+use std::io;
 
 // So many flags there is room for: more than any cell of the tour has.
 const FLAGS: usize = 256;
@@ -15,8 +16,14 @@ fn one_body(counts: &[Index], ends: &[Index], inc: &[Index]) -> Searched {
 }
 
 // A cell, by its name.
-pub fn show(name: Name, counts: &[Index], ends: &[Index], inc: &[Index]) {
+pub fn show(
+    rt: &impl Print,
+    name: Name,
+    counts: &[Index],
+    ends: &[Index],
+    inc: &[Index],
+) -> io::Result<()> {
     let valid = valid::is_valid(counts, ends, inc);
     let s = one_body(counts, ends, inc);
-    table::row(name, counts, valid.no, s.count, s.orientable, s.answer);
+    table::row(rt, name, counts, valid.no, s.count, s.orientable, s.answer)
 }

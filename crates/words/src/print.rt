@@ -1,22 +1,22 @@
 // Printing.
-use libc::STDOUT_FILENO;
+use std::io;
 
 // A text.
-pub fn text(t: &[u8]) {
-    io::write_all(STDOUT_FILENO, t);
+pub fn text(rt: &impl Print, t: &[u8]) -> io::Result<()> {
+    rt.write_all(t)
 }
 
 // A number.
-pub fn number(n: u16) {
-    io::print_decimal(STDOUT_FILENO, n as u64);
+pub fn number(rt: &impl Print, n: u16) -> io::Result<()> {
+    rt.print(n)
 }
 
 // A blank.
-pub fn blank() {
-    text(b" ");
+pub fn blank(rt: &impl Print) -> io::Result<()> {
+    text(rt, b" ")
 }
 
 // The end of a line.
-pub fn end() {
-    text(b"\n");
+pub fn end(rt: &impl Print) -> io::Result<()> {
+    text(rt, b"\n")
 }
