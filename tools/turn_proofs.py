@@ -232,7 +232,7 @@ class Function:
         text = re.sub(r"not[-_](?:false|true) (?:_|c\.[\w.+-]+) (c\.[\w.+-]+)", r"\1", text)
         text = re.sub(r"(?<=[\w])\.type-inv(?![\w-])", ".type_inv", text)
         text = re.sub(r"(?<=[\w])\.inv(?![\w-])", ".invariant", text)
-        text = re.sub(r"(?<=[\w])\.taken(?![\w-])", ".true", text)
+        text = re.sub(r"(c\.(?:if[\w-]*|[\w-]*-test))\.taken(?![\w-])", r"\1.true", text)
         text = re.sub(r"(c\.(?:if[\w-]*|[\w-]*-test))\.left(?![\w-])", r"\1.false", text)
         text = re.sub(r"(c\.(?:if[\w-]*|[\w-]*-test))\.right(?![\w-])", r"\1.true", text)
         return text
@@ -484,7 +484,8 @@ def turn_file(path, rel, crate, text, fn, said):
         term = inline_parts(term, fn)
         heads, unfold, term = head_of(term)
         term = fn.turn(term)
-        heads = heads
+        if "enum_told" in term or "enum-told" in term:
+            heads, term = "", "search rules"
         # parts of several clauses
         names = []
         if new in fn.asked:
