@@ -1,3 +1,2 @@
 pub mod EventRow
 pub mod EventsInOrder
-pub mod LentCursor

@@ -6,12 +6,12 @@ use Rattle.search_events.proofs.numbers.Goals as goal
 
 pub returns-in-Flag : goal.returns-in-Flag
 unfolding said_of
-returns-in-Flag c = sym (ap said_of c.e-1.given.1)
+returns-in-Flag c = sym (ap said_of c.in-Flag.is)
 
 pub returns-in-NonOrientable : goal.returns-in-NonOrientable
 unfolding said_of
-returns-in-NonOrientable c = sym (ap said_of c.enum_told-1.given.1)
+returns-in-NonOrientable c = sym (ap said_of c.in-NonOrientable.is)
 
 pub returns-in-Nothing : goal.returns-in-Nothing
 unfolding said_of
-returns-in-Nothing c = sym (ap said_of c.enum_told-in-Nothing-1.given.1)
+returns-in-Nothing c = sym (ap said_of c.in-Nothing.is)
