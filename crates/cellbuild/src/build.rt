@@ -2,35 +2,42 @@
 // slow to check.
 use crate::kind::Kind;
 use crate::say;
-use libc::STDOUT_FILENO;
 use listing::{Built, Index, inner, limit, refusal};
 use product::make;
+use std::io;
 
 // More bytes than the text of any closed listing has, so that it is the limit that refuses one.
 const ROOM: usize = 2 * limit::TEXT;
 
 // The text of a cell, or why it has none.
-fn written(counts: &[Index], ends: &[Index], inc: &[Index]) {
+fn written(rt: &impl Print, counts: &[Index], ends: &[Index], inc: &[Index]) -> io::Result<()> {
     let mut text: [u8; ROOM] = [0; ROOM];
     let w = text::write_text(counts, ends, inc, &mut text);
     if w.answer.no != 0 {
-        say::of_cell(w.answer, counts);
-        return;
+        return say::of_cell(rt, w.answer, counts);
     }
-    io::write_all(STDOUT_FILENO, &text[..w.length]);
+    rt.write_all(&text[..w.length])
 }
 
 // The text of what a product left in its slices.
-fn built(b: Built, counts: &[Index], ends: &[Index], inc: &[Index]) {
+fn built(
+    rt: &impl Print,
+    b: Built,
+    counts: &[Index],
+    ends: &[Index],
+    inc: &[Index],
+) -> io::Result<()> {
     written(
+        rt,
         inner::front(counts, b.counts as usize),
         inner::front(ends, b.ends as usize),
         inner::front(inc, b.inc as usize),
-    );
+    )
 }
 
 // Why a product is refused: where it is for a factor, with what is_valid says of it.
 fn refused(
+    rt: &impl Print,
     b: Built,
     pcounts: &[Index],
     pends: &[Index],
@@ -38,29 +45,32 @@ fn refused(
     qcounts: &[Index],
     qends: &[Index],
     qinc: &[Index],
-) {
+) -> io::Result<()> {
     let no = b.answer.no;
     if no == refusal::LEFT_INVALID {
         say::of_factor(
+            rt,
             no,
             b" the first cell is not valid: ",
             valid::is_valid(pcounts, pends, pinc),
             pcounts,
-        );
+        )
     } else if no == refusal::RIGHT_INVALID {
         say::of_factor(
+            rt,
             no,
             b" the second cell is not valid: ",
             valid::is_valid(qcounts, qends, qinc),
             qcounts,
-        );
+        )
     } else {
-        say::of_cell(b.answer, pcounts);
+        say::of_cell(rt, b.answer, pcounts)
     }
 }
 
 // The product of two cells.
 fn product(
+    rt: &impl Print,
     k: Kind,
     pcounts: &[Index],
     pends: &[Index],
@@ -68,7 +78,7 @@ fn product(
     qcounts: &[Index],
     qends: &[Index],
     qinc: &[Index],
-) {
+) -> io::Result<()> {
     let mut counts: [Index; limit::RANKS] = [0; limit::RANKS];
     let mut ends: [Index; limit::ENDS] = [0; limit::ENDS];
     let mut inc: [Index; limit::INCIDENCES] = [0; limit::INCIDENCES];
@@ -86,14 +96,15 @@ fn product(
         &mut inc,
     );
     if b.answer.no != 0 {
-        refused(b, pcounts, pends, pinc, qcounts, qends, qinc);
+        refused(rt, b, pcounts, pends, pinc, qcounts, qends, qinc)
     } else {
-        built(b, &counts, &ends, &inc);
+        built(rt, b, &counts, &ends, &inc)
     }
 }
 
 // The product of a cell, and of what was read of the second text.
 fn with_second(
+    rt: &impl Print,
     k: Kind,
     pcounts: &[Index],
     pends: &[Index],
@@ -102,8 +113,9 @@ fn with_second(
     counts: &[Index],
     ends: &[Index],
     inc: &[Index],
-) {
+) -> io::Result<()> {
     product(
+        rt,
         k,
         pcounts,
         pends,
@@ -111,42 +123,58 @@ fn with_second(
         inner::front(counts, b.counts as usize),
         inner::front(ends, b.ends as usize),
         inner::front(inc, b.inc as usize),
-    );
+    )
 }
 
 // The product of a cell, and of the one in the second text.
-fn second(k: Kind, pcounts: &[Index], pends: &[Index], pinc: &[Index], said: &[u8]) {
+fn second(
+    rt: &impl Print,
+    k: Kind,
+    pcounts: &[Index],
+    pends: &[Index],
+    pinc: &[Index],
+    said: &[u8],
+) -> io::Result<()> {
     let mut counts: [Index; limit::RANKS] = [0; limit::RANKS];
     let mut ends: [Index; limit::ENDS] = [0; limit::ENDS];
     let mut inc: [Index; limit::INCIDENCES] = [0; limit::INCIDENCES];
     let b = text::read_text(said, &mut counts, &mut ends, &mut inc);
     if b.answer.no != 0 {
-        say::of_text(b" the second text: ", b.answer);
+        say::of_text(rt, b" the second text: ", b.answer)
     } else {
-        with_second(k, pcounts, pends, pinc, b, &counts, &ends, &inc);
+        with_second(rt, k, pcounts, pends, pinc, b, &counts, &ends, &inc)
     }
 }
 
 // The product of what was read of the first text, and of the cell in the second.
-fn with_first(k: Kind, b: Built, counts: &[Index], ends: &[Index], inc: &[Index], other: &[u8]) {
+fn with_first(
+    rt: &impl Print,
+    k: Kind,
+    b: Built,
+    counts: &[Index],
+    ends: &[Index],
+    inc: &[Index],
+    other: &[u8],
+) -> io::Result<()> {
     second(
+        rt,
         k,
         inner::front(counts, b.counts as usize),
         inner::front(ends, b.ends as usize),
         inner::front(inc, b.inc as usize),
         other,
-    );
+    )
 }
 
 // The product of the cells in two texts.
-pub fn first(k: Kind, said: &[u8], other: &[u8]) {
+pub fn first(rt: &impl Print, k: Kind, said: &[u8], other: &[u8]) -> io::Result<()> {
     let mut counts: [Index; limit::RANKS] = [0; limit::RANKS];
     let mut ends: [Index; limit::ENDS] = [0; limit::ENDS];
     let mut inc: [Index; limit::INCIDENCES] = [0; limit::INCIDENCES];
     let b = text::read_text(said, &mut counts, &mut ends, &mut inc);
     if b.answer.no != 0 {
-        say::of_text(b" the first text: ", b.answer);
+        say::of_text(rt, b" the first text: ", b.answer)
     } else {
-        with_first(k, b, &counts, &ends, &inc, other);
+        with_first(rt, k, b, &counts, &ends, &inc, other)
     }
 }

@@ -7,8 +7,9 @@ mod kind;
 mod say;
 mod two;
 
-use libc::STDIN_FILENO;
 use listing::limit;
+use std::env::Env;
+use std::io;
 
 // So many bytes are read: one more of each text than it may have, so that a longer one is refused.
 const ROOM: usize = 2 * (limit::TEXT + 1);
@@ -17,25 +18,25 @@ const ROOM: usize = 2 * (limit::TEXT + 1);
 const NAME: usize = 16;
 
 // The two texts, told apart, and the product of their cells.
-fn of_two(k: kind::Kind, both: &[u8]) {
+fn of_two(rt: &impl Print, k: kind::Kind, both: &[u8]) -> io::Result<()> {
     let at = two::first_of_two(both);
-    build::first(k, &both[0..at], &both[at..]);
+    build::first(rt, k, &both[0..at], &both[at..])
 }
 
 // What standard input has.
-fn of_input(k: kind::Kind) {
+fn of_input(rt: &(impl Input + Print), k: kind::Kind) -> io::Result<()> {
     let mut room: [u8; ROOM] = [0; ROOM];
-    let n = io::read_full(STDIN_FILENO, &mut room);
-    of_two(k, &room[..n]);
+    let n = lent_input::read_full(&mut rt.reader(), &mut room);
+    of_two(rt, k, &room[..n])
 }
 
-fn main() {
+fn main(rt: HostRuntime) -> io::Result<()> {
     let mut name: [u8; NAME] = [0; NAME];
-    let n = os::arg(1, &mut name);
+    let n = rt.arg(1, &mut name).unwrap_or(0);
     let k = kind::named(&name[..n]);
     if k.known {
-        of_input(k);
+        of_input(&rt, k)
     } else {
-        say::names();
+        say::names(&rt)
     }
 }

@@ -2,17 +2,17 @@
 // answers: 0 where the text says a closed listing.
 #![tactic(auto)]
 
-use libc::{STDIN_FILENO, STDOUT_FILENO};
 use listing::limit;
+use std::io;
 
 // So many bytes are read: one more than a text may have, so that a longer one is refused.
 const ROOM: usize = limit::TEXT + 1;
 
-fn main() {
+fn main(rt: HostRuntime) -> io::Result<()> {
     let mut room: [u8; ROOM] = [0; ROOM];
-    let n = io::read_full(STDIN_FILENO, &mut room);
+    let n = lent_input::read_full(&mut rt.stdin(), &mut room);
     let no = text::check_text(&room[..n]);
-    io::write_all(STDOUT_FILENO, b"closed=");
-    io::print_decimal(STDOUT_FILENO, no as u64);
-    io::write_all(STDOUT_FILENO, b"\n");
+    rt.write_all(b"closed=")?;
+    rt.print(no as u64)?;
+    rt.write_all(b"\n")
 }

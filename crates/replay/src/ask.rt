@@ -5,12 +5,20 @@ use listing::Index;
 use replay_products::pair;
 use replay_reading::text;
 use replay_saying::room;
+use std::io;
 
 // A question on a flag: change, search, events.
-fn on_flag(line: &[u8], counts: &[Index], ends: &[Index], inc: &[Index], flag: &[Index]) {
+fn on_flag(
+    rt: &impl Print,
+    line: &[u8],
+    counts: &[Index],
+    ends: &[Index],
+    inc: &[Index],
+    flag: &[Index],
+) -> io::Result<()> {
     match text::letter(line, 0) {
-        b'c' => flags::change(line, counts, ends, inc, flag),
-        _ => flags::search(line, counts, ends, inc, flag),
+        b'c' => flags::change(rt, line, counts, ends, inc, flag),
+        _ => flags::search(rt, line, counts, ends, inc, flag),
     }
 }
 
@@ -49,121 +57,125 @@ fn is_volume(line: &[u8]) -> bool {
 
 // A question on one cell, and perhaps a flag: a count, one on the flag, six_volume, one_body, write_text, dual, or
 // another test.
-fn on_cell(line: &[u8], counts: &[Index], ends: &[Index], inc: &[Index], flag: &[Index]) {
+fn on_cell(
+    rt: &impl Print,
+    line: &[u8],
+    counts: &[Index],
+    ends: &[Index],
+    inc: &[Index],
+    flag: &[Index],
+) -> io::Result<()> {
     if is_count(line) {
-        cell::count(line, counts);
-        return;
+        return cell::count(rt, line, counts);
     }
     if is_on_flag(line) {
-        on_flag(line, counts, ends, inc, flag);
-        return;
+        return on_flag(rt, line, counts, ends, inc, flag);
     }
     if is_volume(line) {
-        replay_volumes::six_volume(line, counts, ends, inc, flag);
-        return;
+        return replay_volumes::six_volume(rt, line, counts, ends, inc, flag);
     }
     if text::letter(line, 0) == b'o' {
-        bodies::one_body(line, counts, ends, inc);
-        return;
+        return bodies::one_body(rt, line, counts, ends, inc);
     }
     if text::letter(line, 0) == b'w' {
-        replay_texts::write_text(line, counts, ends, inc);
-        return;
+        return replay_texts::write_text(rt, line, counts, ends, inc);
     }
     if text::letter(line, 0) == b'd' {
-        duals::dual(line, counts, ends, inc);
-        return;
+        return duals::dual(rt, line, counts, ends, inc);
     }
-    cell::test(line, counts, ends, inc);
+    cell::test(rt, line, counts, ends, inc)
 }
 
 // A question with a second factor, whose last list is read here. Each list is read into room of its own and lent on:
 // a function with many arrays is slow to check.
 fn last_of_factors(
+    rt: &impl Print,
     line: &[u8],
     pcounts: &[Index],
     pends: &[Index],
     pinc: &[Index],
     qcounts: &[Index],
     qends: &[Index],
-) {
+) -> io::Result<()> {
     let mut qinc = room::many();
     let n = text::list(line, 5, &mut qinc);
-    pair::product(line, pcounts, pends, pinc, qcounts, qends, &qinc[..n]);
+    pair::product(rt, line, pcounts, pends, pinc, qcounts, qends, &qinc[..n])
 }
 
 // The same, one list before.
 fn ends_of_factors(
+    rt: &impl Print,
     line: &[u8],
     pcounts: &[Index],
     pends: &[Index],
     pinc: &[Index],
     qcounts: &[Index],
-) {
+) -> io::Result<()> {
     let mut qends = room::some();
     let n = text::list(line, 4, &mut qends);
-    last_of_factors(line, pcounts, pends, pinc, qcounts, &qends[..n]);
+    last_of_factors(rt, line, pcounts, pends, pinc, qcounts, &qends[..n])
 }
 
 // A cell, and then a flag or the counts of the second factor.
-fn more(line: &[u8], counts: &[Index], ends: &[Index], inc: &[Index]) {
+fn more(
+    rt: &impl Print,
+    line: &[u8],
+    counts: &[Index],
+    ends: &[Index],
+    inc: &[Index],
+) -> io::Result<()> {
     let mut list = room::few();
     let n = text::list(line, 3, &mut list);
     if is_product(line) {
-        ends_of_factors(line, counts, ends, inc, &list[..n]);
+        ends_of_factors(rt, line, counts, ends, inc, &list[..n])
     } else {
-        on_cell(line, counts, ends, inc, &list[..n]);
+        on_cell(rt, line, counts, ends, inc, &list[..n])
     }
 }
 
 // The incidences of a cell, and what comes after them.
-fn incidences(line: &[u8], counts: &[Index], ends: &[Index]) {
+fn incidences(rt: &impl Print, line: &[u8], counts: &[Index], ends: &[Index]) -> io::Result<()> {
     let mut inc = room::many();
     let n = text::list(line, 2, &mut inc);
-    more(line, counts, ends, &inc[..n]);
+    more(rt, line, counts, ends, &inc[..n])
 }
 
 // The ends of a cell, and what comes after them.
-fn ends(line: &[u8], counts: &[Index]) {
+fn ends(rt: &impl Print, line: &[u8], counts: &[Index]) -> io::Result<()> {
     let mut ends = room::some();
     let n = text::list(line, 1, &mut ends);
-    incidences(line, counts, &ends[..n]);
+    incidences(rt, line, counts, &ends[..n])
 }
 
 // A question with lists: a cell, and then a flag or the second factor. Lists that the line lacks are empty. The list of
 // coordinates, which six_volume has besides, is read in replay_volumes.
-fn lists(line: &[u8]) {
+fn lists(rt: &impl Print, line: &[u8]) -> io::Result<()> {
     let mut counts = room::few();
     let n = text::list(line, 0, &mut counts);
-    ends(line, &counts[..n]);
+    ends(rt, line, &counts[..n])
 }
 
 // Any question: read_text, check_text, class, sign, next_event, or one with lists. Of these write_text has a letter of
 // check_text, and six_volume the third letter of next_event: they are asked for before.
-pub fn ask(line: &[u8]) {
+pub fn ask(rt: &impl Print, line: &[u8]) -> io::Result<()> {
     if text::letter(line, 0) == b'w' {
-        lists(line);
-        return;
+        return lists(rt, line);
     }
     if text::letter(line, 5) == b't' {
-        replay_texts::read_text(line);
-        return;
+        return replay_texts::read_text(rt, line);
     }
     if text::letter(line, 6) == b't' {
-        replay_texts::check_text(line);
-        return;
+        return replay_texts::check_text(rt, line);
     }
     if text::letter(line, 4) == b's' {
-        cell::class(line);
-        return;
+        return cell::class(rt, line);
     }
     if is_volume(line) {
-        lists(line);
-        return;
+        return lists(rt, line);
     }
     match text::letter(line, 2) {
-        b'g' => flags::sign(line),
-        b'x' => flags::next_event(line),
-        _ => lists(line),
+        b'g' => flags::sign(rt, line),
+        b'x' => flags::next_event(rt, line),
+        _ => lists(rt, line),
     }
 }

@@ -2,6 +2,7 @@
 use listing::{Answer, Index, Number};
 use replay_reading::text;
 use replay_saying::say;
+use std::io;
 
 // The four counts by the fourth letter: rank, vertex_count, facet_count, el_count.
 fn count_of(letter: u8, counts: &[Index], r: usize) -> Number {
@@ -14,9 +15,9 @@ fn count_of(letter: u8, counts: &[Index], r: usize) -> Number {
 }
 
 // A count.
-pub fn count(line: &[u8], counts: &[Index]) {
+pub fn count(rt: &impl Print, line: &[u8], counts: &[Index]) -> io::Result<()> {
     let r = text::plain(line, 0) as usize;
-    say::count(count_of(text::letter(line, 3), counts, r));
+    say::count(rt, count_of(text::letter(line, 3), counts, r))
 }
 
 // The tests by the fourth letter: bounded, check_incidences, is_dyadic, closed, is_valid.
@@ -31,12 +32,18 @@ fn answer_of(letter: u8, counts: &[Index], ends: &[Index], inc: &[Index]) -> Ans
 }
 
 // A test.
-pub fn test(line: &[u8], counts: &[Index], ends: &[Index], inc: &[Index]) {
-    say::answer(answer_of(text::letter(line, 3), counts, ends, inc));
+pub fn test(
+    rt: &impl Print,
+    line: &[u8],
+    counts: &[Index],
+    ends: &[Index],
+    inc: &[Index],
+) -> io::Result<()> {
+    say::answer(rt, answer_of(text::letter(line, 3), counts, ends, inc))
 }
 
 // The class of a refusal's number.
-pub fn class(line: &[u8]) {
+pub fn class(rt: &impl Print, line: &[u8]) -> io::Result<()> {
     let band = listing_shape::class(text::narrow(text::plain(line, 0)));
-    say::number(listing_shape::band_number(band) as u64);
+    say::number(rt, listing_shape::band_number(band) as u64)
 }

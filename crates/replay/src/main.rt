@@ -11,8 +11,8 @@ mod flags;
 
 ghost use Rattle.std.specs.Prelude.{◌≡◌, length};
 
-use libc::STDOUT_FILENO;
 use replay_reading::text;
+use std::io;
 
 // So many bytes there is room for.
 const TEXT: usize = 524288;
@@ -26,23 +26,24 @@ fn is_question(line: &[u8]) -> bool {
 }
 
 // One line, answered.
-fn line(text: &[u8]) {
-    io::write_all(STDOUT_FILENO, text);
+fn line(rt: &impl Print, text: &[u8]) -> io::Result<()> {
+    rt.write_all(text)?;
     if is_question(text) {
-        io::write_all(STDOUT_FILENO, b" =");
-        ask::ask(text);
+        rt.write_all(b" =")?;
+        ask::ask(rt, text)?;
     }
-    io::write_all(STDOUT_FILENO, b"\n");
+    rt.write_all(b"\n")
 }
 
 // All lines.
-fn all(text: &[u8]) {
+fn all(rt: &impl Print, text: &[u8]) -> io::Result<()> {
     let mut at = 0;
     while at < text.len() {
         let end = text::find(text, at, b'\n');
-        line(&text[at..end]);
+        line(rt, &text[at..end])?;
         at = end + 1;
     }
+    Ok(())
 }
 
 // An array for the text; the contract gives the length, which lending an array needs.
@@ -52,8 +53,8 @@ fn room() -> [u8; TEXT]
     [0; TEXT]
 }
 
-fn main() {
+fn main(rt: HostRuntime) -> io::Result<()> {
     let mut text = room();
-    let n = io::read_full(libc::STDIN_FILENO, &mut text);
-    all(&text[..n]);
+    let n = lent_input::read_full(&mut rt.stdin(), &mut text);
+    all(&rt, &text[..n])
 }

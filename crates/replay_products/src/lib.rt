@@ -1,4 +1,5 @@
-// Questions on products, read from their lines and put to the library; the answers are printed, and returned is nothing.
+// Questions on products, read from their lines and put to the library; the answers are printed, and returned is only
+// whether they could be.
 #![tactic(auto)]
 
 pub mod pair;

@@ -2,6 +2,7 @@
 use listing::{Built, Index};
 use replay_reading::text;
 use replay_saying::{room, say};
+use std::io;
 
 // Whether the line asks for a product and what the tests say of it: it begins with the word 'tested'.
 fn is_tested(line: &[u8]) -> bool {
@@ -41,18 +42,24 @@ fn leaves_max(letter: u8) -> bool {
 }
 
 // What is_valid and closed say of a listing, and its counts.
-fn tests(counts: &[Index], ends: &[Index], inc: &[Index]) {
-    say::answer(valid::is_valid(counts, ends, inc));
-    say::answer(valid::closed(counts, ends, inc));
-    say::list(counts);
+fn tests(rt: &impl Print, counts: &[Index], ends: &[Index], inc: &[Index]) -> io::Result<()> {
+    say::answer(rt, valid::is_valid(counts, ends, inc))?;
+    say::answer(rt, valid::closed(counts, ends, inc))?;
+    say::list(rt, counts)
 }
 
 // What is asked besides of what a product wrote: what the tests say of it, or its text, with room of the fourth length.
-fn besides(line: &[u8], counts: &[Index], ends: &[Index], inc: &[Index]) {
+fn besides(
+    rt: &impl Print,
+    line: &[u8],
+    counts: &[Index],
+    ends: &[Index],
+    inc: &[Index],
+) -> io::Result<()> {
     if is_written(line) {
-        replay_texts::write(counts, ends, inc, text::plain(line, 3) as u64);
+        replay_texts::write(rt, counts, ends, inc, text::plain(line, 3) as u64)
     } else {
-        tests(counts, ends, inc);
+        tests(rt, counts, ends, inc)
     }
 }
 
@@ -66,22 +73,30 @@ fn asks_more(line: &[u8]) -> bool {
 
 // What a product answered and left in its slices: all of it or, where more is asked, that of what it wrote; of a
 // refused one nothing then.
-fn left(line: &[u8], b: Built, counts: &[Index], ends: &[Index], inc: &[Index]) {
-    say::built(b);
+fn left(
+    rt: &impl Print,
+    line: &[u8],
+    b: Built,
+    counts: &[Index],
+    ends: &[Index],
+    inc: &[Index],
+) -> io::Result<()> {
+    say::built(rt, b)?;
     if !asks_more(line) {
-        say::lists(counts, ends, inc);
-        return;
+        return say::lists(rt, counts, ends, inc);
     }
     if b.answer.no == 0 {
         let c = room::words(b.counts as u64, counts);
         let e = room::words(b.ends as u64, ends);
         let i = room::words(b.inc as u64, inc);
-        besides(line, &counts[..c], &ends[..e], &inc[..i]);
+        besides(rt, line, &counts[..c], &ends[..e], &inc[..i])?;
     }
+    Ok(())
 }
 
 // The product that the line asks for, and what it left in the slices lent.
 fn product_in(
+    rt: &impl Print,
     line: &[u8],
     pcounts: &[Index],
     pends: &[Index],
@@ -92,7 +107,7 @@ fn product_in(
     counts: &mut [Index],
     ends: &mut [Index],
     inc: &mut [Index],
-) {
+) -> io::Result<()> {
     let letter = letter_of(line);
     let b = product::make::make(
         leaves_min(letter),
@@ -107,11 +122,12 @@ fn product_in(
         &mut *ends,
         &mut *inc,
     );
-    left(line, b, counts, ends, inc);
+    left(rt, line, b, counts, ends, inc)
 }
 
 // The product that the line asks for, with room of the lengths that it asks for, as far as there is so much.
 pub fn product(
+    rt: &impl Print,
     line: &[u8],
     pcounts: &[Index],
     pends: &[Index],
@@ -119,7 +135,7 @@ pub fn product(
     qcounts: &[Index],
     qends: &[Index],
     qinc: &[Index],
-) {
+) -> io::Result<()> {
     let mut counts = room::few();
     let mut ends = room::some();
     let mut inc = room::many();
@@ -127,6 +143,7 @@ pub fn product(
     let e = room::words(text::plain(line, 1) as u64, &ends);
     let i = room::words(text::plain(line, 2) as u64, &inc);
     product_in(
+        rt,
         line,
         pcounts,
         pends,
@@ -137,5 +154,5 @@ pub fn product(
         &mut counts[..c],
         &mut ends[..e],
         &mut inc[..i],
-    );
+    )
 }

@@ -1,5 +1,5 @@
 // Answers as text: numbers, lists and flags, printed; and the arrays that are lent for them. The functions of `say`
-// return nothing.
+// return only whether they could print.
 #![tactic(auto)]
 
 pub mod room;

@@ -4,8 +4,8 @@ ghost use Rattle.listing.specs.Listing.{width, limits};
 ghost use Rattle.lent_input.specs.Counts.{IsPrefixLen};
 
 use crate::room::WRITTEN;
-use libc::STDOUT_FILENO;
 use listing::{Answer, Built, Index, Number, limit};
+use std::io;
 
 // Lists up to this length are written out.
 const LONGEST: usize = 300;
@@ -16,41 +16,40 @@ const FACTOR: u64 = 257;
 const MODULUS: u64 = 4294967291;
 
 // A number after a space.
-pub fn number(n: u64) {
-    io::write_all(STDOUT_FILENO, b" ");
-    io::print_decimal(STDOUT_FILENO, n);
+pub fn number(rt: &impl Print, n: u64) -> io::Result<()> {
+    rt.write_all(b" ")?;
+    rt.print(n)
 }
 
 // The five numbers of an answer.
-pub fn answer(a: Answer) {
-    number(a.no as u64);
-    number(a.a as u64);
-    number(a.b as u64);
-    number(a.c as u64);
-    number(a.d as u64);
+pub fn answer(rt: &impl Print, a: Answer) -> io::Result<()> {
+    number(rt, a.no as u64)?;
+    number(rt, a.a as u64)?;
+    number(rt, a.b as u64)?;
+    number(rt, a.c as u64)?;
+    number(rt, a.d as u64)
 }
 
 // What is answered of a listing that is written: the numbers of the answer, and how long its lists are.
-pub fn built(b: Built) {
-    answer(b.answer);
-    number(b.counts as u64);
-    number(b.ends as u64);
-    number(b.inc as u64);
+pub fn built(rt: &impl Print, b: Built) -> io::Result<()> {
+    answer(rt, b.answer)?;
+    number(rt, b.counts as u64)?;
+    number(rt, b.ends as u64)?;
+    number(rt, b.inc as u64)
 }
 
 // The two numbers of a count.
-pub fn count(n: Number) {
-    number(n.no as u64);
-    number(n.value as u64);
+pub fn count(rt: &impl Print, n: Number) -> io::Result<()> {
+    number(rt, n.no as u64)?;
+    number(rt, n.value as u64)
 }
 
 // A sign.
-pub fn sign(x: f64) {
+pub fn sign(rt: &impl Print, x: f64) -> io::Result<()> {
     if x == 1.0 {
-        io::write_all(STDOUT_FILENO, b" 1");
-        return;
+        return rt.write_all(b" 1");
     }
-    io::write_all(STDOUT_FILENO, b" -1");
+    rt.write_all(b" -1")
 }
 
 // A number of 16 bits as a wider one.
@@ -71,7 +70,7 @@ fn mixed(c: u64, x: Index) -> u64 {
 }
 
 // A long list: length, sum and check number.
-fn digest(list: &[Index]) {
+fn digest(rt: &impl Print, list: &[Index]) -> io::Result<()> {
     let mut sum = 0u64;
     let mut check = 0u64;
     for i in 0..list.len() {
@@ -79,46 +78,46 @@ fn digest(list: &[Index]) {
         sum = std::num::wrapping_add_u64(sum, wide(x));
         check = mixed(check, x);
     }
-    io::write_all(STDOUT_FILENO, b" {");
-    io::print_decimal(STDOUT_FILENO, list.len() as u64);
-    number(sum);
-    number(check);
-    io::write_all(STDOUT_FILENO, b"}");
+    rt.write_all(b" {")?;
+    rt.print(list.len() as u64)?;
+    number(rt, sum)?;
+    number(rt, check)?;
+    rt.write_all(b"}")
 }
 
 // The numbers of a list from a place on, each after a space.
-fn rest(list: &[Index], from: usize) {
+fn rest(rt: &impl Print, list: &[Index], from: usize) -> io::Result<()> {
     let mut i = from;
     while i < list.len() {
-        number(wide(list[i]));
+        number(rt, wide(list[i]))?;
         i += 1;
     }
+    Ok(())
 }
 
 // The numbers of a list, one after another.
-fn whole(list: &[Index]) {
-    io::write_all(STDOUT_FILENO, b" [");
+fn whole(rt: &impl Print, list: &[Index]) -> io::Result<()> {
+    rt.write_all(b" [")?;
     if 0 < list.len() {
-        io::print_decimal(STDOUT_FILENO, wide(list[0]));
-        rest(list, 1);
+        rt.print(wide(list[0]))?;
+        rest(rt, list, 1)?;
     }
-    io::write_all(STDOUT_FILENO, b"]");
+    rt.write_all(b"]")
 }
 
 // A list.
-pub fn list(list: &[Index]) {
+pub fn list(rt: &impl Print, list: &[Index]) -> io::Result<()> {
     if LONGEST < list.len() {
-        digest(list);
-        return;
+        return digest(rt, list);
     }
-    whole(list);
+    whole(rt, list)
 }
 
 // All that the three slices of a listing hold.
-pub fn lists(counts: &[Index], ends: &[Index], inc: &[Index]) {
-    list(counts);
-    list(ends);
-    list(inc);
+pub fn lists(rt: &impl Print, counts: &[Index], ends: &[Index], inc: &[Index]) -> io::Result<()> {
+    list(rt, counts)?;
+    list(rt, ends)?;
+    list(rt, inc)
 }
 
 // The bytes of a list as wider numbers, into the start of a slice, as far as there is room; says how many.
@@ -144,10 +143,10 @@ fn room() -> [Index; WRITTEN]
 }
 
 // A list of bytes.
-pub fn bytes(bytes: &[u8]) {
+pub fn bytes(rt: &impl Print, bytes: &[u8]) -> io::Result<()> {
     let mut wide = room();
     let n = widen(bytes, &mut wide);
-    list(&wide[..n]);
+    list(rt, &wide[..n])
 }
 
 // The byte at a place of a list, 0 past its end.
@@ -173,14 +172,14 @@ fn row<'a>(table: &'a [Index], i: u16, w: usize) -> &'a [Index] {
 }
 
 // A flag of a table, its orientation first, where each flag has w numbers.
-pub fn flag(table: &[Index], odd: &[u8], i: u16, w: usize) {
-    io::write_all(STDOUT_FILENO, b" [");
-    io::print_decimal(STDOUT_FILENO, byte_at(odd, i as usize));
-    rest(row(table, i, w), 0);
-    io::write_all(STDOUT_FILENO, b"]");
+pub fn flag(rt: &impl Print, table: &[Index], odd: &[u8], i: u16, w: usize) -> io::Result<()> {
+    rt.write_all(b" [")?;
+    rt.print(byte_at(odd, i as usize))?;
+    rest(rt, row(table, i, w), 0)?;
+    rt.write_all(b"]")
 }
 
 // That the cell is not orientable.
-pub fn not_orientable() {
-    io::write_all(STDOUT_FILENO, b" []");
+pub fn not_orientable(rt: &impl Print) -> io::Result<()> {
+    rt.write_all(b" []")
 }

@@ -1,4 +1,5 @@
-// Questions on volumes, read from their lines and put to the library; the answers are printed, and returned is nothing.
+// Questions on volumes, read from their lines and put to the library; the answers are printed, and returned is only
+// whether they could be.
 #![tactic(auto)]
 
 pub mod codes;
@@ -7,10 +8,10 @@ ghost use Rattle.std.specs.Prelude.{◌≡◌, ◌+◌, ◌*◌, length};
 ghost use Rattle.listing.specs.Listing.{limits};
 ghost use Rattle.replay_saying.specs.Room.{spare};
 
-use libc::STDOUT_FILENO;
 use listing::{Index, limit};
 use replay_reading::text;
 use replay_saying::{room, say};
+use std::io;
 use volume::Measured;
 
 // How many coordinates there is room for: three for each vertex, and a few more.
@@ -20,17 +21,16 @@ const COORDINATES: usize = 3 * limit::ELEMENTS + 16;
 const TOO_LARGE: f64 = 18446744073709551616.0;
 
 // The digits of a whole number; a question mark for any number that is not whole, or negative, or too large.
-fn digits(x: f64) {
+fn digits(rt: &impl Print, x: f64) -> io::Result<()> {
     if x > -1.0 {
         if x < TOO_LARGE {
             let n = std::num::truncating_f64_to_u64(x);
             if std::num::nearest_u64_to_f64(n) == x {
-                io::print_decimal(STDOUT_FILENO, n);
-                return;
+                return rt.print(n);
             }
         }
     }
-    io::write_all(STDOUT_FILENO, b"?");
+    rt.write_all(b"?")
 }
 
 // Whether a number has a minus sign, which -0.0 has too.
@@ -42,24 +42,24 @@ fn is_minus(x: f64) -> bool {
 }
 
 // A whole number with its sign, after a space.
-fn signed(x: f64) {
-    io::write_all(STDOUT_FILENO, b" ");
+fn signed(rt: &impl Print, x: f64) -> io::Result<()> {
+    rt.write_all(b" ")?;
     if is_minus(x) {
-        io::write_all(STDOUT_FILENO, b"-");
-        digits(-x);
-        return;
+        rt.write_all(b"-")?;
+        return digits(rt, -x);
     }
-    digits(x);
+    digits(rt, x)
 }
 
 // What is answered: the number of a refusal, and six times the volume.
-fn measured(m: Measured) {
-    say::number(m.no as u64);
-    signed(m.six);
+fn measured(rt: &impl Print, m: Measured) -> io::Result<()> {
+    say::number(rt, m.no as u64)?;
+    signed(rt, m.six)
 }
 
 // Six times the volume, and what is then in the slices lent.
 fn asked(
+    rt: &impl Print,
     counts: &[Index],
     ends: &[Index],
     inc: &[Index],
@@ -67,7 +67,7 @@ fn asked(
     coordinates: &[f64],
     table: &mut [Index],
     odd: &mut [u8],
-) {
+) -> io::Result<()> {
     let v = volume::six_volume(
         counts,
         ends,
@@ -77,25 +77,27 @@ fn asked(
         &mut *table,
         &mut *odd,
     );
-    measured(volume::numbers(v));
-    say::list(table);
-    say::bytes(odd);
+    measured(rt, volume::numbers(v))?;
+    say::list(rt, table)?;
+    say::bytes(rt, odd)
 }
 
 // The same with the room that the line asks for, as far as there is so much.
 fn with_room(
+    rt: &impl Print,
     line: &[u8],
     counts: &[Index],
     ends: &[Index],
     inc: &[Index],
     first: &[Index],
     coordinates: &[f64],
-) {
+) -> io::Result<()> {
     let mut table = room::table();
     let mut odd = room::orientations();
     let t = room::words(text::plain(line, 0) as u64, &table);
     let o = room::bytes(text::plain(line, 1) as u64, &odd);
     asked(
+        rt,
         counts,
         ends,
         inc,
@@ -103,7 +105,7 @@ fn with_room(
         coordinates,
         &mut table[..t],
         &mut odd[..o],
-    );
+    )
 }
 
 // An array for the coordinates; the contract gives the length, which lending an array needs.
@@ -115,22 +117,30 @@ fn places() -> [f64; COORDINATES]
 
 // The same with the coordinates of these codes.
 fn with_codes(
+    rt: &impl Print,
     line: &[u8],
     counts: &[Index],
     ends: &[Index],
     inc: &[Index],
     first: &[Index],
     codes: &[Index],
-) {
+) -> io::Result<()> {
     let mut coordinates = places();
     let n = codes::put_metres(codes, &mut coordinates);
-    with_room(line, counts, ends, inc, first, &coordinates[..n]);
+    with_room(rt, line, counts, ends, inc, first, &coordinates[..n])
 }
 
 // Six times the volume of a cell from a first flag, with the coordinates that the line gives by their codes. Each list
 // is read into room of its own and lent on: a function with many arrays is slow to check.
-pub fn six_volume(line: &[u8], counts: &[Index], ends: &[Index], inc: &[Index], first: &[Index]) {
+pub fn six_volume(
+    rt: &impl Print,
+    line: &[u8],
+    counts: &[Index],
+    ends: &[Index],
+    inc: &[Index],
+    first: &[Index],
+) -> io::Result<()> {
     let mut codes = room::many();
     let n = text::list(line, 4, &mut codes);
-    with_codes(line, counts, ends, inc, first, &codes[..n]);
+    with_codes(rt, line, counts, ends, inc, first, &codes[..n])
 }

@@ -1,6 +1,6 @@
 use Rattle.replay_reading.proofs.Stores.{storing_all, storing_on, storing_last}
 use Rattle.replay_reading.proofs.Texts.{read_on, read_off, read_end}
-use Rattle.replay_reading.specs.Text.{pending, read}
+use Rattle.replay_reading.specs.Text.{pending}
 use Rattle.listing.specs.Listing.{width}
 use Prim.Native.Nat.{◌-◌}
 use borrow.Author.Rules.{rules}

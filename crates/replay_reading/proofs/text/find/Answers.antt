@@ -1,8 +1,6 @@
 use Rattle.replay_reading.proofs.Texts.{until_stop, until_on, until_end}
-use Rattle.replay_reading.specs.Text.{until}
 use borrow.Author.Rules.{rules}
 use native.Mathlib.Omega.{arith}
-use Prim.Native.Nat.{◌-◌}
 use Rattle.replay_reading.proofs.text.find.Goals as goal
 
 pub returns-then-text-i : goal.returns-then-text-i

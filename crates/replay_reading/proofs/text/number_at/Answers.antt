@@ -1,12 +1,12 @@
 use Rattle.replay_reading.proofs.Stores.{run_in, run_past}
 use Rattle.replay_reading.proofs.Texts.{read_on, read_off, read_end}
-use Rattle.replay_reading.specs.Text.{largest, pending, read}
-use lib.ListN.{length-replicate, get_or-replicate, get_or-eq_default, length, get_or}
+use Rattle.replay_reading.specs.Text.{largest, pending}
+use lib.ListN.{length-replicate, get_or-replicate, get_or-eq_default, get_or}
 use mathlib.Core.List.{List}
 use borrow.Author.Rules.{rules}
 use native.Mathlib.Omega.{arith}
 use mathlib.Core.Path.{refl, sym, ap, ◌∙◌}
-use Prim.Native.Nat.{min, ℕ, ◌-◌}
+use Prim.Native.Nat.{min, ℕ}
 use Rattle.replay_reading.proofs.text.number_at.Goals as goal
 
 abbrev nth : ℕ → List ℕ → ℕ

@@ -1,8 +1,6 @@
 use Rattle.replay_reading.proofs.Texts.{opened_here, opened_past, opened_on, opened_end}
-use Rattle.replay_reading.specs.Text.{opened}
 use borrow.Author.Rules.{rules}
 use mathlib.Core.Path.{refl, sym, ◌∙◌}
-use Prim.Native.Nat.{◌-◌}
 use Rattle.replay_reading.proofs.text.opening.Goals as goal
 
 pub loop-i-init : goal.loop-i-init

@@ -1,7 +1,6 @@
 use Rattle.replay_reading.proofs.Stores.{sets_out, sets_first}
 use lib.Seq.{sets}
-use lib.ListN.{replicate, length-replicate, length-set, length}
-use Prim.Native.Nat.{◌-◌}
+use lib.ListN.{replicate, length-replicate, length-set}
 use borrow.Author.Rules.{rules}
 use native.Mathlib.Omega.{arith}
 use mathlib.Core.Path.{refl, sym, ap, ◌∙◌}

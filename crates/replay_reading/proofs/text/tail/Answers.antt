@@ -1,7 +1,6 @@
 use Rattle.replay_reading.proofs.Texts.{closing_past, closing_on, closing_end}
 use borrow.Author.Rules.{rules}
 use mathlib.Core.Path.{refl, sym, ◌∙◌}
-use Prim.Native.Nat.{◌-◌}
 use Rattle.replay_reading.proofs.text.tail.Goals as goal
 
 pub loop-i-init : goal.loop-i-init

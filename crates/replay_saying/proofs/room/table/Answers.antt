@@ -1,0 +1,12 @@
+-- `table`. One number repeated, and the length of that: nothing is computed. Assumes nothing.
+use Rattle.std.proofs.Common.{◌-◌, refl}
+use Rattle.listing.specs.Listing.{width}
+use Rattle.replay_saying.proofs.Counting.{repeated}
+use Rattle.replay_saying.proofs.room.table.Goals as goal
+
+pub returns : goal.returns
+returns c =
+    record {
+      value = refl;
+      spare_value = repeated _ (width - 1);
+    }
