@@ -2,23 +2,21 @@
 -- has a good shape, so that slices as long as the limits have room for it.
 -- Assumes nothing.
 use mathlib.Core.Path.{◌≡◌, refl, sym, ap, ◌∙◌}
-use mathlib.Core.Logic.{◌⊎◌, inl, inr}
 use mathlib.Core.List.{List}
-use Prim.Native.Nat.{ℕ, suc, ◌*◌, ◌/◌, ◌≤◌}
+use Prim.Native.Nat.{ℕ, ◌*◌, ◌/◌, ◌≤◌}
 use native.Mathlib.Omega.{arith}
 use lib.ListN.{length}
 use Rattle.order.proofs.Over.{over_length}
 use Rattle.listing.specs.declared.Answer.{Answer}
 use Rattle.listing.specs.declared.Built.{Built}
-use Rattle.listing.specs.Answers.{plain, fine, ◌or_else◌}
+use Rattle.listing.specs.Answers.{plain}
 use Rattle.listing.specs.Listing.{Listing, Limits, limits}
-use Rattle.listing.specs.Shape.{Shaped, elements}
+use Rattle.listing.specs.Shape.{Shaped}
 use Rattle.listing.specs.Layers.{derived}
 use Rattle.listing.proofs.Answers.{or_fine, or_stop, or_no, no_or, no_of, stops}
-use Rattle.listing.proofs.Broken.{zero_or}
 use Rattle.listing.proofs.Written.{written_counts_length, written_ends_length, written_inc_length, written_shaped}
 use Rattle.listing_outputs.specs.declared.outputs.Room.{Room}
-use Rattle.listing_outputs.specs.Output.{Fits, need_of, short_test, room_test, Made, prefix}
+use Rattle.listing_outputs.specs.Output.{Fits, need_of, short_test, Made, prefix}
 use Rattle.listing_outputs.proofs.Output.{room_tested, made_answer, made_wrote, made_prefix}
 use Rattle.valid.specs.Tests.{closed}
 use Rattle.text_theory.specs.Said.{said, listing_in, text_test}

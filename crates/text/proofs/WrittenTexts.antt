@@ -155,6 +155,7 @@ module _ (L : Listing) (C : Closed limits L) where
   line_fits : (r i : ℕ) → i < lines_in (layers L) r → NumbersFit (line_of (layers L) (r, i)).numbers
   unfolding line_of In Incident
   line_fits r zero h x (inl e) = omega (arith, e, few_in_rank L C.shaped r)
+  line_fits r zero h x (inr k) = elim k [ ]
   line_fits r (suc i) h x k =
       let b = (C.incident r i (omega arith)).lower.each x k in
       omega (arith, b.1, few_in_rank L C.shaped (r - 1))
@@ -162,6 +163,7 @@ module _ (L : Listing) (C : Closed limits L) where
   lines_fit : (j : ℕ) → j < line_count (layers L) → NumbersFit (line_at (layers L) j).numbers
   unfolding line_at In
   lines_fit zero h x (inl e) = omega (arith, e, C.shaped.few_ranks)
+  lines_fit zero h x (inr k) = elim k [ ]
   lines_fit (suc j) h x k =
       let s = spotted (layers L) j h in
       line_fits _ _ s.placed x (rw (spot_line (layers L) (suc j) _ _ s) at k)
