@@ -3,7 +3,7 @@
 
 mod write;
 
-ghost use Rattle.listing.specs.Listing.{held, limits};
+ghost use Rattle.listing.specs.Listing.{listing, held, limits};
 ghost use Rattle.dual.specs.Duals.{DualMade};
 
 use listing::{Built, Index};
@@ -21,7 +21,7 @@ pub fn dual(
     inc: &mut [Index],
 ) -> Built
     ensures { DualMade limits (held pcounts.entry pends.entry pinc.entry)
-        (held counts.entry ends.entry inc.entry) (held counts.exit ends.exit inc.exit) result }
+        (listing counts.old ends.old inc.old) (listing counts.new ends.new inc.new) result }
 {
     let c = valid::closed(pcounts, pends, pinc);
     if c.no != 0 {
