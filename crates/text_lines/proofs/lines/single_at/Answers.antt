@@ -1,10 +1,6 @@
 -- `single_at`. By the key, and by the number that follows it. Assumes nothing.
 use native.Mathlib.Omega.{arith}
-use mathlib.Core.Path.{◌≡◌, sym, ◌∙◌}
-use mathlib.Core.Bool.{true}
-use Prim.Native.Nat.{◌+◌, ◌≤◌}
-use lib.ListN.{length, drop}
-use Rattle.text_theory.specs.Said.{begins}
+use mathlib.Core.Path.{sym, ◌∙◌}
 use Rattle.text_lines.proofs.Keys.{key_fits}
 use Rattle.text_lines.proofs.Singles.{no_key, bad_row, good_row_lem, single_wrong, single_more}
 use Rattle.text_lines.proofs.Singles.{single_value, single_good, single_after}
@@ -12,19 +8,17 @@ use Rattle.text_lines.proofs.lines.single_at.Goals as goal
 
 pub overflow_add-at : goal.overflow_add-at
 overflow_add-at c =
-    let keyed : let a = c.args in begins a.key.now (drop a.at a.text.now) ≡ true = sym c.has_key.ensures ∙ c.if-has_key.true in
-    let fits : let a = c.args in a.at + length a.key.now ≤ length a.text.now = let a = c.args in key_fits a.key.now a.text.now a.at c.requires.at_in_bounds keyed in
-    omega (arith, fits)
+    let keyed = sym c.has_key.ensures ∙ c.if-has_key.true in
+    omega (arith, key_fits c.args.key.now c.args.text.now c.args.at c.requires.at_in_bounds keyed)
 
 pub term_at-i-requires : goal.term_at-i-requires
 term_at-i-requires c =
-    let keyed : let a = c.args in begins a.key.now (drop a.at a.text.now) ≡ true = sym c.has_key.ensures ∙ c.if-has_key.true in
-    let fits : let a = c.args in a.at + length a.key.now ≤ length a.text.now = let a = c.args in key_fits a.key.now a.text.now a.at c.requires.at_in_bounds keyed in
-    fits
+    let keyed = sym c.has_key.ensures ∙ c.if-has_key.true in
+    key_fits c.args.key.now c.args.text.now c.args.at c.requires.at_in_bounds keyed
 
 pub returns-then-i-2 : goal.returns-then-i-2
 returns-then-i-2 c =
-    let keyed : let a = c.args in begins a.key.now (drop a.at a.text.now) ≡ true = sym c.has_key.ensures ∙ c.if-has_key.true in
+    let keyed = sym c.has_key.ensures ∙ c.if-has_key.true in
     let a = c.args in
     let r = c.term_at-i.ensures in
     let o = c.if-i.true in
@@ -35,7 +29,7 @@ returns-then-i-2 c =
 
 pub returns-then-i : goal.returns-then-i
 returns-then-i c =
-    let keyed : let a = c.args in begins a.key.now (drop a.at a.text.now) ≡ true = sym c.has_key.ensures ∙ c.if-has_key.true in
+    let keyed = sym c.has_key.ensures ∙ c.if-has_key.true in
     let a = c.args in
     let r = c.term_at-i.ensures in
     let o = c.if-i.true in
@@ -48,7 +42,7 @@ returns-then-i c =
 
 pub returns-then-has_key : goal.returns-then-has_key
 returns-then-has_key c =
-    let keyed : let a = c.args in begins a.key.now (drop a.at a.text.now) ≡ true = sym c.has_key.ensures ∙ c.if-has_key.true in
+    let keyed = sym c.has_key.ensures ∙ c.if-has_key.true in
     let a = c.args in
     let g = single_wrong a.text.now a.key.now a.at keyed c.term_at-i.ensures c.if-i.false in record {
       line_read = rw c.refused-then-has_key.ensures (bad_row _ _ _ keyed _ _ g);

@@ -1,11 +1,8 @@
 -- `measure`. By the first line, by the ranks, and by what is left after them. Assumes nothing.
 use native.Mathlib.Omega.{arith}
-use mathlib.Core.Path.{◌≡◌, refl}
+use mathlib.Core.Path.{refl}
 use mathlib.Core.Logic.{inl}
-use Prim.Native.Nat.{◌≤◌}
-use lib.ListN.{length}
 use Rattle.listing.specs.Listing.{limits}
-use Rattle.text_theory.specs.Said.{said}
 use Rattle.text_sizes.proofs.Whole.{sizes_refused, text_over, first_refused, first_over, first_came, top_is}
 use Rattle.text_sizes.proofs.Whole.{bytes_over, sizes_read}
 use Rattle.text_sizes.proofs.Noting.{counts_none}
@@ -17,26 +14,23 @@ returns-then-text-gt-TEXT c =
 
 pub single_at-c-requires : goal.single_at-c-requires
 single_at-c-requires c =
-    record {
-      at_in_bounds = omega arith;
-      key = inl refl;
-    }
+    record { at_in_bounds = omega arith; key = inl refl }
 
 pub returns-then-c-ne0 : goal.returns-then-c-ne0
 returns-then-c-ne0 c =
-    let short : length c.args.text.now ≤ limits.text = c.if-text-gt-TEXT.false in
+    let short = c.if-text-gt-TEXT.false in
     let o = first_refused _ _ short _ _ c.single_at-c.ensures.line_read c.if-c-ne0.true in
     sizes_refused _ _ _ _ _ c.if-c-ne0.true c.refused-then-c-ne0.ensures o
 
 pub returns-then-c-ge-RANKS : goal.returns-then-c-ge-RANKS
 returns-then-c-ge-RANKS c =
-    let short : length c.args.text.now ≤ limits.text = c.if-text-gt-TEXT.false in
+    let short = c.if-text-gt-TEXT.false in
     let o = first_over _ _ short _ _ c.single_at-c.ensures.line_read c.if-c-ne0.false _ (c.single_at-c.ensures.value_value c.if-c-ne0.false) c.if-c-ge-RANKS.true in
     sizes_refused _ _ _ _ _ (λ z. omega arith) c.refused-then-c-ge-RANKS.ensures o
 
 pub measure_ranks-s-requires : goal.measure_ranks-s-requires
 measure_ranks-s-requires c =
-    let short : length c.args.text.now ≤ limits.text = c.if-text-gt-TEXT.false in
+    let short = c.if-text-gt-TEXT.false in
     let v = c.single_at-c.ensures.value_value c.if-c-ne0.false in
     let n = c.single_at-c.result.value in
     let a = first_came limits _ short _ _ c.single_at-c.ensures.line_read c.if-c-ne0.false n v (omega (arith, c.if-c-ge-RANKS.false))
@@ -58,9 +52,9 @@ returns-then-s-text c =
 
 pub overflow_add-need : goal.overflow_add-need
 overflow_add-need c =
-    let short : length c.args.text.now ≤ limits.text = c.if-text-gt-TEXT.false in
-    let top : c.single_at-c.result.value ≡ (said c.args.text.now).top = let q = c.single_at-c.ensures in
-    top_is limits _ short _ _ q.line_read c.if-c-ne0.false _ (q.value_value c.if-c-ne0.false) in
+    let short = c.if-text-gt-TEXT.false in
+    let q = c.single_at-c.ensures in
+    let top = top_is limits _ short _ _ q.line_read c.if-c-ne0.false _ (q.value_value c.if-c-ne0.false) in
     omega (arith, top, (c.measure_ranks-s.ensures.comes.go c.if-s-ne0.false).ranks)
 
 pub overflow_add-need-2 : goal.overflow_add-need-2
@@ -71,8 +65,8 @@ overflow_mul-need c = omega (arith, (c.measure_ranks-s.ensures.comes.go c.if-s-n
 
 pub returns : goal.returns
 returns c =
-    let short : length c.args.text.now ≤ limits.text = c.if-text-gt-TEXT.false in
-    let top : c.single_at-c.result.value ≡ (said c.args.text.now).top = let q = c.single_at-c.ensures in
-    top_is limits _ short _ _ q.line_read c.if-c-ne0.false _ (q.value_value c.if-c-ne0.false) in
+    let short = c.if-text-gt-TEXT.false in
+    let q = c.single_at-c.ensures in
+    let top = top_is limits _ short _ _ q.line_read c.if-c-ne0.false _ (q.value_value c.if-c-ne0.false) in
     let z = c.if-s-ne0.false in
     sizes_read (c.measure_ranks-s.ensures.comes.go z) (c.measure_ranks-s.ensures.rank_value z).0 c.if-s-text.false _ (c.measure_ranks-s.ensures.rank_value z).1 _ top _ refl

@@ -24,18 +24,27 @@ overflow_add-s c = omega (arith, c.requires.arrived.elements)
 
 pub overflow_add-s-2 : goal.overflow_add-s-2
 overflow_add-s-2 c =
-    let f = rank_fits c.requires.arrived c.requires.rank_bound.0 c.single_at-c.ensures.line_read c.if-c-ne0.false _ (c.single_at-c.ensures.value_value c.if-c-ne0.false) in
+    let q = c.requires in
+    let e = c.single_at-c.ensures in
+    let z = c.if-c-ne0.false in
+    let f = rank_fits q.arrived q.rank_bound.0 e.line_read z _ (e.value_value z) in
     omega (arith, f, c.requires.arrived.elements)
 
 pub returns-then-s-c-gt-ELEMENTS-clause-comes : goal.returns-then-s-c-gt-ELEMENTS-clause-comes
 returns-then-s-c-gt-ELEMENTS-clause-comes c =
-    let e = c.stopped-then-s-c-gt-ELEMENTS.ensures in
-    let o = rank_over c.requires.arrived c.requires.rank_bound.0 c.single_at-c.ensures.line_read c.if-c-ne0.false _ (c.single_at-c.ensures.value_value c.if-c-ne0.false) c.if-s-c-gt-ELEMENTS.true in
-    (stopped_so {X = ⊥} _ _ _ _ (λ z. omega arith) e o).0
+    let q = c.requires in
+    let e = c.single_at-c.ensures in
+    let z = c.if-c-ne0.false in
+    let w = c.stopped-then-s-c-gt-ELEMENTS.ensures in
+    let o = rank_over q.arrived q.rank_bound.0 e.line_read z _ (e.value_value z) c.if-s-c-gt-ELEMENTS.true in
+    (stopped_so {X = ⊥} _ _ _ _ (λ z. omega arith) w o).0
 
 pub overflow_cast-noted : goal.overflow_cast-noted
 overflow_cast-noted c =
-    let f = rank_fits c.requires.arrived c.requires.rank_bound.0 c.single_at-c.ensures.line_read c.if-c-ne0.false _ (c.single_at-c.ensures.value_value c.if-c-ne0.false) in
+    let q = c.requires in
+    let e = c.single_at-c.ensures in
+    let z = c.if-c-ne0.false in
+    let f = rank_fits q.arrived q.rank_bound.0 e.line_read z _ (e.value_value z) in
     omega (arith, f)
 
 pub offset_bounds-noted-rank : goal.offset_bounds-noted-rank
@@ -47,11 +56,17 @@ bounds-noted-rank c =
 
 pub measure_elements-requires : goal.measure_elements-requires
 measure_elements-requires c =
-    rank_entered c.requires.arrived c.requires.rank_bound.0 c.single_at-c.ensures.line_read c.if-c-ne0.false _ (c.single_at-c.ensures.value_value c.if-c-ne0.false) c.if-s-c-gt-ELEMENTS.false _ refl
+    let q = c.requires in
+    let e = c.single_at-c.ensures in
+    let z = c.if-c-ne0.false in
+    rank_entered q.arrived q.rank_bound.0 e.line_read z _ (e.value_value z) c.if-s-c-gt-ELEMENTS.false _ refl
 
 pub returns : goal.returns
 returns c =
-    let k = rank_noted c.requires.arrived c.requires.rank_bound.0 c.single_at-c.ensures.line_read c.if-c-ne0.false _ (c.single_at-c.ensures.value_value c.if-c-ne0.false) c.requires.rank_bound.1 in record {
+    let q = c.requires in
+    let e = c.single_at-c.ensures in
+    let z = c.if-c-ne0.false in
+    let k = rank_noted q.arrived q.rank_bound.0 e.line_read z _ (e.value_value z) q.rank_bound.1 in record {
       comes = c.measure_elements.ensures.comes;
       rank_value = λ z. (c.measure_elements.ensures.rank_value z, rw (c.measure_elements.ensures.rank_value z) k);
     }
