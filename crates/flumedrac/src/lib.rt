@@ -5,7 +5,7 @@
 ghost use Rattle.std.specs.Prelude.{◌≡◌, true, false, length};
 ghost use Rattle.listing.specs.Refusals.{band, band_no};
 ghost use Rattle.listing_shape.specs.Counts.{rank_of, el_count_of, vertex_count_of, facet_count_of};
-ghost use Rattle.listing.specs.Listing.{held, limits};
+ghost use Rattle.listing.specs.Listing.{listing, held, limits};
 ghost use Rattle.listing.specs.Layers.{layers};
 ghost use Rattle.listing_outputs.specs.Output.{Made};
 ghost use Rattle.valid.specs.Tests as tests;
@@ -213,7 +213,7 @@ pub extern "C" fn fd_duopyramid(
     ensures { Outcome limits false false
         (held pcounts.entry pends.entry pinc.entry)
         (held qcounts.entry qends.entry qinc.entry)
-        (held counts.entry ends.entry inc.entry) (held counts.exit ends.exit inc.exit) result }
+        (listing counts.old ends.old inc.old) (listing counts.new ends.new inc.new) result }
 {
     product::duopyramid(
         pcounts, pends, pinc, qcounts, qends, qinc, counts, ends, inc,
@@ -235,7 +235,7 @@ pub extern "C" fn fd_duoprism(
     ensures { Outcome limits true false
         (held pcounts.entry pends.entry pinc.entry)
         (held qcounts.entry qends.entry qinc.entry)
-        (held counts.entry ends.entry inc.entry) (held counts.exit ends.exit inc.exit) result }
+        (listing counts.old ends.old inc.old) (listing counts.new ends.new inc.new) result }
 {
     product::duoprism(
         pcounts, pends, pinc, qcounts, qends, qinc, counts, ends, inc,
@@ -257,7 +257,7 @@ pub extern "C" fn fd_duotegum(
     ensures { Outcome limits false true
         (held pcounts.entry pends.entry pinc.entry)
         (held qcounts.entry qends.entry qinc.entry)
-        (held counts.entry ends.entry inc.entry) (held counts.exit ends.exit inc.exit) result }
+        (listing counts.old ends.old inc.old) (listing counts.new ends.new inc.new) result }
 {
     product::duotegum(
         pcounts, pends, pinc, qcounts, qends, qinc, counts, ends, inc,
@@ -279,7 +279,7 @@ pub extern "C" fn fd_duocomb(
     ensures { Outcome limits true true
         (held pcounts.entry pends.entry pinc.entry)
         (held qcounts.entry qends.entry qinc.entry)
-        (held counts.entry ends.entry inc.entry) (held counts.exit ends.exit inc.exit) result }
+        (listing counts.old ends.old inc.old) (listing counts.new ends.new inc.new) result }
 {
     product::duocomb(
         pcounts, pends, pinc, qcounts, qends, qinc, counts, ends, inc,
@@ -297,7 +297,7 @@ pub extern "C" fn fd_dual(
     inc: &mut [Index],
 ) -> Built
     ensures { DualMade limits (held pcounts.entry pends.entry pinc.entry)
-        (held counts.entry ends.entry inc.entry) (held counts.exit ends.exit inc.exit) result }
+        (listing counts.old ends.old inc.old) (listing counts.new ends.new inc.new) result }
 {
     dual::dual(pcounts, pends, pinc, counts, ends, inc)
 }
@@ -313,8 +313,8 @@ pub extern "C" fn fd_read_text(
     ensures { Made
         (read_test limits text.now (length counts.old) (length ends.old)
         (length inc.old))
-        (listing_in text.now) (held counts.entry ends.entry inc.entry)
-        (held counts.exit ends.exit inc.exit) result }
+        (listing_in text.now) (listing counts.old ends.old inc.old)
+        (listing counts.new ends.new inc.new) result }
 {
     text::read_text(text, counts, ends, inc)
 }

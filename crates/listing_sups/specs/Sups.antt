@@ -1,5 +1,6 @@
 -- Sups derived from subs: how many each element has, and which.
 --
+-- subs_at       the subs of the kth element from the number `here` on; it stands in Rattle.listing.specs.Listing
 -- subs_from     the subs of element a of rank i of a listing whose elements are numbered from b on
 -- layers_from   what the counts and subs of such a listing say
 -- UpCounts     a list that has for each of its elements, by rank and then index, how many sups are derived for it
@@ -14,7 +15,8 @@
 -- SupsFilled   the derived sups of the ranks below r written, each where its element's subs end, and nothing else
 use Rattle.std.specs.Prelude.{◌≡◌, List, ℕ, suc, ◌+◌, ◌-◌, ◌*◌, ◌≤◌, ◌<◌, length, get_or, take, drop}
 use Rattle.order.specs.Sums.{sum}
-use Rattle.listing.specs.Listing.{Listing, width, limits, rank, count, before, Ends, subs_at}
+use Rattle.listing.specs.Listing.{Listing, width, limits, rank, count, before, Ends}
+pub use Rattle.listing.specs.Listing.{subs_at}
 use Rattle.listing.specs.Shape.{elements}
 use Rattle.listing.specs.Layers.{Layers, layers, derived}
 

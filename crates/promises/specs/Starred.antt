@@ -17,7 +17,7 @@
 -- point_text, triangle_text   the texts of the point and of the triangle
 -- missing_text   that of a point whose top has a second sub, which does not exist
 -- missing_sub    the listing that it says
--- falling_sups   the triangle with the sups of its minimal element in falling order
+-- turned_sups    the triangle with the sups of its minimal element in falling order
 -- Trial         a row of the table: what is tried, and what is answered
 -- tested        a listing; what is_valid answers, what closed answers
 -- combined      a product of two listings, with just the room that it takes; what it answers, the listing that it is,
@@ -185,8 +185,8 @@ missing_text = quoted "rank=1\ncount=1\nsubs=\ncount=1\nsubs=0,1\n"
 abbrev pub missing_sub : Listing
 missing_sub = listing (1 ∷ 1 ∷ []) (0 ∷ 1 ∷ 3 ∷ 3 ∷ []) (0 ∷ 0 ∷ 1 ∷ [])
 
-abbrev pub falling_sups : Listing
-falling_sups = listing triangle.counts triangle.ends (2 ∷ 1 ∷ 0 ∷ drop 3 triangle.inc)
+abbrev pub turned_sups : Listing
+turned_sups = listing triangle.counts triangle.ends (2 ∷ 1 ∷ 0 ∷ drop 3 triangle.inc)
 
 pub data Trial : Type 0 where
   tested : Listing → Answer → Answer → Trial
@@ -293,7 +293,7 @@ tried =
     wrote_as triangle 200 fine triangle_text ∷
     unwritten point 35 (plain bytes_short) ∷
     unwritten three_on_top 0 (refusal third_between 0 0 2 0) ∷
-    unwritten falling_sups 200 (refusal not_ascending 0 0 1 0) ∷
+    unwritten turned_sups 200 (refusal not_ascending 0 0 1 0) ∷
     -- their own duals
     turned_as nullitope fine nullitope ∷
     turned_as point fine point ∷
