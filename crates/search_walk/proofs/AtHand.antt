@@ -76,11 +76,11 @@ module _ {L : Listing} (C : Closed limits L) {flag : List ℕ} {sum : ℕ} (H : 
     module _ (v : ℕ) (d : v ≡ weight r) where
       pub hand_old : p.taken * v ≤ sum + p.put * v
       hand_old =
-          rw (d, H.sum_is_lem, hand_taken, ← at_w r (omega arith)) (old_inside f r p.put (omega (arith, f_long)))
+          rw (d, H.sum_is, hand_taken, ← at_w r (omega arith)) (old_inside f r p.put (omega (arith, f_long)))
 
       pub hand_hash : (sum + p.put * v - p.taken * v) % hashes ≡ hash_of (take w (set flag r p.put))
       hand_hash =
-          rw (d, H.sum_is_lem, hand_taken, ← at_w r (omega arith))
+          rw (d, H.sum_is, hand_taken, ← at_w r (omega arith))
           (hash_changed f r p.put (omega (arith, f_long))
           ∙ ap hash_of (sym (take-set-lt w flag r p.put (omega arith))))
 

@@ -53,8 +53,8 @@ abbrev pub All : {A : Type 0} → (A → Type 0) → List A → Type 0
 All {A} P l = (x : A) → Memᴰ x l → P x
 
 module _ {A : Type 0} (same : A → A → Bool) (room b : ℕ) (P : A → Type 0) where
-  pub meet_all : (S : State A) (y : A) → All P S.found → P y → All P (meet same room b S y).found
-  meet_all S y h p =
+  pub meet_all_lem : (S : State A) (y : A) → All P S.found → P y → All P (meet same room b S y).found
+  meet_all_lem S y h p =
       meet_cases same room b S y (λ T. All P T.found) (λ o. h) (λ o i. h)
       (λ o i r x m. ⊎_elim (h x) (last x) (Memᴰ.append_cases S.found m)) (λ o i r. h)
     where
@@ -65,7 +65,7 @@ module _ {A : Type 0} (same : A → A → Bool) (room b : ℕ) (P : A → Type 0
   unfolding meet_all
   meets_all S [] h p = h
   meets_all S (y ∷ l) h p =
-      meets_all (meet same room b S y) l (meet_all S y h (p y (Memᴰ.head refl))) (λ x m. p x (Memᴰ.tail m))
+      meets_all (meet same room b S y) l (meet_all_lem S y h (p y (Memᴰ.head refl))) (λ x m. p x (Memᴰ.tail m))
 
 -- ---- the rows of a table, as a list and one by one
 

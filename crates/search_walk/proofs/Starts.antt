@@ -20,7 +20,7 @@ use Rattle.search_index.specs.Index.{Indexed}
 use Rattle.search_store.specs.Held.{state_of, Held, Moved}
 use Rattle.search_walk.specs.Searched.{mask_changes, found_by}
 use Rattle.search_walk.specs.Ready.{Ended, AllFlags}
-use Rattle.search_walk.proofs.Neighbours.{meet_all, rows_flags}
+use Rattle.search_walk.proofs.Neighbours.{meet_all_lem, rows_flags}
 use Rattle.search_walk.proofs.Works.{rest_trans}
 
 abbrev pub none : Progress
@@ -68,7 +68,7 @@ module _ (L : Listing) (room mask : ℕ) (t b f : List ℕ) {t' b' h x : List �
   first_flags F =
       rows_flags L t' s.count
       (rw (ap (λ S. S.found) first_met)
-      (meet_all same_list room 0 (IsFlag L) unbegun f (λ y m. absurd (Memᴰ.not-nil m)) F))
+      (meet_all_lem same_list room 0 (IsFlag L) unbegun f (λ y m. absurd (Memᴰ.not-nil m)) F))
 
   -- and then all are worked
   pub all_found : {t'' b'' h' x' : List ℕ} {r : Progress}
