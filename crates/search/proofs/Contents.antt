@@ -202,7 +202,7 @@ module _ {m : Limits} {L : Listing} {first : List ℕ} {mask : ℕ} (T : Searcha
       all = λ f h. rw rows_are (all_found f h);
       count = counted;
       orientable = iff_trans (orient_one S.place) coloured;
-      not_orientable_lem = iff_trans (orient_none S.place) uncoloured;
+      not_orientable = iff_trans (orient_none S.place) uncoloured;
       place = uncoloured;
       placed = proper.placed;
       event = event;

@@ -185,7 +185,7 @@ module _ {L : Listing} {first : List ℕ} {mask : ℕ} {t b t' b' : List ℕ} {r
       go (yes e) = e ∙ sym (F'.orientable.1 (F.orientable.0 e))
       go (no e) =
           let n : ¬ Colouring (Leads L mask) first = λ c. e (F.orientable.1 c) in
-          F.not_orientable_lem.1 n ∙ sym (F'.not_orientable_lem.1 n)
+          F.not_orientable.1 n ∙ sym (F'.not_orientable.1 n)
 
 -- The count and the place of an answer are determined by the slices.
 pub one_count : {L : Listing} {first : List ℕ} {mask : ℕ} {table bytes t b : List ℕ} {r r' : Searched}

@@ -85,7 +85,7 @@ module _ (L : Listing) (first : List ℕ) (mask : ℕ) (table' bytes' : List ℕ
     pub all : (f : List ℕ) → Reach (Leads L mask) first f → Memᴰ f (rows (rank L + 1) table' r.count)
     pub count : AtLeast r.count (Leads L mask) first × ((n : ℕ) → AtLeast n (Leads L mask) first → n ≤ r.count)
     pub orientable : (r.orientable ≡ 1) ↔ Colouring (Leads L mask) first
-    pub not_orientable_lem : (r.orientable ≡ 0) ↔ (¬ Colouring (Leads L mask) first)
+    pub not_orientable : (r.orientable ≡ 0) ↔ (¬ Colouring (Leads L mask) first)
     pub place : (0 < r.place) ↔ (¬ Colouring (Leads L mask) first)
     pub placed : r.place ≤ r.count
     pub event : 0 < r.place → Repeat L mask row byte r.place

@@ -125,7 +125,7 @@ module _ (L : Listing) (first : List ℕ) (xs : List Float) (table bytes : List 
     coloured e = ⊎_elim (λ z. absurd (eqb-false sides 0 e z)) (λ o. found.orientable.0 o) binary
 
     two_sided : Colouring (Leads L every) first → eqb sides 0 ≡ false
-    two_sided c = ne_eqb sides 0 (λ z. found.not_orientable_lem.0 z c)
+    two_sided c = ne_eqb sides 0 (λ z. found.not_orientable.0 z c)
 
     broken_52 : FirstBroken
         (rule wrong_coordinates (length xs ≡ 3 * count L 1) ∷ rule not_in_metres (AllCoordinates xs) ∷ []) from_52.no
