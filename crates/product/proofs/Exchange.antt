@@ -1,7 +1,7 @@
 -- Two products with the factors exchanged and as much room answer the same, where the factors are valid: the refusals
 -- past 31 go by sizes, and exchanging the factors changes none.
 -- Assumes nothing.
-use mathlib.Core.Path.{◌≡◌, refl, sym, ap, ◌∙◌}
+use mathlib.Core.Path.{◌≡◌, sym, ap, ◌∙◌}
 use mathlib.Core.Bool.{Bool}
 use Prim.Native.Nat.{ℕ}
 use lib.ListN.{length}
@@ -12,7 +12,7 @@ use Rattle.listing.specs.Refusals.{comb_of_point}
 use Rattle.listing.specs.Listing.{Listing, Limits, limits}
 use Rattle.listing_outputs.specs.Output.{short_test, built_of}
 use Rattle.valid.specs.Tests.{is_valid}
-use Rattle.product_closure.specs.Result.{comb_case, result_of}
+use Rattle.product_closure.specs.Result.{result_of}
 use Rattle.product_closure.proofs.Valid.{valid_sound}
 use Rattle.product_closure.proofs.Exchanged.{SameSizes, comb_exchanged, result_exchanged}
 use Rattle.product_sizes.specs.Sizing.{size_test}

@@ -1,6 +1,6 @@
 -- What the builder is asked to write is the layer_product.
 -- Assumes nothing.
-use mathlib.Core.Path.{◌≡◌, refl, sym, ap}
+use mathlib.Core.Path.{◌≡◌, refl, sym, ap, subst}
 use mathlib.Core.Bool.{Bool, true, false}
 use mathlib.Core.List.{List}
 use Prim.Native.Nat.{ℕ, zero, suc, pred, ◌<◌}
@@ -67,8 +67,9 @@ module _ (A B : Layers) (u v : ℕ → ℕ → List ℕ) (a : Agree A u) (b : Ag
 
 paired_alike : {A B M N : Layers} → Alike A M → Alike B N → Alike (paired A B) (paired M N)
 paired_alike {A} {B} {M} {N} a b =
-    rw (alike_layers a, alike_layers b)
-    at (paired_agree A B M.under N.under a.same_under b.same_under)
+    subst (λ (X : Layers). Alike (paired A B) (paired X N)) (alike_layers a)
+    (subst (λ (Y : Layers). Alike (paired A B) (paired (listing_of A M.under) Y)) (alike_layers b)
+    (paired_agree A B M.under N.under a.same_under b.same_under))
 
 -- ---- an element more at an end
 
@@ -106,7 +107,8 @@ module _ (M : Layers) (u : ℕ → ℕ → List ℕ) (a : Agree M u) where
   add_max_agree = record { same_top = refl; same_size = λ r. refl; same_under = add_max_under }
 
 add_max_alike : {M N : Layers} → Alike M N → Alike (add_max M) (add_max N)
-add_max_alike {M} {N} k = rw (alike_layers k) at (add_max_agree M N.under k.same_under)
+add_max_alike {M} {N} k =
+    subst (λ (X : Layers). Alike (add_max M) (add_max X)) (alike_layers k) (add_max_agree M N.under k.same_under)
 
 grown_alike : (min max : Bool) {M N : Layers} → Alike M N → Alike (grown min max M) (grown min max N)
 grown_alike true true k = add_min_alike (add_max_alike k)

@@ -3,7 +3,7 @@
 
 pub mod make;
 
-ghost use Rattle.listing.specs.Listing.{held, limits};
+ghost use Rattle.listing.specs.Listing.{held, limits, listing};
 ghost use Rattle.std.specs.Prelude.{true, false};
 ghost use Rattle.product.specs.Outcome.{Outcome};
 
@@ -24,7 +24,7 @@ pub fn duopyramid(
     ensures { Outcome limits false false
         (held pcounts.entry pends.entry pinc.entry)
         (held qcounts.entry qends.entry qinc.entry)
-        (held counts.entry ends.entry inc.entry) (held counts.exit ends.exit inc.exit) result }
+        (listing counts.old ends.old inc.old) (listing counts.new ends.new inc.new) result }
 {
     make::make(
         false,
@@ -56,7 +56,7 @@ pub fn duoprism(
     ensures { Outcome limits true false
         (held pcounts.entry pends.entry pinc.entry)
         (held qcounts.entry qends.entry qinc.entry)
-        (held counts.entry ends.entry inc.entry) (held counts.exit ends.exit inc.exit) result }
+        (listing counts.old ends.old inc.old) (listing counts.new ends.new inc.new) result }
 {
     make::make(
         true,
@@ -88,7 +88,7 @@ pub fn duotegum(
     ensures { Outcome limits false true
         (held pcounts.entry pends.entry pinc.entry)
         (held qcounts.entry qends.entry qinc.entry)
-        (held counts.entry ends.entry inc.entry) (held counts.exit ends.exit inc.exit) result }
+        (listing counts.old ends.old inc.old) (listing counts.new ends.new inc.new) result }
 {
     make::make(
         false,
@@ -120,7 +120,7 @@ pub fn duocomb(
     ensures { Outcome limits true true
         (held pcounts.entry pends.entry pinc.entry)
         (held qcounts.entry qends.entry qinc.entry)
-        (held counts.entry ends.entry inc.entry) (held counts.exit ends.exit inc.exit) result }
+        (listing counts.old ends.old inc.old) (listing counts.new ends.new inc.new) result }
 {
     make::make(
         true,

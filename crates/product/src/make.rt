@@ -1,6 +1,6 @@
 // The chain of tests, and then the builder, once over the two flags.
 ghost use Rattle.std.specs.Prelude.{◌≡◌, false, ◌||◌, ◌≤◌, eqb, length};
-ghost use Rattle.listing.specs.Listing.{Listing, held, limits, rank};
+ghost use Rattle.listing.specs.Listing.{Listing, held, limits, listing, rank};
 ghost use Rattle.valid.specs.Tests.{is_valid};
 ghost use Rattle.listing.specs.Cells.{nullitope};
 ghost use Rattle.listing_outputs.specs.Output.{built_of, Made};
@@ -69,8 +69,8 @@ fn put_nullitope(counts: &mut [Index], ends: &mut [Index], inc: &[Index]) -> Bui
     ensures { Made
         (size_test limits nullitope (length counts.old) (length ends.old)
         (length inc.now))
-        nullitope (held counts.entry ends.entry inc.entry)
-        (held counts.exit ends.exit inc.entry) result }
+        nullitope (listing counts.old ends.old inc.now)
+        (listing counts.new ends.new inc.now) result }
 {
     let s = Totals {
         ranks: 1,
@@ -115,7 +115,7 @@ fn product(
         (length counts.old) (length ends.old) (length inc.old))
         (product_of min max (held pcounts.entry pends.entry pinc.entry)
         (held qcounts.entry qends.entry qinc.entry))
-        (held counts.entry ends.entry inc.entry) (held counts.exit ends.exit inc.exit) result }
+        (listing counts.old ends.old inc.old) (listing counts.new ends.new inc.new) result }
 {
     let poles = Poles { min, max };
     let u = sizes::extent_of(poles, pcounts, pends, pinc);
@@ -169,7 +169,7 @@ fn product_of_valid(
         (length counts.old) (length ends.old) (length inc.old))
         (result_of min max (held pcounts.entry pends.entry pinc.entry)
         (held qcounts.entry qends.entry qinc.entry))
-        (held counts.entry ends.entry inc.entry) (held counts.exit ends.exit inc.exit) result }
+        (listing counts.old ends.old inc.old) (listing counts.new ends.new inc.new) result }
 {
     let p = pcounts.len() - 1;
     let q = qcounts.len() - 1;
@@ -226,7 +226,7 @@ pub fn make(
     ensures { Outcome limits min max
         (held pcounts.entry pends.entry pinc.entry)
         (held qcounts.entry qends.entry qinc.entry)
-        (held counts.entry ends.entry inc.entry) (held counts.exit ends.exit inc.exit) result }
+        (listing counts.old ends.old inc.old) (listing counts.new ends.new inc.new) result }
 {
     let t = factors::check_factors(pcounts, pends, pinc, qcounts, qends, qinc);
     if t.no != 0 {
