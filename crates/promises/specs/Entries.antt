@@ -11,8 +11,11 @@
 -- PassesOn    whatever one contract admits another admits too, for the same arguments
 -- PassesAs    whatever one contract admits is, as f has it, an answer that another admits, for the same arguments
 -- Slice       a lent slice of numbers
+-- Written     a slice of numbers that is lent to be written
 -- Three       three slices, and the parameters after them
+-- ThreeWritten three slices that are lent to be written, and the parameters after them
 -- lent        the listing in the first three parameters
+-- in_written  the listing in three slices that are lent to be written
 -- right       the right factor of a product, in the next three; the left one is in the first three
 -- outputs     the three output slices of a product
 -- flag        the flag of a change or a search, in the fourth parameter
@@ -25,7 +28,7 @@
 -- read_into    the three slices that it is read into, in the next three
 -- written_into the slice that a text is written into, in the fourth parameter
 use Rattle.std.specs.Prelude.{◌≡◌, List, ℕ, Float}
-use Rattle.std.specs.Borrow.{Bor}
+use Rattle.std.specs.Borrow.{Bor, MutBor}
 use Rattle.listing.specs.Listing.{Listing, listing}
 
 module _ {K A : Type 0} (R : K → A → Type 0) where
@@ -72,8 +75,14 @@ module _ {K A B C X : Type 0} (f : C → B) (P : K → A → B → X → Type 0)
 abbrev pub Slice : Type 0
 Slice = Bor (List ℕ)
 
+abbrev pub Written : Type 0
+Written = MutBor (List ℕ)
+
 abbrev pub Three : Type 0 → Type 0
 Three A = Slice × (Slice × (Slice × A))
+
+abbrev pub ThreeWritten : Type 0 → Type 0
+ThreeWritten A = Written × (Written × (Written × A))
 
 module _ {A : Type 0} where
   abbrev pub lent : Three A → Listing
@@ -82,8 +91,11 @@ module _ {A : Type 0} where
   abbrev pub right : Three (Three A) → Listing
   right a = lent a.1.1.1
 
-  abbrev pub outputs : Three (Three (Three A)) → Listing
-  outputs a = right a.1.1.1
+  abbrev pub in_written : ThreeWritten A → Listing
+  in_written a = listing a.0.now a.1.0.now a.1.1.0.now
+
+  abbrev pub outputs : Three (Three (ThreeWritten A)) → Listing
+  outputs a = in_written a.1.1.1.1.1.1
 
   abbrev pub flag : Three (Slice × A) → List ℕ
   flag a = a.1.1.1.0.now
@@ -94,20 +106,20 @@ module _ {A : Type 0} where
   abbrev pub metres : Three (Slice × (Bor (List Float) × A)) → List Float
   metres a = a.1.1.1.1.0.now
 
-  abbrev pub tables : {B : Type 0} → Three (Slice × (B × (Slice × (Slice × A)))) → List ℕ × List ℕ
+  abbrev pub tables : {B : Type 0} → Three (Slice × (B × (Written × (Written × A)))) → List ℕ × List ℕ
   tables a = (a.1.1.1.1.1.0.now, a.1.1.1.1.1.1.0.now)
 
-  abbrev pub body_tables : Three (Slice × (Slice × A)) → List ℕ × List ℕ
+  abbrev pub body_tables : Three (Written × (Written × A)) → List ℕ × List ℕ
   body_tables a = (a.1.1.1.0.now, a.1.1.1.1.0.now)
 
-  abbrev pub turned_into : Three (Three A) → Listing
-  turned_into a = lent a.1.1.1
+  abbrev pub turned_into : Three (ThreeWritten A) → Listing
+  turned_into a = in_written a.1.1.1
 
   abbrev pub lent_text : Slice × A → List ℕ
   lent_text a = a.0.now
 
-  abbrev pub read_into : Slice × Three A → Listing
-  read_into a = lent a.1
+  abbrev pub read_into : Slice × ThreeWritten A → Listing
+  read_into a = in_written a.1
 
-  abbrev pub written_into : Three (Slice × A) → List ℕ
+  abbrev pub written_into : Three (Written × A) → List ℕ
   written_into a = a.1.1.1.0.now

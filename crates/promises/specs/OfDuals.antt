@@ -30,18 +30,18 @@ use Rattle.product.proofs.duopyramid.Reads as duopyramid
 use Rattle.product.proofs.duoprism.Reads as duoprism
 use Rattle.product.proofs.duotegum.Reads as duotegum
 use Rattle.product.proofs.duocomb.Reads as duocomb
-use Rattle.promises.specs.Entries.{Takes, Says, SaysOfTwo, Call, OneOutcome, Three, lent, right, outputs}
+use Rattle.promises.specs.Entries.{Takes, Says, SaysOfTwo, Call, OneOutcome, Three, ThreeWritten, lent, right, outputs}
 use Rattle.promises.specs.Entries.{turned_into}
 
 abbrev pub turned_by : Call dual.Post → Listing
 turned_by c = prefix (turned_into c.exit) c.answer
 
-module _ {K A X : Type 0} {P : K → A → Built → Three (Three (Three X)) → Type 0} where
+module _ {K A X : Type 0} {P : K → A → Built → Three (Three (ThreeWritten X)) → Type 0} where
   abbrev pub built_by : Call P → Listing
   built_by c = prefix (outputs c.exit) c.answer
 
-module _ {K L A C X Y : Type 0} {P : K → Three (Three (Three A)) → Built → Three (Three (Three X)) → Type 0}
-    {Q : L → Three (Three (Three C)) → Built → Three (Three (Three Y)) → Type 0} where
+module _ {K L A C X Y : Type 0} {P : K → Three (Three (ThreeWritten A)) → Built → Three (Three (ThreeWritten X)) → Type 0}
+    {Q : L → Three (Three (ThreeWritten C)) → Built → Three (Three (ThreeWritten Y)) → Type 0} where
   pub record BothSides (p : Call P) (d a b : Call dual.Post) (q : Call Q) : Type 0 where
     pub built : p.answer.answer.no ≡ 0
     pub of_built : lent d.args ≡ built_by p
@@ -54,8 +54,8 @@ module _ {K L A C X Y : Type 0} {P : K → Three (Three (Three A)) → Built →
     pub turned_built : q.answer.answer.no ≡ 0
 
 module _ {K L A C X Y : Type 0} (min max : Bool)
-    (P : K → Three (Three (Three A)) → Built → Three (Three (Three X)) → Type 0)
-    (Q : L → Three (Three (Three C)) → Built → Three (Three (Three Y)) → Type 0) where
+    (P : K → Three (Three (ThreeWritten A)) → Built → Three (Three (ThreeWritten X)) → Type 0)
+    (Q : L → Three (Three (ThreeWritten C)) → Built → Three (Three (ThreeWritten Y)) → Type 0) where
   abbrev pub Turns : Type 0
   Turns = (p : Call P) (d a b : Call dual.Post) (q : Call Q) → BothSides p d a b q
       → TurnedOver min max (lent p.args) (right p.args) (turned_by a) (turned_by b) (turned_by d) (built_by q)

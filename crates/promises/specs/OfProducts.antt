@@ -20,7 +20,7 @@ use Rattle.product.proofs.duoprism.Reads as duoprism
 use Rattle.product.proofs.duotegum.Reads as duotegum
 use Rattle.product.proofs.duocomb.Reads as duocomb
 use Rattle.product.proofs.make.make.Reads as make
-use Rattle.promises.specs.Entries.{Takes, Says, SaysOfTwo, OneOutcome, Three, lent, right, outputs}
+use Rattle.promises.specs.Entries.{Takes, Says, SaysOfTwo, OneOutcome, Three, ThreeWritten, lent, right, outputs}
 use Rattle.promises.specs.Products.{Produces, Kept, Exchange}
 
 module _ {K A X : Type 0} where
@@ -28,7 +28,7 @@ module _ {K A X : Type 0} where
   Carries P = Says P (λ a r x. r.answer ≡ plain r.answer.no)
 
 module _ {K A X : Type 0} (min max : Bool)
-    (P : K → Three (Three (Three A)) → Built → Three (Three (Three X)) → Type 0) where
+    (P : K → Three (Three (ThreeWritten A)) → Built → Three (Three (ThreeWritten X)) → Type 0) where
   abbrev pub Makes : Type 0
   Makes = Says P (λ a r x. Produces min max (lent a) (right a) (outputs a) (outputs x) r)
 
