@@ -1,4 +1,4 @@
-use Prim.Native.Nat.{◌+◌, ◌-◌, ◌<◌}
+use Prim.Native.Nat.{◌+◌, ◌<◌}
 use native.Mathlib.Omega.{arith}
 use borrow.Author.Rules.{rules}
 use lib.ListN.{drop}
@@ -6,7 +6,7 @@ use Rattle.order.specs.Sums.{sum_over}
 use Rattle.order.proofs.Positions.{in_at}
 use Rattle.order.proofs.Sums.{sum_over_end, sum_over_next}
 use Rattle.listing.specs.Listing.{limits}
-use Rattle.body_count.specs.Capped.{capped, number_at}
+use Rattle.body_count.specs.Capped.{number_at}
 use Rattle.body_count.proofs.Capped.{capped_turn}
 use Rattle.body_count.proofs.chains.sum_of.Goals as goal
 

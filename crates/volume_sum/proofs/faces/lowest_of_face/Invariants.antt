@@ -2,7 +2,7 @@
 -- Assumes nothing.
 use Prim.Native.Nat.{◌-◌, ◌≤◌}
 use lib.ListN.{length}
-use Rattle.listing.specs.Listing.{listing, count}
+use Rattle.listing.specs.Listing.{listing}
 use Rattle.volume_sum.proofs.Edges.{LowestAmong}
 use Rattle.volume_sum.proofs.faces.lowest_of_face.Given as goal
 
