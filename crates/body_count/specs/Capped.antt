@@ -1,12 +1,12 @@
 -- Counts of chains that stop at one more than the most flags that a search can have room for.
 --
--- most          where they stop
--- capped        a number, or that where it is larger
+-- most           where they stop
+-- capped         a number, or that where it is larger
 -- number_at      the number of element x of the rank that begins at place b
--- Capped        no number of an array is larger than that
--- CountedBelow  an array with a number for each element that there can be, none too large, has at the place of each
---               element of the ranks below r, and of the first i of rank r, how many chains lead to it, or `most`
---               where these are more
+-- Capped         no number of an array is larger than that
+-- CountedBelow   an array with a number for each element that there can be, none too large, has at the place of each
+--                element of the ranks below r, and of the first i of rank r, how many chains lead to it, or `most`
+--                where these are more
 use Rattle.std.specs.Prelude.{◌≡◌, List, ℕ, ◌+◌, ◌≤◌, ◌<◌, min, length, get_or}
 use Rattle.order.specs.Lists.{Earlier}
 use Rattle.listing.specs.Listing.{Listing, limits, count, before}

@@ -1,5 +1,5 @@
 -- The chains that lead up to an element, one after another in a list: it has them all, each once, and is as long as
--- `chainsTo` says.
+-- `chains_to` says.
 -- Assumes nothing.
 use mathlib.Core.Path.{◌≡◌, refl, sym, ap, ◌∙◌}
 use mathlib.Core.Logic.{◌↔◌, inl, inr, ⊎_elim}

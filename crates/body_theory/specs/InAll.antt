@@ -1,8 +1,8 @@
 -- How many flags a listing has in all.
 --
--- chains_to     how many chains lead from rank 0 up to element i of rank r, each element a sub of the next
+-- chains_to      how many chains lead from rank 0 up to element i of rank r, each element a sub of the next
 -- flags_in_all   how many lead up to the maximal element: of a closed listing, its flags
--- ManyFlags    there are n different flags, or more
+-- ManyFlags      there are n different flags, or more
 use Rattle.std.specs.Prelude.{◌≡◌, ℕ, zero, suc, length}
 use mathlib.Core.List.{List, Memᴰ}
 use Rattle.order.specs.Sums.{sum_over}

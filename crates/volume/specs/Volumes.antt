@@ -1,13 +1,13 @@
 -- What six_volume answers. In the table and the orientations it leaves what a search with every change leaves.
 --
--- number_of           the number of an answer: 0 for a volume, else the refusal's
--- six_fold            six times the volume; +0.0 on a refusal
--- measured_of         an answer as these two numbers
--- volume_test         the refusals in their order: that of a search with every change that answered s, then 50, 51, 52,
---                    53
--- volume_as           the answer by its refusal: a refusal's number, or a volume as a float
--- volume_by           the answer, with a table and orientations lent: the volume is the whole number `sixOf`, over the
---                    even flags found, and where it is 0, the positive zero
+-- number_of            the number of an answer: 0 for a volume, else the refusal's
+-- six_fold             six times the volume; +0.0 on a refusal
+-- measured_of          an answer as these two numbers
+-- volume_test          the refusals in their order: that of a search with every change that answered s, then 50, 51,
+--                      52, 53
+-- volume_as            the answer by its refusal: a refusal's number, or a volume as a float
+-- volume_by            the answer, with a table and orientations lent: the volume is the whole number `six_of`, over
+--                      the even flags found, and where it is 0, the positive zero
 -- volume_table_after   what the table holds afterwards
 -- volume_bytes_after   what the orientations are afterwards
 use Rattle.std.specs.Prelude.{not, List, ℕ, ◌-◌, ◌*◌, eqb, length, get_or, pos, Float}

@@ -1,16 +1,16 @@
 -- Sums, differences and products of coordinates as formulas, so that it can be said of each step of working one out
 -- that it is not rounded.
 --
--- Operation    a sum, a difference, a product
+-- Operation     a sum, a difference, a product
 -- float_by      an operation on two floats, rounded as IEEE 754 says
 -- whole_by      an operation on two integers
--- Formula      nothing, an empty sum; a coordinate, by its place in a list; an operation on two formulas
+-- Formula       nothing, an empty sum; a coordinate, by its place in a list; an operation on two formulas
 -- in_floats     a formula worked out in floats
 -- in_whole      and over the integers
 -- most_exact    every integer up to this size is a float
--- Exact        a float is an integer, smaller in size than that
--- NoRounding   so it is at each step of working a formula out: the integer is what that step gives over the integers
--- minor        two coordinates of two vertices multiplied crosswise, and subtracted
+-- Exact         a float is an integer, smaller in size than that
+-- NoRounding    so it is at each step of working a formula out: the integer is what that step gives over the integers
+-- minor         two coordinates of two vertices multiplied crosswise, and subtracted
 -- det_formula   the determinant of where three vertices stand
 -- det_in        the determinant of three points, worked out in floats
 -- running_sum   formulas added to a first one, one after another

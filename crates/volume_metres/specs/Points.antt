@@ -1,8 +1,8 @@
 -- Where vertices stand, and the determinant of three places.
 --
--- Site      a place, or a move, in whole metres
--- det       the determinant of three places
--- moved     a place moved by so many metres
+-- Site       a place, or a move, in whole metres
+-- det        the determinant of three places
+-- moved      a place moved by so many metres
 -- site_of    where vertex v stands, by coordinates that have three numbers for each vertex
 -- point_of   the same in floats
 use Rattle.std.specs.Prelude.{ℕ, ◌+◌, ◌*◌, List, ℤ, ◌+ℤ◌, ◌-ℤ◌, ◌*ℤ◌, slice_index_or, Float}

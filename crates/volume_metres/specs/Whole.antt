@@ -1,12 +1,12 @@
 -- Floats that are whole numbers, and coordinates: whole metres, from -1,000 to 1,000.
 --
--- signed           a number with a sign, minus where it is true
--- IsWhole          a float is finite and is the whole number z; a zero may have either sign
--- farthest         how many metres from 0 a coordinate may lie
--- IsCoordinate     a float is a whole number, not farther than that from 0
--- coordinate       whether it is, by looking
+-- signed            a number with a sign, minus where it is true
+-- IsWhole           a float is finite and is the whole number z; a zero may have either sign
+-- farthest          how many metres from 0 a coordinate may lie
+-- IsCoordinate      a float is a whole number, not farther than that from 0
+-- coordinate        whether it is, by looking
 -- metres_of         the whole number that a coordinate is
--- AllCoordinates   every float of a list is a coordinate
+-- AllCoordinates    every float of a list is a coordinate
 -- all_coordinates   whether that is so, by looking
 use Rattle.std.specs.Prelude.{◌≡◌, ℕ, ◌*◌, ◌/◌, ◌%◌, ◌<◌, ◌≤◌, Bool, true, false, ◌&&◌, List, length, ℤ, pos, neg_ℤ, ◌==◌, nat_le, slice_index_or, unsigned_abs, Float}
 use Rattle.std.specs.Float.{nan, inf, fin}

@@ -1,4 +1,4 @@
--- What flags add, worked out in floats: no step is rounded, and the result is the integer `sixOf` as a float, the
+-- What flags add, worked out in floats: no step is rounded, and the result is the integer `six_of` as a float, the
 -- positive zero where it is 0.
 -- Assumes nothing.
 use mathlib.Core.Path.{◌≡◌, refl, ap, ap₂, ◌∙◌}

@@ -8,13 +8,13 @@
 -- other_vertex   the other vertex of its edge: what the change at rank 1 puts in
 -- lowest_of      the lowest-numbered vertex of a face: the least that a walk along its edges meets
 -- part_of        what a flag adds: the determinant of where the lowest vertex of its face, its vertex and the other
---               vertex of its edge stand
+--                vertex of its edge stand
 -- six_of         what flags add together
 -- part_formula   what a flag adds, as a formula
 -- six_formula    what flags add, as a formula: one after another, to nothing
--- OtherEnd      w is the other vertex of edge e beside v: both lie in e, and nothing else does
--- LowestIn      v is the lowest-numbered vertex of face i
--- Shifted       a second list of coordinates has each vertex moved by t from where the first has it
+-- OtherEnd       w is the other vertex of edge e beside v: both lie in e, and nothing else does
+-- LowestIn       v is the lowest-numbered vertex of face i
+-- Shifted        a second list of coordinates has each vertex moved by t from where the first has it
 use Rattle.std.specs.Prelude.{◌≡◌, ◌≢◌, ◌⊎◌, List, map, ℕ, ◌≤◌, ◌<◌, get_or, ℤ, Float}
 use Rattle.order.specs.Lists.{In, least_of}
 use Rattle.order.specs.Sums.{add_up}
