@@ -1,5 +1,5 @@
 // The C boundary: each function passes its numbers and slices on to the entry of its name. The class, the sign, the next
-// event and the volume cross as numbers. A slice crosses as a pointer and a length. Nothing is decided here.
+// event and the volume cross as numbers. Nothing is decided here. The crate flumedrac_c exports these functions to C.
 #![tactic(auto)]
 
 ghost use Rattle.std.specs.Prelude.{◌≡◌, true, false, length};
@@ -29,87 +29,70 @@ use search_events::{Cursor, Said};
 use text::Written;
 use volume::Measured;
 
-#[unsafe(no_mangle)]
-pub extern "C" fn fd_rank(counts: &[Index]) -> Number
+pub fn fd_rank(counts: &[Index]) -> Number
     ensures { result ≡ rank_of counts.now }
 {
     listing_shape::rank(counts)
 }
 
-#[unsafe(no_mangle)]
-pub extern "C" fn fd_el_count(counts: &[Index], rank: usize) -> Number
+pub fn fd_el_count(counts: &[Index], rank: usize) -> Number
     ensures { result ≡ el_count_of counts.now rank }
 {
     listing_shape::el_count(counts, rank)
 }
 
-#[unsafe(no_mangle)]
-pub extern "C" fn fd_vertex_count(counts: &[Index]) -> Number
+pub fn fd_vertex_count(counts: &[Index]) -> Number
     ensures { result ≡ vertex_count_of counts.now }
 {
     listing_shape::vertex_count(counts)
 }
 
-#[unsafe(no_mangle)]
-pub extern "C" fn fd_facet_count(counts: &[Index]) -> Number
+pub fn fd_facet_count(counts: &[Index]) -> Number
     ensures { result ≡ facet_count_of counts.now }
 {
     listing_shape::facet_count(counts)
 }
 
 // The class of a refusal's number: 0 nothing, 1 shape, 2 structure, 3 flags, 4 products.
-#[unsafe(no_mangle)]
-pub extern "C" fn fd_class(no: u16) -> u16
+pub fn fd_class(no: u16) -> u16
     ensures { result ≡ band_no (band no) }
 {
     listing_shape::band_number(listing_shape::class(no))
 }
 
-#[unsafe(no_mangle)]
-pub extern "C" fn fd_bounded(counts: &[Index], ends: &[Index], inc: &[Index]) -> Answer
+pub fn fd_bounded(counts: &[Index], ends: &[Index], inc: &[Index]) -> Answer
     ensures { result ≡ tests.bounded limits (held counts.entry ends.entry inc.entry) }
 {
     valid::bounded(counts, ends, inc)
 }
 
-#[unsafe(no_mangle)]
-pub extern "C" fn fd_check_incidences(counts: &[Index], ends: &[Index], inc: &[Index]) -> Answer
+pub fn fd_check_incidences(counts: &[Index], ends: &[Index], inc: &[Index]) -> Answer
     ensures { result ≡ tests.check_incidences limits
         (held counts.entry ends.entry inc.entry) }
 {
     valid::check_incidences(counts, ends, inc)
 }
 
-#[unsafe(no_mangle)]
-pub extern "C" fn fd_is_dyadic(counts: &[Index], ends: &[Index], inc: &[Index]) -> Answer
+pub fn fd_is_dyadic(counts: &[Index], ends: &[Index], inc: &[Index]) -> Answer
     ensures { result ≡ tests.is_dyadic limits
         (held counts.entry ends.entry inc.entry) }
 {
     valid::is_dyadic(counts, ends, inc)
 }
 
-#[unsafe(no_mangle)]
-pub extern "C" fn fd_is_valid(counts: &[Index], ends: &[Index], inc: &[Index]) -> Answer
+pub fn fd_is_valid(counts: &[Index], ends: &[Index], inc: &[Index]) -> Answer
     ensures { result ≡ tests.is_valid limits (held counts.entry ends.entry inc.entry) }
 {
     valid::is_valid(counts, ends, inc)
 }
 
-#[unsafe(no_mangle)]
-pub extern "C" fn fd_closed(counts: &[Index], ends: &[Index], inc: &[Index]) -> Answer
+pub fn fd_closed(counts: &[Index], ends: &[Index], inc: &[Index]) -> Answer
     ensures { result ≡ tests.closed limits (held counts.entry ends.entry inc.entry) }
 {
     valid::closed(counts, ends, inc)
 }
 
-#[unsafe(no_mangle)]
-pub extern "C" fn fd_change(
-    counts: &[Index],
-    ends: &[Index],
-    inc: &[Index],
-    flag: &[Index],
-    r: u16,
-) -> Changed
+pub fn fd_change(counts: &[Index], ends: &[Index], inc: &[Index], flag: &[Index], r: u16) -> Changed
     ensures { result ≡ changed_of limits (held counts.entry ends.entry inc.entry)
         flag.now r }
 {
@@ -117,8 +100,7 @@ pub extern "C" fn fd_change(
 }
 
 // Writes the table and the orientations, which overlap no other slice that is lent here.
-#[unsafe(no_mangle)]
-pub extern "C" fn fd_search(
+pub fn fd_search(
     counts: &[Index],
     ends: &[Index],
     inc: &[Index],
@@ -140,8 +122,7 @@ pub extern "C" fn fd_search(
 }
 
 // Writes the table and the orientations, which overlap no other slice that is lent here.
-#[unsafe(no_mangle)]
-pub extern "C" fn fd_one_body(
+pub fn fd_one_body(
     counts: &[Index],
     ends: &[Index],
     inc: &[Index],
@@ -160,8 +141,7 @@ pub extern "C" fn fd_one_body(
 
 // Writes the table and the orientations, which overlap no other slice that is lent here. The answer crosses as two
 // numbers.
-#[unsafe(no_mangle)]
-pub extern "C" fn fd_six_volume(
+pub fn fd_six_volume(
     counts: &[Index],
     ends: &[Index],
     inc: &[Index],
@@ -182,24 +162,21 @@ pub extern "C" fn fd_six_volume(
 }
 
 // The sign of an orientation byte: 1.0 for 0, -1.0 for any other.
-#[unsafe(no_mangle)]
-pub extern "C" fn fd_sign(orientation: u8) -> f64
+pub fn fd_sign(orientation: u8) -> f64
     ensures { result ≡ sign_of (of_byte orientation) }
 {
     flag::Orientation::of_byte(orientation).sign()
 }
 
 // The next event as two numbers; the cursor goes on, and stays past the last.
-#[unsafe(no_mangle)]
-pub extern "C" fn fd_next_event(c: &mut Cursor, count: u16, place: u16) -> Said
+pub fn fd_next_event(c: &mut Cursor, count: u16, place: u16) -> Said
     ensures { SaidStep c.old.at count place c.new.at result }
 {
     search_events::numbers(search_events::next_event(c, count, place))
 }
 
 // Each product writes the last three slices, which overlap no other slice that is lent here.
-#[unsafe(no_mangle)]
-pub extern "C" fn fd_duopyramid(
+pub fn fd_duopyramid(
     pcounts: &[Index],
     pends: &[Index],
     pinc: &[Index],
@@ -220,8 +197,7 @@ pub extern "C" fn fd_duopyramid(
     )
 }
 
-#[unsafe(no_mangle)]
-pub extern "C" fn fd_duoprism(
+pub fn fd_duoprism(
     pcounts: &[Index],
     pends: &[Index],
     pinc: &[Index],
@@ -242,8 +218,7 @@ pub extern "C" fn fd_duoprism(
     )
 }
 
-#[unsafe(no_mangle)]
-pub extern "C" fn fd_duotegum(
+pub fn fd_duotegum(
     pcounts: &[Index],
     pends: &[Index],
     pinc: &[Index],
@@ -264,8 +239,7 @@ pub extern "C" fn fd_duotegum(
     )
 }
 
-#[unsafe(no_mangle)]
-pub extern "C" fn fd_duocomb(
+pub fn fd_duocomb(
     pcounts: &[Index],
     pends: &[Index],
     pinc: &[Index],
@@ -287,8 +261,7 @@ pub extern "C" fn fd_duocomb(
 }
 
 // The dual: writes the last three slices, which overlap no other slice that is lent here.
-#[unsafe(no_mangle)]
-pub extern "C" fn fd_dual(
+pub fn fd_dual(
     pcounts: &[Index],
     pends: &[Index],
     pinc: &[Index],
@@ -303,8 +276,7 @@ pub extern "C" fn fd_dual(
 }
 
 // Reads a text, and writes the last three slices, which overlap no other slice that is lent here.
-#[unsafe(no_mangle)]
-pub extern "C" fn fd_read_text(
+pub fn fd_read_text(
     text: &[u8],
     counts: &mut [Index],
     ends: &mut [Index],
@@ -319,21 +291,14 @@ pub extern "C" fn fd_read_text(
     text::read_text(text, counts, ends, inc)
 }
 
-#[unsafe(no_mangle)]
-pub extern "C" fn fd_check_text(text: &[u8]) -> u16
+pub fn fd_check_text(text: &[u8]) -> u16
     ensures { result ≡ (check_test limits text.now).no }
 {
     text::check_text(text)
 }
 
 // Writes the last slice, which overlaps no other slice that is lent here.
-#[unsafe(no_mangle)]
-pub extern "C" fn fd_write_text(
-    counts: &[Index],
-    ends: &[Index],
-    inc: &[Index],
-    text: &mut [u8],
-) -> Written
+pub fn fd_write_text(counts: &[Index], ends: &[Index], inc: &[Index], text: &mut [u8]) -> Written
     ensures { TextMade
         (write_test limits (held counts.entry ends.entry inc.entry) (length text.old))
         (text_of (layers (held counts.entry ends.entry inc.entry))) text.old text.new result }

@@ -1,0 +1,390 @@
+// What C links: each function of the crate flumedrac under its name, with its clauses. A slice crosses as a pointer and a
+// length. Nothing is decided here.
+#![tactic(auto)]
+
+ghost use Rattle.std.specs.Prelude.{◌≡◌, true, false, length};
+ghost use Rattle.listing.specs.Refusals.{band, band_no};
+ghost use Rattle.listing_shape.specs.Counts.{rank_of, el_count_of, vertex_count_of, facet_count_of};
+ghost use Rattle.listing.specs.Listing.{listing, held, limits};
+ghost use Rattle.listing.specs.Layers.{layers};
+ghost use Rattle.listing_outputs.specs.Output.{Made};
+ghost use Rattle.valid.specs.Tests as tests;
+ghost use Rattle.product.specs.Outcome.{Outcome};
+ghost use Rattle.text_theory.specs.Text.{text_of};
+ghost use Rattle.text_theory.specs.Said.{listing_in};
+ghost use Rattle.text.specs.Texts.{read_test, check_test};
+ghost use Rattle.text.specs.WrittenTexts.{write_test, TextMade};
+ghost use Rattle.flag.specs.Changed.{changed_of};
+ghost use Rattle.search_events.specs.Events.{SaidStep};
+ghost use Rattle.flag.specs.Orientations.{of_byte, sign_of};
+ghost use Rattle.search.specs.SearchedBy.{searched_by, table_after, bytes_after};
+ghost use Rattle.body.specs.Body.{body_by, body_table_after, body_bytes_after};
+ghost use Rattle.dual.specs.Duals.{DualMade};
+ghost use Rattle.volume.specs.Volumes.{volume_by, volume_table_after, volume_bytes_after, measured_of};
+
+use flag::Changed;
+use listing::{Answer, Built, Index, Number};
+use search::Searched;
+use search_events::{Cursor, Said};
+use text::Written;
+use volume::Measured;
+
+#[unsafe(no_mangle)]
+pub extern "C" fn fd_rank(counts: &[Index]) -> Number
+    ensures { result ≡ rank_of counts.now }
+{
+    flumedrac::fd_rank(counts)
+}
+
+#[unsafe(no_mangle)]
+pub extern "C" fn fd_el_count(counts: &[Index], rank: usize) -> Number
+    ensures { result ≡ el_count_of counts.now rank }
+{
+    flumedrac::fd_el_count(counts, rank)
+}
+
+#[unsafe(no_mangle)]
+pub extern "C" fn fd_vertex_count(counts: &[Index]) -> Number
+    ensures { result ≡ vertex_count_of counts.now }
+{
+    flumedrac::fd_vertex_count(counts)
+}
+
+#[unsafe(no_mangle)]
+pub extern "C" fn fd_facet_count(counts: &[Index]) -> Number
+    ensures { result ≡ facet_count_of counts.now }
+{
+    flumedrac::fd_facet_count(counts)
+}
+
+// The class of a refusal's number: 0 nothing, 1 shape, 2 structure, 3 flags, 4 products.
+#[unsafe(no_mangle)]
+pub extern "C" fn fd_class(no: u16) -> u16
+    ensures { result ≡ band_no (band no) }
+{
+    flumedrac::fd_class(no)
+}
+
+#[unsafe(no_mangle)]
+pub extern "C" fn fd_bounded(counts: &[Index], ends: &[Index], inc: &[Index]) -> Answer
+    ensures { result ≡ tests.bounded limits (held counts.entry ends.entry inc.entry) }
+{
+    flumedrac::fd_bounded(counts, ends, inc)
+}
+
+#[unsafe(no_mangle)]
+pub extern "C" fn fd_check_incidences(counts: &[Index], ends: &[Index], inc: &[Index]) -> Answer
+    ensures { result ≡ tests.check_incidences limits
+        (held counts.entry ends.entry inc.entry) }
+{
+    flumedrac::fd_check_incidences(counts, ends, inc)
+}
+
+#[unsafe(no_mangle)]
+pub extern "C" fn fd_is_dyadic(counts: &[Index], ends: &[Index], inc: &[Index]) -> Answer
+    ensures { result ≡ tests.is_dyadic limits
+        (held counts.entry ends.entry inc.entry) }
+{
+    flumedrac::fd_is_dyadic(counts, ends, inc)
+}
+
+#[unsafe(no_mangle)]
+pub extern "C" fn fd_is_valid(counts: &[Index], ends: &[Index], inc: &[Index]) -> Answer
+    ensures { result ≡ tests.is_valid limits (held counts.entry ends.entry inc.entry) }
+{
+    flumedrac::fd_is_valid(counts, ends, inc)
+}
+
+#[unsafe(no_mangle)]
+pub extern "C" fn fd_closed(counts: &[Index], ends: &[Index], inc: &[Index]) -> Answer
+    ensures { result ≡ tests.closed limits (held counts.entry ends.entry inc.entry) }
+{
+    flumedrac::fd_closed(counts, ends, inc)
+}
+
+#[unsafe(no_mangle)]
+pub extern "C" fn fd_change(
+    counts: &[Index],
+    ends: &[Index],
+    inc: &[Index],
+    flag: &[Index],
+    r: u16,
+) -> Changed
+    ensures { result ≡ changed_of limits (held counts.entry ends.entry inc.entry)
+        flag.now r }
+{
+    flumedrac::fd_change(counts, ends, inc, flag, r)
+}
+
+// Writes the table and the orientations, which overlap no other slice that is lent here.
+#[unsafe(no_mangle)]
+pub extern "C" fn fd_search(
+    counts: &[Index],
+    ends: &[Index],
+    inc: &[Index],
+    first: &[Index],
+    mask: u16,
+    table: &mut [Index],
+    orientations: &mut [u8],
+) -> Searched
+    ensures value { result ≡ searched_by limits (held counts.entry ends.entry inc.entry)
+        first.now mask table.old orientations.old }
+    ensures table_after { table.new ≡ table_after limits
+        (held counts.entry ends.entry inc.entry) first.now mask
+        table.old orientations.old }
+    ensures orientations_after { orientations.new ≡ bytes_after limits
+        (held counts.entry ends.entry inc.entry) first.now mask
+        table.old orientations.old }
+{
+    flumedrac::fd_search(
+        counts,
+        ends,
+        inc,
+        first,
+        mask,
+        &mut *table,
+        &mut *orientations,
+    )
+}
+
+// Writes the table and the orientations, which overlap no other slice that is lent here.
+#[unsafe(no_mangle)]
+pub extern "C" fn fd_one_body(
+    counts: &[Index],
+    ends: &[Index],
+    inc: &[Index],
+    table: &mut [Index],
+    orientations: &mut [u8],
+) -> Searched
+    ensures value { result ≡ body_by limits (held counts.entry ends.entry inc.entry) table.old
+        orientations.old }
+    ensures table_after { table.new ≡ body_table_after limits (held counts.entry ends.entry inc.entry)
+        table.old orientations.old }
+    ensures orientations_after { orientations.new ≡ body_bytes_after limits (held counts.entry ends.entry inc.entry)
+        table.old orientations.old }
+{
+    flumedrac::fd_one_body(counts, ends, inc, &mut *table, &mut *orientations)
+}
+
+// Writes the table and the orientations, which overlap no other slice that is lent here. The answer crosses as two
+// numbers.
+#[unsafe(no_mangle)]
+pub extern "C" fn fd_six_volume(
+    counts: &[Index],
+    ends: &[Index],
+    inc: &[Index],
+    first: &[Index],
+    coordinates: &[f64],
+    table: &mut [Index],
+    orientations: &mut [u8],
+) -> Measured
+    ensures value { result ≡ measured_of (volume_by limits (held counts.entry ends.entry inc.entry)
+        first.now coordinates.now table.old orientations.old) }
+    ensures table_after { table.new ≡ volume_table_after limits (held counts.entry ends.entry inc.entry)
+        first.now table.old orientations.old }
+    ensures orientations_after { orientations.new ≡ volume_bytes_after limits
+        (held counts.entry ends.entry inc.entry) first.now table.old
+        orientations.old }
+{
+    flumedrac::fd_six_volume(
+        counts,
+        ends,
+        inc,
+        first,
+        coordinates,
+        &mut *table,
+        &mut *orientations,
+    )
+}
+
+// The sign of an orientation byte: 1.0 for 0, -1.0 for any other.
+#[unsafe(no_mangle)]
+pub extern "C" fn fd_sign(orientation: u8) -> f64
+    ensures { result ≡ sign_of (of_byte orientation) }
+{
+    flumedrac::fd_sign(orientation)
+}
+
+// The next event as two numbers; the cursor goes on, and stays past the last.
+#[unsafe(no_mangle)]
+pub extern "C" fn fd_next_event(c: &mut Cursor, count: u16, place: u16) -> Said
+    ensures { SaidStep c.old.at count place c.new.at result }
+{
+    flumedrac::fd_next_event(&mut *c, count, place)
+}
+
+// Each product writes the last three slices, which overlap no other slice that is lent here.
+#[unsafe(no_mangle)]
+pub extern "C" fn fd_duopyramid(
+    pcounts: &[Index],
+    pends: &[Index],
+    pinc: &[Index],
+    qcounts: &[Index],
+    qends: &[Index],
+    qinc: &[Index],
+    counts: &mut [Index],
+    ends: &mut [Index],
+    inc: &mut [Index],
+) -> Built
+    ensures { Outcome limits false false
+        (held pcounts.entry pends.entry pinc.entry)
+        (held qcounts.entry qends.entry qinc.entry)
+        (listing counts.old ends.old inc.old) (listing counts.new ends.new inc.new) result }
+{
+    flumedrac::fd_duopyramid(
+        pcounts,
+        pends,
+        pinc,
+        qcounts,
+        qends,
+        qinc,
+        &mut *counts,
+        &mut *ends,
+        &mut *inc,
+    )
+}
+
+#[unsafe(no_mangle)]
+pub extern "C" fn fd_duoprism(
+    pcounts: &[Index],
+    pends: &[Index],
+    pinc: &[Index],
+    qcounts: &[Index],
+    qends: &[Index],
+    qinc: &[Index],
+    counts: &mut [Index],
+    ends: &mut [Index],
+    inc: &mut [Index],
+) -> Built
+    ensures { Outcome limits true false
+        (held pcounts.entry pends.entry pinc.entry)
+        (held qcounts.entry qends.entry qinc.entry)
+        (listing counts.old ends.old inc.old) (listing counts.new ends.new inc.new) result }
+{
+    flumedrac::fd_duoprism(
+        pcounts,
+        pends,
+        pinc,
+        qcounts,
+        qends,
+        qinc,
+        &mut *counts,
+        &mut *ends,
+        &mut *inc,
+    )
+}
+
+#[unsafe(no_mangle)]
+pub extern "C" fn fd_duotegum(
+    pcounts: &[Index],
+    pends: &[Index],
+    pinc: &[Index],
+    qcounts: &[Index],
+    qends: &[Index],
+    qinc: &[Index],
+    counts: &mut [Index],
+    ends: &mut [Index],
+    inc: &mut [Index],
+) -> Built
+    ensures { Outcome limits false true
+        (held pcounts.entry pends.entry pinc.entry)
+        (held qcounts.entry qends.entry qinc.entry)
+        (listing counts.old ends.old inc.old) (listing counts.new ends.new inc.new) result }
+{
+    flumedrac::fd_duotegum(
+        pcounts,
+        pends,
+        pinc,
+        qcounts,
+        qends,
+        qinc,
+        &mut *counts,
+        &mut *ends,
+        &mut *inc,
+    )
+}
+
+#[unsafe(no_mangle)]
+pub extern "C" fn fd_duocomb(
+    pcounts: &[Index],
+    pends: &[Index],
+    pinc: &[Index],
+    qcounts: &[Index],
+    qends: &[Index],
+    qinc: &[Index],
+    counts: &mut [Index],
+    ends: &mut [Index],
+    inc: &mut [Index],
+) -> Built
+    ensures { Outcome limits true true
+        (held pcounts.entry pends.entry pinc.entry)
+        (held qcounts.entry qends.entry qinc.entry)
+        (listing counts.old ends.old inc.old) (listing counts.new ends.new inc.new) result }
+{
+    flumedrac::fd_duocomb(
+        pcounts,
+        pends,
+        pinc,
+        qcounts,
+        qends,
+        qinc,
+        &mut *counts,
+        &mut *ends,
+        &mut *inc,
+    )
+}
+
+// The dual: writes the last three slices, which overlap no other slice that is lent here.
+#[unsafe(no_mangle)]
+pub extern "C" fn fd_dual(
+    pcounts: &[Index],
+    pends: &[Index],
+    pinc: &[Index],
+    counts: &mut [Index],
+    ends: &mut [Index],
+    inc: &mut [Index],
+) -> Built
+    ensures { DualMade limits (held pcounts.entry pends.entry pinc.entry)
+        (listing counts.old ends.old inc.old) (listing counts.new ends.new inc.new) result }
+{
+    flumedrac::fd_dual(pcounts, pends, pinc, &mut *counts, &mut *ends, &mut *inc)
+}
+
+// Reads a text, and writes the last three slices, which overlap no other slice that is lent here.
+#[unsafe(no_mangle)]
+pub extern "C" fn fd_read_text(
+    text: &[u8],
+    counts: &mut [Index],
+    ends: &mut [Index],
+    inc: &mut [Index],
+) -> Built
+    ensures { Made
+        (read_test limits text.now (length counts.old) (length ends.old)
+        (length inc.old))
+        (listing_in text.now) (listing counts.old ends.old inc.old)
+        (listing counts.new ends.new inc.new) result }
+{
+    flumedrac::fd_read_text(text, &mut *counts, &mut *ends, &mut *inc)
+}
+
+#[unsafe(no_mangle)]
+pub extern "C" fn fd_check_text(text: &[u8]) -> u16
+    ensures { result ≡ (check_test limits text.now).no }
+{
+    flumedrac::fd_check_text(text)
+}
+
+// Writes the last slice, which overlaps no other slice that is lent here.
+#[unsafe(no_mangle)]
+pub extern "C" fn fd_write_text(
+    counts: &[Index],
+    ends: &[Index],
+    inc: &[Index],
+    text: &mut [u8],
+) -> Written
+    ensures { TextMade
+        (write_test limits (held counts.entry ends.entry inc.entry) (length text.old))
+        (text_of (layers (held counts.entry ends.entry inc.entry))) text.old text.new result }
+{
+    flumedrac::fd_write_text(counts, ends, inc, &mut *text)
+}
