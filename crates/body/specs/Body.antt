@@ -1,11 +1,11 @@
 -- What the test for one body answers. In the table and the bytes it leaves what a search with every change from the
 -- flag of first sups leaves, which is refused as the closed test refuses, or else with 22 only.
 --
--- whole_search      what the search finds, with room for so many flags
--- parts_test        22 if there are more flags in all than room; 25 if fewer were found than there are
--- judged_as         the answer after that: the numbers of the search, all 0 at a refusal
--- body_test         the refusals in their order: those of the closed test, 22, 25
--- body_by           the answer, with a table and bytes lent
+-- whole_search       what the search finds, with room for so many flags
+-- parts_test         22 if there are more flags in all than room; 25 if fewer were found than there are
+-- judged_as          the answer after that: the numbers of the search, all 0 at a refusal
+-- body_test          the refusals in their order: those of the closed test, 22, 25
+-- body_by            the answer, with a table and bytes lent
 -- body_table_after   what the table holds afterwards
 -- body_bytes_after   what the bytes are afterwards
 use Rattle.std.specs.Prelude.{List, ℕ, ltb, length}

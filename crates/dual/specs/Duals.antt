@@ -1,8 +1,8 @@
 -- What the entry for duals answers and writes.
 --
 -- dual_test   the refusals in their order, of a dual that is to be written into slices of the lengths c, e and i: what
---            closed refuses; then 36, a slice that is too short
--- DualMade   what is answered, r, and what the output slices then hold, all at once: they held `old` and hold `new`
+--             closed refuses; then 36, a slice that is too short
+-- DualMade    what is answered, r, and what the output slices then hold, all at once: they held `old` and hold `new`
 use Rattle.std.specs.Prelude.{ℕ, length}
 use Rattle.listing.specs.declared.Answer.{Answer}
 use Rattle.listing.specs.declared.Built.{Built}

@@ -1,10 +1,10 @@
 -- The counts of a dual; its lists, written one after another into lent slices, each with its end.
 --
--- reversed    the numbers of a list, the last first
--- turned_from  the lists of the dual that come from the rank which begins at place `here`: the sups of each element,
---             then its subs
--- ListsPut    from place p on, the n lists f 0 .. f (n - 1) are written, and where each ends; all else is as it was,
---             and r is the place after them
+-- reversed      the numbers of a list, the last first
+-- turned_from   the lists of the dual that come from the rank which begins at place `here`: the sups of each element,
+--               then its subs
+-- ListsPut      from place p on, the n lists f 0 .. f (n - 1) are written, and where each ends; all else is as it was,
+--               and r is the place after them
 use Rattle.std.specs.Prelude.{◌≡◌, List, ℕ, suc, ◌+◌, ◌-◌, ◌*◌, ◌/◌, ◌%◌, length, get_or}
 use Rattle.order.specs.Sums.{sum}
 use Rattle.listing.specs.Listing.{entries}

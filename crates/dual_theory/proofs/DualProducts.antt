@@ -30,7 +30,7 @@ use Rattle.product_closure.specs.Pairs.{Inner, InnerPair, place_of}
 use Rattle.product_closure.proofs.Cells.{incident_sound}
 use Rattle.product_closure.proofs.Pairs.{product_of_swapped, place_used}
 use Rattle.product_closure.proofs.Alike.{alike_renumbered, alike_order, product_of_alike}
-use Rattle.product_closure.proofs.Results.{result_product, result_null, not_null, both}
+use Rattle.product_closure.proofs.Results.{result_product, result_null, not_null}
 use Rattle.dual_theory.specs.Dual.{dual_el, Dual}
 use Rattle.dual_theory.specs.TurnedOver.{in_order, place_in, TurnedOver}
 use Rattle.dual_theory.proofs.Duals.{twice, one_dual}

@@ -1,13 +1,13 @@
 -- The dual of a listing: the same elements upside down.
 --
--- dual_el      an element of a cell of rank t, as an element of the dual: of the opposite rank, with the same index
--- Dual        D is the dual of L, said of elements: it has the same rank; at each rank there are as many elements as at
---             the opposite rank of L; and the subs of each are the sups of the one with its index there, its sups the
---             subs
--- dual_size    how many elements each rank of the dual has: as many as the opposite one, and none past the top
--- dual_layers  the layers of the dual: under each element the sups of that one of L
--- dual_over    what lies over each element of the dual: the subs of that one of L
--- dual_of      the dual, written out
+-- dual_el       an element of a cell of rank t, as an element of the dual: of the opposite rank, with the same index
+-- Dual          D is the dual of L, said of elements: it has the same rank; at each rank there are as many elements as at
+--               the opposite rank of L; and the subs of each are the sups of the one with its index there, its sups the
+--               subs
+-- dual_size     how many elements each rank of the dual has: as many as the opposite one, and none past the top
+-- dual_layers   the layers of the dual: under each element the sups of that one of L
+-- dual_over     what lies over each element of the dual: the subs of that one of L
+-- dual_of       the dual, written out
 use Rattle.std.specs.Prelude.{◌≡◌, List, ℕ, ◌-◌, ◌≤◌, ◌<◌}
 use Rattle.std.proofs.Math.Decide.{dec_lt}
 use Rattle.order.specs.Sums.{choose}

@@ -3,9 +3,9 @@
 --
 -- in_order     a pair as the product by min takes it: A's element first where min is set, else B's
 -- place_in     where a pair stands in the product
--- TurnedOver  a renumbering of D, the dual of the product by min and max of A and B, to Q, the product by max and min
---             of C and E, their duals: it takes each pair in use to the pair of the duals, and the added ends to the
---             added ends. It speaks of subs; the sups follow, since both sides are closed
+-- TurnedOver   a renumbering of D, the dual of the product by min and max of A and B, to Q, the product by max and min
+--              of C and E, their duals: it takes each pair in use to the pair of the duals, and the added ends to the
+--              added ends. It speaks of subs; the sups follow, since both sides are closed
 use Rattle.std.specs.Prelude.{◌≡◌, Bool, true, false, T}
 use Rattle.order.specs.Structure.{Renumbering}
 use Rattle.order.specs.Pairs.{swap}

@@ -1,9 +1,9 @@
 -- What a change answers.
 --
--- change_test  the refusals of a change: those of start_test, then 21
--- changed_as   the answer of a change that is made: the new flag, and what was taken out and put in
+-- change_test   the refusals of a change: those of start_test, then 21
+-- changed_as    the answer of a change that is made: the new flag, and what was taken out and put in
 -- unchanged_as the answer of a change that is refused: all numbers beside it are 0
--- changed_of   the answer: that of the change, or a refusal's
+-- changed_of    the answer: that of the change, or a refusal's
 use Rattle.std.specs.Prelude.{not, ◌&&◌, List, ℕ, ltb, replicate}
 use Rattle.listing.specs.declared.Answer.{Answer}
 use Rattle.listing.specs.Refusals.{outside_ranks}

@@ -1,9 +1,9 @@
 -- The orientation of a flag.
 --
--- byte_of      its byte: 0 even, 1 odd
--- of_byte      the orientation that a byte stands for: 0 even, any other odd
--- flip_of      the other orientation
--- sign_of      its sign: 1.0 or -1.0
+-- byte_of   its byte: 0 even, 1 odd
+-- of_byte   the orientation that a byte stands for: 0 even, any other odd
+-- flip_of   the other orientation
+-- sign_of   its sign: 1.0 or -1.0
 use Rattle.std.specs.Prelude.{cond, ℕ, eqb, pos, neg_ℤ, Float}
 use Rattle.std.specs.Float.{binary64}
 use Rattle.std.specs.Float.Ieee.{of_int}

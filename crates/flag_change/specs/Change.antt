@@ -1,19 +1,19 @@
 -- The change of a flag at one rank.
 --
--- common      the numbers of one list that another has too, in their order
--- other       the first number of a list that is not e; 0 where there is none
--- between     the elements between those of a flag at the ranks r - 1 and r + 1
--- replaced_at  what the change at rank r replaces: the flag's own number there is taken out, the other of those between
---             is put in
--- change_at    the flag with that put in
--- Flanked     the numbers at the ranks r - 1 and r + 1 are elements that exist
--- Changes     the flag's element at rank r is one of those between, and there is exactly one other; the change is a
---             flag again, differs from it at rank r exactly, leads back when it is made again, and is the only flag
---             that differs so
--- Replaces    x is the number of the flag f at rank r, y that of the flag g; they are the two elements between those
---             of f at the ranks r - 1 and r + 1
--- HasUnder    element i of rank r exists, and has x directly under it
--- padded      a flag in room for the most ranks, 0 above the top
+-- common        the numbers of one list that another has too, in their order
+-- other         the first number of a list that is not e; 0 where there is none
+-- between       the elements between those of a flag at the ranks r - 1 and r + 1
+-- replaced_at   what the change at rank r replaces: the flag's own number there is taken out, the other of those between
+--               is put in
+-- change_at     the flag with that put in
+-- Flanked       the numbers at the ranks r - 1 and r + 1 are elements that exist
+-- Changes       the flag's element at rank r is one of those between, and there is exactly one other; the change is a
+--               flag again, differs from it at rank r exactly, leads back when it is made again, and is the only flag
+--               that differs so
+-- Replaces      x is the number of the flag f at rank r, y that of the flag g; they are the two elements between those
+--               of f at the ranks r - 1 and r + 1
+-- HasUnder      element i of rank r exists, and has x directly under it
+-- padded        a flag in room for the most ranks, 0 above the top
 use Rattle.std.specs.Prelude.{◌≡◌, cond, List, [], ◌∷◌, ◌++◌, ℕ, ◌+◌, ◌-◌, ◌<◌, eqb, length, get_or, set, replicate}
 use Rattle.order.specs.Lists.{In, has}
 use Rattle.order.specs.Steps.{ChangedAt}

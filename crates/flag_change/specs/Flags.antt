@@ -1,9 +1,9 @@
 -- Flags of a listing.
 --
--- flag_at     at rank r stands an index that exists, and what stands below it is one of its subs
--- flag_test   whether a list of numbers is a flag, by looking
--- start_test  what a change or a search asks before all else: the closed test, then 20
--- IsFlag     a flag: one existing index per rank, no fewer and no more, each a sub of the next
+-- flag_at      at rank r stands an index that exists, and what stands below it is one of its subs
+-- flag_test    whether a list of numbers is a flag, by looking
+-- start_test   what a change or a search asks before all else: the closed test, then 20
+-- IsFlag       a flag: one existing index per rank, no fewer and no more, each a sub of the next
 use Rattle.std.specs.Prelude.{◌≡◌, Bool, not, ◌&&◌, ◌||◌, List, ℕ, ◌+◌, ◌-◌, ◌<◌, ltb, eqb, length, get_or}
 use Rattle.order.specs.Lists.{In, has}
 use Rattle.order.specs.Tests.{every}

@@ -3,12 +3,12 @@
 -- refusal     the answer with a number and four fields
 -- plain       the answer with a number alone
 -- fine        the answer of no refusal
--- if_zero      one thing where a number is 0, else another
+-- if_zero     one thing where a number is 0, else another
 -- _orElse_    the first answer where it refuses, else the second
 -- on          a refusal where a test says so
--- first_in     the first refusal along a list
--- first_for    the first refusal along k numbers from i on
--- first_of     the first refusal along the numbers from i up to, not including, n
+-- first_in    the first refusal along a list
+-- first_for   the first refusal along k numbers from i on
+-- first_of    the first refusal along the numbers from i up to, not including, n
 use Rattle.std.specs.Prelude.{Bool, cond, List, [], ◌∷◌, ℕ, zero, suc, ◌-◌}
 use Rattle.listing.specs.declared.Answer.{Answer}
 

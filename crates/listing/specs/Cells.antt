@@ -1,11 +1,11 @@
 -- Small listings.
 --
 -- nullitope, point, dyad, triangle   closed cells of ranks 0 to 3; the triangle's edges are {0,1}, {0,2}, {1,2}
--- rankless      no counts at all
+-- rankless       no counts at all
 -- two_minimal    counts 2, 1, with no incidences
--- three_on_top    three vertices under the top
--- one_on_top      one vertex under the top
--- struck        the triangle, with edge 1 struck from vertex 0's sups
+-- three_on_top   three vertices under the top
+-- one_on_top     one vertex under the top
+-- struck         the triangle, with edge 1 struck from vertex 0's sups
 use Rattle.std.specs.Prelude.{[], ◌∷◌}
 use Rattle.listing.specs.Listing.{Listing, listing}
 

@@ -14,7 +14,7 @@
 -- Ends      the ends do not fall, and none passes inc
 -- entries   the kth list
 -- side      a list of element i of rank r: its subs at side 0, its sups at side 1
--- subs_at    the subs of the kth element from a place on, counting elements of all ranks
+-- subs_at   the subs of the kth element from a place on, counting elements of all ranks
 -- subs      the elements that it lists one rank lower
 -- sups      the elements that it lists one rank higher
 use Rattle.std.specs.Prelude.{List, ◌∷◌, ℕ, ◌+◌, ◌-◌, ◌*◌, ◌≤◌, ◌<◌, length, get_or, take, drop}

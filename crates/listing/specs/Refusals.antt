@@ -3,31 +3,31 @@
 -- The same names, in the code's spelling, stand in src/refusal.rt.
 --
 -- no_ranks, over_ranks, over_elements       no ranks; too many ranks; too many elements
--- wrong_ends                              ends is not twice as long as there are elements
--- over_incidences                         too many incidences
--- falling_ends                            ends falls, or does not come to inc's length
--- not_bounded                             not one minimal and one maximal element
+-- wrong_ends        ends is not twice as long as there are elements
+-- over_incidences   too many incidences
+-- falling_ends      ends falls, or does not come to inc's length
+-- not_bounded       not one minimal and one maximal element
 -- no_subs, no_sups                         an element without subs above rank 0, without sups below the top
 -- sub_not_back, sup_not_back                 a sub, a sup that does not list the element back
 -- sub_missing, sup_missing                 a sub, a sup that does not exist
 -- third_between, lone_between              the diamond: an element met a third time between; one met only once
--- not_ascending                           a list that does not strictly ascend
--- not_aFlag                               the numbers are no flag
+-- not_ascending     a list that does not strictly ascend
+-- not_aFlag         the numbers are no flag
 -- outside_ranks, more_flags                a change, or a bit of a mask, outside 1 to rank - 1; more flags than room
--- several_parts                           closed, but its flags are in several parts
+-- several_parts     closed, but its flags are in several parts
 -- left_invalid, right_invalid              is_valid refuses the left, the right factor
--- comb_of_point                            duocomb with a factor of rank 1, where none has rank 0
+-- comb_of_point     duocomb with a factor of rank 1, where none has rank 0
 -- product_ranks, product_elements          a product with too many ranks, elements
 -- product_incidences, output_short         too many incidences; an output slice that is too short
 -- wrong_key, bad_line                      of a text: a line that does not begin with its key; else not as it is written
 -- long_text, more_bytes                    a text that is too long; one that goes on after its last line
--- bytes_short                             a byte slice that is too short for a text
+-- bytes_short       a byte slice that is too short for a text
 -- not_rank_four, not_orientable             of a volume: a cell of another rank than 4; one that is not orientable
 -- wrong_coordinates, not_in_metres          not three coordinates for each vertex; one that is not whole, or out of range
--- within                                 whether a number lies from one number to another, both counted in
--- band                                   the class of a number: 1 to 9 shape, 10 to 19 structure, 20 to 29 flags,
---                                        30 to 39 products, all else nothing
--- band_no                                 a class as a number, for callers that have no enum
+-- within            whether a number lies from one number to another, both counted in
+-- band              the class of a number: 1 to 9 shape, 10 to 19 structure, 20 to 29 flags,
+--                   30 to 39 products, all else nothing
+-- band_no           a class as a number, for callers that have no enum
 use Rattle.std.specs.Prelude.{ℕ, Bool, cond, ◌&&◌, leb}
 use Rattle.listing.specs.declared.Band.{Band}
 use Rattle.listing.specs.declared.Band.TheVariants.{Nothing, Shape, Structure, Flags, Products}

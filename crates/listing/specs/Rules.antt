@@ -1,11 +1,11 @@
 -- Refusals in their order, each with the rule whose breach it says: how an entry states "these refusals, then those".
 --
--- Rule           what must hold, and the numbers, from low to high, that say that it does not
+-- Rule          what must hold, and the numbers, from low to high, that say that it does not
 -- rules, rule    a rule with numbers from low to high, with one number
--- FirstBroken    n says which rule of a row is the first that is broken: it is one of that rule's numbers, and 0 if
---                none is
--- Filled         the ends do not fall and come to inc's length
--- shape_rules     1 to 6, of the shape test
+-- FirstBroken   n says which rule of a row is the first that is broken: it is one of that rule's numbers, and 0 if
+--               none is
+-- Filled        the ends do not fall and come to inc's length
+-- shape_rules   1 to 6, of the shape test
 use Rattle.std.specs.Prelude.{◌≡◌, ◌⊎◌, List, [], ◌∷◌, ℕ, ◌*◌, ◌≤◌, ◌<◌, length, get_or}
 use Rattle.listing.specs.Refusals.{no_ranks, over_ranks, over_elements, wrong_ends, over_incidences, falling_ends}
 use Rattle.listing.specs.Listing.{Listing, Limits, start}

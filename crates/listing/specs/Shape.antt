@@ -1,9 +1,9 @@
 -- The shape of a listing.
 --
--- fills       the numbers do not fall, begin at `from` or later, and the last is n (with no numbers: from is n)
--- elements    the elements of all ranks
+-- fills        the numbers do not fall, begin at `from` or later, and the last is n (with no numbers: from is n)
+-- elements     the elements of all ranks
 -- shape_test   the shape tests in their order, 1 to 6
--- Shaped      what they ask, said of the listing
+-- Shaped       what they ask, said of the listing
 use Rattle.std.specs.Prelude.{◌≡◌, Bool, not, ◌&&◌, List, [], ◌∷◌, ℕ, ◌*◌, ◌≤◌, ◌<◌, leb, ltb, eqb, length, get_or}
 use Rattle.listing.specs.declared.Answer.{Answer}
 use Rattle.listing.specs.Refusals.{no_ranks, over_ranks, over_elements, wrong_ends, over_incidences, falling_ends}

@@ -3,7 +3,7 @@
 -- joined      the lists f 0 .. f (n - 1), one after another
 -- tabulated   the numbers f 0 .. f (n - 1)
 -- lengths     how long each list is
--- list_at      a list of an element: what lies under it at side 0, what lies above it at side 1
+-- list_at     a list of an element: what lies under it at side 0, what lies above it at side 1
 -- nth         the nth list of the listing: the subs and the sups of each element in turn, by rank and then index
 -- written     the listing that says what the layers say, with the sups given
 use Rattle.std.specs.Prelude.{cond, List, [], ◌∷◌, ◌++◌, ℕ, zero, suc, ◌*◌, ◌/◌, ◌%◌, eqb, length}

@@ -1,16 +1,16 @@
 -- A listing R written into three lent output slices: whether there is room, what is answered, what they hold then. The
 -- slices held `old` and hold `new`; r is what is answered.
 --
--- Fits       slices of the lengths c, e and i have room for R
--- need_of     how much room R takes
--- short_test  36: of the room that there is, one number is less than what is needed
--- room_test   36: one of slices of the lengths c, e and i is too short for R
--- built_of    the answer with the three lengths written; 0 where it is a refusal
--- after      what an output slice holds afterwards: the new numbers over what stood there; as it was at a refusal
--- Made       what is answered and left where the test t decides and R is to be written
--- prefix     the output slices up to the lengths that were answered
--- Untouched  no number has changed, and the answer says that none was written
--- Wrote      R stands at the front of each slice, nothing has changed past it, and the answer has its lengths
+-- Fits         slices of the lengths c, e and i have room for R
+-- need_of      how much room R takes
+-- short_test   36: of the room that there is, one number is less than what is needed
+-- room_test    36: one of slices of the lengths c, e and i is too short for R
+-- built_of     the answer with the three lengths written; 0 where it is a refusal
+-- after        what an output slice holds afterwards: the new numbers over what stood there; as it was at a refusal
+-- Made         what is answered and left where the test t decides and R is to be written
+-- prefix       the output slices up to the lengths that were answered
+-- Untouched    no number has changed, and the answer says that none was written
+-- Wrote        R stands at the front of each slice, nothing has changed past it, and the answer has its lengths
 use Rattle.std.specs.Prelude.{◌≡◌, ◌||◌, List, ℕ, ◌≤◌, ltb, length, take}
 use Rattle.order.specs.Lists.{over}
 use Rattle.listing.specs.declared.Answer.{Answer}

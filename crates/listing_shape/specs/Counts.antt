@@ -1,12 +1,12 @@
 -- The four counts, which look at the counts slice alone.
 --
--- counted       the number asked for, or refusal 1 where there are no ranks
--- rank_of        the rank
--- el_count_of     the elements of a rank, 0 for a rank that is not there
+-- counted          the number asked for, or refusal 1 where there are no ranks
+-- rank_of          the rank
+-- el_count_of      the elements of a rank, 0 for a rank that is not there
 -- vertex_count_of the elements of rank 1
--- facets        the elements of the rank below the top; the nullitope has none
--- facet_count_of  the same, as an answer
--- count_rules    1, of a count
+-- facets           the elements of the rank below the top; the nullitope has none
+-- facet_count_of   the same, as an answer
+-- count_rules      1, of a count
 use Rattle.std.specs.Prelude.{ℕ, ◌-◌, ◌<◌, cond, List, [], ◌∷◌, length, ◌==◌, nat_le, slice_index}
 use Rattle.listing.specs.declared.Number.{Number}
 use Rattle.listing.specs.Refusals.{no_ranks}

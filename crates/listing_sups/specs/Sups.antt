@@ -3,16 +3,16 @@
 -- subs_at       the subs of the kth element from the number `here` on; it stands in Rattle.listing.specs.Listing
 -- subs_from     the subs of element a of rank i of a listing whose elements are numbered from b on
 -- layers_from   what the counts and subs of such a listing say
--- UpCounts     a list that has for each of its elements, by rank and then index, how many sups are derived for it
--- Counted      the same of layers
--- Raised       each of n numbers from place `from` on raised by g of its index, and no other
--- Strewn       for each x of n, the numbers `so x` written from its cursor on, next (from + x), and nothing else
--- Apart        room for g x numbers at the cursor of each x of n: each ends before the next begins, all before `top`
--- span         the numbers from one place of a list up to another
+-- UpCounts      a list that has for each of its elements, by rank and then index, how many sups are derived for it
+-- Counted       the same of layers
+-- Raised        each of n numbers from place `from` on raised by g of its index, and no other
+-- Strewn        for each x of n, the numbers `so x` written from its cursor on, next (from + x), and nothing else
+-- Apart         room for g x numbers at the cursor of each x of n: each ends before the next begins, all before `top`
+-- span          the numbers from one place of a list up to another
 -- sups_at       where the sups of an element begin, which is where its subs end
--- Fillable     the lists are there, all subs are written, and there is room for the sups of each element; subs may name
---              elements that do not exist
--- SupsFilled   the derived sups of the ranks below r written, each where its element's subs end, and nothing else
+-- Fillable      the lists are there, all subs are written, and there is room for the sups of each element; subs may name
+--               elements that do not exist
+-- SupsFilled    the derived sups of the ranks below r written, each where its element's subs end, and nothing else
 use Rattle.std.specs.Prelude.{◌≡◌, List, ℕ, suc, ◌+◌, ◌-◌, ◌*◌, ◌≤◌, ◌<◌, length, get_or, take, drop}
 use Rattle.order.specs.Sums.{sum}
 use Rattle.listing.specs.Listing.{Listing, width, limits, rank, count, before, Ends}

@@ -1,18 +1,18 @@
 -- A structure with an element more, or a rank less, at an end; and the product of two structures.
 --
--- Added        the elements of a structure and one more
+-- Added         the elements of a structure and one more
 -- AddedExists, added_rank, AddedUnder   which of these exist, their ranks, and which lies directly under which
 -- with_min      an element more, directly under all of the lowest rank
 -- with_max      an element more, directly over all of the highest rank
 -- without_min   the same elements, those of the lowest rank struck, the ranks one lower
 -- without_max   the same elements, those of the highest rank struck
 -- trim_min, trim_max, grow_min, grow_max   one end taken off, one element added, where the Boolean says so
--- trim         without the minimal rank where min says so, and without the maximal rank where max does
--- grow         with a maximal element where max says so, and with a minimal one where min does
--- InUse        the pairs of what is left of two structures when they are trimmed
--- Product      these pairs, with the ends added again
--- need         how high a factor must be: a rank for each end that is taken off
--- together     how high the two factors must be together
+-- trim          without the minimal rank where min says so, and without the maximal rank where max does
+-- grow          with a maximal element where max says so, and with a minimal one where min does
+-- InUse         the pairs of what is left of two structures when they are trimmed
+-- Product       these pairs, with the ends added again
+-- need          how high a factor must be: a rank for each end that is taken off
+-- together      how high the two factors must be together
 -- as_trimmed    an element, as one of what is left of the structure when it is trimmed
 -- as_grown      an element, as one of the structure when it is grown; a pair, as one of the product
 -- added_min     the minimal element that is added

@@ -1,14 +1,14 @@
 -- Flags of a structure, and that they are in one piece.
 --
--- Near        two lists that hold something, as long as one another, and differ at one place at the most
--- Chain       a list that climbs, each element directly over the one before it, and ends at the highest rank; First
---             says what it may begin with, and None whether it may hold nothing
--- Above       a chain that goes on over an element, which it does not hold, to the highest rank
--- Lowest      an element of the lowest rank
--- Flag        a chain from the lowest rank to the highest
--- Moves       from a list to a chain near it
--- Connected   moves from flag to flag lead from each flag to each other
--- Thick       there is more than one rank, or there are no two elements
+-- Near         two lists that hold something, as long as one another, and differ at one place at the most
+-- Chain        a list that climbs, each element directly over the one before it, and ends at the highest rank; First
+--              says what it may begin with, and None whether it may hold nothing
+-- Above        a chain that goes on over an element, which it does not hold, to the highest rank
+-- Lowest       an element of the lowest rank
+-- Flag         a chain from the lowest rank to the highest
+-- Moves        from a list to a chain near it
+-- Connected    moves from flag to flag lead from each flag to each other
+-- Thick        there is more than one rank, or there are no two elements
 -- need_thick   how high a factor must be, so that it is thick when its ends have been taken off
 use Rattle.std.specs.Prelude.{◌≡◌, ◌⊎◌, Bool, true, false, List, [], ◌∷◌, ℕ, ◌<◌}
 use Rattle.order.specs.Structure.{Order}

@@ -5,7 +5,7 @@
 -- has         whether it does, by looking
 -- Ascending   a list strictly ascends
 -- occurs      how often a number stands in a list
--- least_of     the least number of a list; 0 of an empty one
+-- least_of    the least number of a list; 0 of an empty one
 -- over        numbers written over the beginning of others: the rest stays
 use Rattle.std.specs.Prelude.{◌≡◌, ◌⊎◌, Bool, true, false, cond, List, [], ◌∷◌, ◌++◌, ℕ, suc, ◌<◌, min, eqb, length, drop}
 

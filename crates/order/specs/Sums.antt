@@ -1,12 +1,12 @@
 -- Sums, and the places that they give: parts of the sizes f 0, f 1, .. stand one after another, and each number below
 -- the sum of the sizes falls into one part.
 --
--- choose   the first of two where something holds, else the second
--- sum      f 0 + .. + f (n - 1)
--- sum_over  f of each number of a list, added up
--- add_up    f of each thing of a list, added up, where f gives integers
--- part_at   the part, among n, that a number falls into, and its place there
--- Placed   what `part_at` finds: the part is there, the place lies in it, and both lead back to the number
+-- choose     the first of two where something holds, else the second
+-- sum        f 0 + .. + f (n - 1)
+-- sum_over   f of each number of a list, added up
+-- add_up     f of each thing of a list, added up, where f gives integers
+-- part_at    the part, among n, that a number falls into, and its place there
+-- Placed     what `part_at` finds: the part is there, the place lies in it, and both lead back to the number
 use Rattle.std.specs.Prelude.{◌≡◌, List, [], ◌∷◌, ℕ, zero, suc, ◌+◌, ◌-◌, ◌<◌, ℤ, pos, ◌+ℤ◌}
 use Rattle.std.proofs.Math.Decide.{dec_lt}
 

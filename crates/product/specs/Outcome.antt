@@ -4,7 +4,7 @@
 --
 -- rest_test      what is tested of valid factors: 32, and then the sizes
 -- product_test   the refusals in their order, of the factors and then the rest
--- Outcome       what a product answers and what its three output slices hold afterwards, all at once
+-- Outcome        what a product answers and what its three output slices hold afterwards, all at once
 use Rattle.std.specs.Prelude.{Bool, ℕ, length}
 use Rattle.listing.specs.declared.Answer.{Answer}
 use Rattle.listing.specs.declared.Built.{Built}

@@ -2,7 +2,7 @@
 --
 -- Arranged   places    pairs of one rank stand in the order of the first member's rank, its index, the second's index
 --            pairs     the subs of a pair are the first member's subs in use in their order, each with the second
---                      member, and then the second's with the first
+--            member, and then the second's with the first
 --            lowest    but over an added minimal element the lowest pairs have that one alone
 --            minimal   the sups of an added minimal element are all lowest pairs, 0 to n - 1
 --            maximal   the subs of an added maximal element are all facets, 0 to n - 1

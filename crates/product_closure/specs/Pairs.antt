@@ -1,15 +1,15 @@
 -- The pairs of a product. A and B are the first and the second factor, R the product of the two.
 --
--- UnderIn    an element of a listing is directly under another: it stands in the subs of the other, one rank higher
--- Inner      an element that is there, not of the lowest rank where min is set, and not of the highest where max is
--- InnerPair  a pair of such elements, the first of A and the second of B
+-- UnderIn     an element of a listing is directly under another: it stands in the subs of the other, one rank higher
+-- Inner       an element that is there, not of the lowest rank where min is set, and not of the highest where max is
+-- InnerPair   a pair of such elements, the first of A and the second of B
 -- place_of    where a pair stands in the product
--- Matched    what is no added end matches the pairs in use, one to one; ranks add up, less one where a minimal element
---            was left out; and one pair is directly under another exactly if one member is equal and the other directly
---            under
--- LowEnd     the added minimal element: there is one, directly under the pairs of two elements of rank 1 and no others
--- HighEnd    the added maximal element: there is one, directly over the pairs of two facets and no others
--- Swapped    a renumbering of the product R of A and B to the product Q of B and A that only swaps the pairs
+-- Matched     what is no added end matches the pairs in use, one to one; ranks add up, less one where a minimal element
+--             was left out; and one pair is directly under another exactly if one member is equal and the other directly
+--             under
+-- LowEnd      the added minimal element: there is one, directly under the pairs of two elements of rank 1 and no others
+-- HighEnd     the added maximal element: there is one, directly over the pairs of two facets and no others
+-- Swapped     a renumbering of the product R of A and B to the product Q of B and A that only swaps the pairs
 use Rattle.std.specs.Prelude.{◌≡◌, ◌↔◌, ◌⊎◌, Bool, true, suc, ◌+◌, ◌≤◌, ◌<◌, T}
 use Rattle.order.specs.Lists.{In}
 use Rattle.order.specs.Structure.{Renumbering}

@@ -3,9 +3,9 @@
 --
 -- first_factor, second_factor   the factor that gives the first, the second members of the pairs: the left one gives the
 --              first where min is set, else the right one does
--- null_case     a factor of rank 0, for all but the duopyramid
--- comb_case     the duocomb with a factor of rank 1, and none of rank 0
--- result_of     the product: the nullitope in the null case, else that of the pairs
+-- null_case    a factor of rank 0, for all but the duopyramid
+-- comb_case    the duocomb with a factor of rank 1, and none of rank 0
+-- result_of    the product: the nullitope in the null case, else that of the pairs
 -- HighEnough   the ranks of two closed factors at which the product is closed: all for the duopyramid, from 1 for
 --              duoprism and duotegum, from 2 and not both 2 for the duocomb
 use Rattle.std.specs.Prelude.{Bool, true, false, not, ◌&&◌, ◌||◌, ℕ, ◌+◌, ◌≤◌, eqb}

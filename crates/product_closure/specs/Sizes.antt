@@ -1,12 +1,12 @@
 -- How large a product is.
 --
 -- all_elements   the elements of all ranks of layers
--- Sizes         how many ranks, elements and incidences there are
+-- Sizes          how many ranks, elements and incidences there are
 -- sizes_of       those of the product of two factors, by what a product uses of them. Highest ranks add up, and each
---               added end makes one rank more. Elements make pairs, and each added end is one element more. Each sub of
---               an element makes one for each element that it is paired with; an added end brings one for each lowest
---               or each highest pair; and with each sub there is its sup.
--- WithinLimits  the sizes are within the limits
+--                added end makes one rank more. Elements make pairs, and each added end is one element more. Each sub of
+--                an element makes one for each element that it is paired with; an added end brings one for each lowest
+--                or each highest pair; and with each sub there is its sup.
+-- WithinLimits   the sizes are within the limits
 use Rattle.std.specs.Prelude.{Bool, ℕ, suc, ◌+◌, ◌*◌, ◌≤◌}
 use Rattle.order.specs.Sums.{sum}
 use Rattle.listing.specs.Listing.{Limits}

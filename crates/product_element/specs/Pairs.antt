@@ -2,20 +2,20 @@
 -- as the builder has it: a listing with the counts of the ranks in use, in whose lists the first element in use has
 -- the number 1 where the minimal one is left out.
 --
--- subs_in_use      the subs in use of an element: none at the lowest rank in use
+-- subs_in_use     the subs in use of an element: none at the lowest rank in use
 -- factor_layers   what a factor says, as layers
--- target         the layers of the product of two factors, with the ends added that min and max ask for
+-- target          the layers of the product of two factors, with the ends added that min and max ask for
 -- lists_of        the lists of the product, by their numbers: the subs and the derived sups of each element in turn
 -- product_lists   the same, with the two flags in one
 -- pair_shift      how the subs of a pair follow from those of its members
 -- under_pair      what a pair has under it: the added minimal element alone where it is a lowest pair and that is added;
---                else the pairs with a member replaced by one of its subs in use
+--                 else the pairs with a member replaced by one of its subs in use
 -- over_pair       how many lie over a pair: as many as over its members, and the added maximal element over a highest
---                pair
+--                 pair
 -- size_of         how many elements the product has
--- Plan           what the builder stands on: the factors' lists are there, what they name exists, the lists of the
---                product are those of the pairs, and there is room for all
--- Writable       a plan, with how many sups each element of the factors has, and the slices that are to be written
+-- Plan            what the builder stands on: the factors' lists are there, what they name exists, the lists of the
+--                 product are those of the pairs, and there is room for all
+-- Writable        a plan, with how many sups each element of the factors has, and the slices that are to be written
 use Rattle.std.specs.Prelude.{◌≡◌, Bool, cond, ◌&&◌, List, [], ℕ, pred, ◌+◌, ◌-◌, ◌*◌, ◌≤◌, ◌<◌, eqb, length}
 use Rattle.order.specs.Lists.{In}
 use Rattle.listing.specs.Listing.{Listing, rank, count, Ends, limits}

@@ -1,12 +1,12 @@
 -- Layers with an element more at an end.
 --
--- up_to                the numbers 0 .. n - 1
--- add_min              an element more under all of the lowest rank: each of those has it alone under it
--- add_max              an element more over all of the highest rank: it has all of those under it
+-- up_to     the numbers 0 .. n - 1
+-- add_min   an element more under all of the lowest rank: each of those has it alone under it
+-- add_max   an element more over all of the highest rank: it has all of those under it
 -- min_size, min_under   the sizes and the lists with the element more under all
 -- max_size, max_under   the sizes and the lists with the element more over all
 -- add_min_if, add_max_if  one element more where the flag is set
--- grown               with a maximal element where max is set, and with a minimal one where min is
+-- grown     with a maximal element where max is set, and with a minimal one where min is
 use Rattle.std.specs.Prelude.{Bool, true, false, List, [], ◌∷◌, ◌++◌, ℕ, zero, suc}
 use Rattle.std.proofs.Math.Decide.{dec_lt}
 use Rattle.order.specs.Sums.{choose}

@@ -3,9 +3,9 @@
 -- rank_subs      the subs of all elements of a rank
 -- all_subs       the subs of all elements
 -- paired_subs    the subs of all pairs of a rank, counted by the members: those of the first members for each second
---               member, and those of the second for each first
+--                member, and those of the second for each first
 -- product_subs   the subs of all elements of a product of the trimmed factors A and B: those of all pairs, one for each
---               lowest pair where a minimal element is added, and one for each highest pair where a maximal one is
+--                lowest pair where a minimal element is added, and one for each highest pair where a maximal one is
 use Rattle.std.specs.Prelude.{Bool, ℕ, suc, ◌+◌, ◌-◌, ◌*◌, length}
 use Rattle.order.specs.Sums.{sum}
 use Rattle.listing.specs.Layers.{Layers}

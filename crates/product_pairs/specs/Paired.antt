@@ -1,17 +1,17 @@
 -- All pairs of the elements of two layers. In one rank, pairs go by the first member's rank, then its index, then the
 -- second's index.
 --
--- El          an element: its rank and its index
--- block       how many pairs of rank R have a first member of rank i
--- offset      how many pairs of the same rank come before those of the ranks i and j
--- position    the rank and the index of a pair
--- Sooner      the order of pairs: by the first member's rank, then its index, then the second's index
+-- El           an element: its rank and its index
+-- block        how many pairs of rank R have a first member of rank i
+-- offset       how many pairs of the same rank come before those of the ranks i and j
+-- position     the rank and the index of a pair
+-- Sooner       the order of pairs: by the first member's rank, then its index, then the second's index
 -- pair_of      the pair of rank R in a block, by the first member's rank and the place in the block
 -- pair_at      the pair at a rank and an index
 -- left_subs    the positions of the pairs with the first member's subs in their order, the second member fixed
 -- right_subs   the positions of the pairs with the second member's subs in their order, the first member fixed
 -- pair_subs    both, those of the first member before those of the second
--- paired      the layers of all pairs
+-- paired       the layers of all pairs
 use Rattle.std.specs.Prelude.{◌≡◌, ◌⊎◌, List, ◌++◌, map, ℕ, suc, pred, ◌+◌, ◌-◌, ◌*◌, ◌/◌, ◌%◌, ◌<◌}
 use Rattle.order.specs.Lists.{Earlier}
 use Rattle.order.specs.Sums.{sum, part_at}

@@ -3,8 +3,8 @@
 --
 -- used_pairs      the layers of the pairs in use
 -- layer_product   the layers of the product: the pairs in use, with the ends added again
--- UsedPair       a pair of elements in use
--- at             where a pair of elements in use stands in the product
+-- UsedPair        a pair of elements in use
+-- at              where a pair of elements in use stands in the product
 -- used_subs       the subs of an element, where they are in use: those of an element of the lowest rank in use are not
 -- product_of      the product of two listings, written out with its derived sups
 use Rattle.std.specs.Prelude.{Bool, List, [], ℕ, ◌+◌, ◌-◌}

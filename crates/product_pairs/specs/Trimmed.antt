@@ -1,11 +1,11 @@
 -- The layers of a factor that a product uses.
 --
--- bit         a flag as a number: 1 where it is set
+-- bit          a flag as a number: 1 where it is set
 -- trim_size    how many elements a rank in use has
 -- trim_under   what lies under an element in use
--- trimmed     the layers without the minimal rank where min is set, and without the maximal rank where max is: ranks
---             count from the lowest in use, whose elements have nothing under them
--- Used        an element that is there and not of a rank left out
+-- trimmed      the layers without the minimal rank where min is set, and without the maximal rank where max is: ranks
+--              count from the lowest in use, whose elements have nothing under them
+-- Used         an element that is there and not of a rank left out
 use Rattle.std.specs.Prelude.{Bool, true, false, List, [], ℕ, zero, suc, ◌+◌, ◌-◌, ◌≤◌, ◌<◌}
 use Rattle.std.proofs.Math.Decide.{dec_lt}
 use Rattle.order.specs.Sums.{choose}

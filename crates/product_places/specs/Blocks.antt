@@ -1,6 +1,6 @@
 -- What the pairs of two ranks have in common.
 --
--- BlockOf   the numbers of a block of pairs, for the ranks i and j
+-- BlockOf    the numbers of a block of pairs, for the ranks i and j
 -- in_block   the number, among all elements, of the pair of the elements a and b of a block's ranks
 use Rattle.std.specs.Prelude.{◌≡◌, cond, ◌&&◌, List, ℕ, pred, ◌+◌, eqb, length, get_or}
 use Rattle.listing.specs.Listing.{before}

@@ -1,15 +1,15 @@
 -- The sizes of a product: what is tested of them, and what the functions here count.
 --
--- Usable        a factor that is_valid accepts, high enough for the ends that are left out of the pairs
--- counts_in_use   the counts of a factor's ranks in use
--- extent_of      how large layers are
--- Little        an extent so small that products of two fit a word
--- totals_of      how many ranks, elements and incidences the product has of two factors that have these extents in use
--- Measures      the same of a listing
--- need_of_totals  how much room a listing of these three numbers takes
--- limits_then    33, 34, 35 by the limits, and then the rest
--- totals_test    these, and 36 by the room in the output slices, for a product of these three numbers
--- size_test      the same of a listing
+-- Usable           a factor that is_valid accepts, high enough for the ends that are left out of the pairs
+-- counts_in_use    the counts of a factor's ranks in use
+-- extent_of        how large layers are
+-- Little           an extent so small that products of two fit a word
+-- totals_of        how many ranks, elements and incidences the product has of two factors that have these extents in use
+-- Measures         the same of a listing
+-- need_of_totals   how much room a listing of these three numbers takes
+-- limits_then      33, 34, 35 by the limits, and then the rest
+-- totals_test      these, and 36 by the room in the output slices, for a product of these three numbers
+-- size_test        the same of a listing
 use Rattle.std.specs.Prelude.{◌≡◌, Bool, List, ℕ, suc, ◌+◌, ◌-◌, ◌*◌, ◌≤◌, ◌<◌, ltb, length, take, drop}
 use Rattle.order.specs.Ends.{need}
 use Rattle.listing.specs.declared.Answer.{Answer}

@@ -1,31 +1,31 @@
 -- How a promise speaks of an entry: through P, the reading of its contract that the prover makes from the source. P k a
 -- b x says that the contract admits the answer b and the parameters x at exit for the arguments a; k are the lifetimes.
 --
--- Takes       the contract asks nothing: R k a, the reading of what it asks of a caller, holds for any arguments
--- Says        whatever the contract admits has a property of arguments, answer and exit
--- OneAnswer   two answers that the contract admits for the same arguments are equal
--- OneOutcome  and so is what is left of the parameters that are lent to be written
--- SaysOfTwo   whatever two contracts admit has a property of both calls
+-- Takes         the contract asks nothing: R k a, the reading of what it asks of a caller, holds for any arguments
+-- Says          whatever the contract admits has a property of arguments, answer and exit
+-- OneAnswer     two answers that the contract admits for the same arguments are equal
+-- OneOutcome    and so is what is left of the parameters that are lent to be written
+-- SaysOfTwo     whatever two contracts admit has a property of both calls
 -- SaysOfThree the same of three contracts and calls
--- Call        a call of an entry, as its contract admits it: for promises that speak of more calls than three
--- PassesOn    whatever one contract admits another admits too, for the same arguments
--- PassesAs    whatever one contract admits is, as f has it, an answer that another admits, for the same arguments
--- Slice       a lent slice of numbers
--- Written     a slice of numbers that is lent to be written
--- Three       three slices, and the parameters after them
+-- Call          a call of an entry, as its contract admits it: for promises that speak of more calls than three
+-- PassesOn      whatever one contract admits another admits too, for the same arguments
+-- PassesAs      whatever one contract admits is, as f has it, an answer that another admits, for the same arguments
+-- Slice         a lent slice of numbers
+-- Written       a slice of numbers that is lent to be written
+-- Three         three slices, and the parameters after them
 -- ThreeWritten three slices that are lent to be written, and the parameters after them
--- lent        the listing in the first three parameters
--- in_written  the listing in three slices that are lent to be written
--- right       the right factor of a product, in the next three; the left one is in the first three
--- outputs     the three output slices of a product
--- flag        the flag of a change or a search, in the fourth parameter
--- asked       the number after it, which says what is asked: the rank of a change, the mask of a search
--- metres      the coordinates of a volume, in the same place
--- tables      the table and the orientations of a search or of a volume
--- body_tables  the same of the test for one body, in the fourth and fifth parameter
--- turned_into  the three slices that a dual is written into, in the second three parameters
--- lent_text    the text in the first parameter
--- read_into    the three slices that it is read into, in the next three
+-- lent          the listing in the first three parameters
+-- in_written    the listing in three slices that are lent to be written
+-- right         the right factor of a product, in the next three; the left one is in the first three
+-- outputs       the three output slices of a product
+-- flag          the flag of a change or a search, in the fourth parameter
+-- asked         the number after it, which says what is asked: the rank of a change, the mask of a search
+-- metres        the coordinates of a volume, in the same place
+-- tables        the table and the orientations of a search or of a volume
+-- body_tables   the same of the test for one body, in the fourth and fifth parameter
+-- turned_into   the three slices that a dual is written into, in the second three parameters
+-- lent_text     the text in the first parameter
+-- read_into     the three slices that it is read into, in the next three
 -- written_into the slice that a text is written into, in the fourth parameter
 use Rattle.std.specs.Prelude.{◌≡◌, List, ℕ, Float}
 use Rattle.std.specs.Borrow.{Bor, MutBor}

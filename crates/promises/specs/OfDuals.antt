@@ -1,7 +1,7 @@
 -- What is promised of the dual.
 --
--- turned_by      the dual that a call has written
--- built_by       the product that a call has written
+-- turned_by     the dual that a call has written
+-- built_by      the product that a call has written
 -- BothSides     five calls: p builds a product of A and B, d turns it over; a and b turn A and B over, and q builds a
 --               product of the two duals; all are answered
 -- Turns         whenever both sides are answered, the dual of the product that p builds is, renumbered, the product

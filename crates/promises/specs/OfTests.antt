@@ -1,16 +1,16 @@
 -- What is promised of the counts, the classes, the shape test and the five tests.
 --
--- ClassOf       c is the number of the class of a refusal n: 1 shape, 2 structure, 3 flags, 4 products, 0 none
--- CountRefuses  a count refuses with the number of the first rule that is broken, 0 if none is
--- Counts        the value of a count is n of its arguments where it is answered, and 0 where it is refused
--- Refuses       a test refuses with the number of the first rule that is broken, 0 if none is
--- Names         a test whose refusals are Named: true of what they name, the first such thing
--- Accepts       a test answers 0 exactly if all its numbers are 0
--- TestsTaken    any slices and numbers are taken
--- TestsRefuse   which refusal comes exactly when
--- TestsNamed    what each refusal says
--- TestsAnswer   what the counts are; the tests accept exactly what the book asks
--- TestsOnce     no second answer fits
+-- ClassOf        c is the number of the class of a refusal n: 1 shape, 2 structure, 3 flags, 4 products, 0 none
+-- CountRefuses   a count refuses with the number of the first rule that is broken, 0 if none is
+-- Counts         the value of a count is n of its arguments where it is answered, and 0 where it is refused
+-- Refuses        a test refuses with the number of the first rule that is broken, 0 if none is
+-- Names          a test whose refusals are Named: true of what they name, the first such thing
+-- Accepts        a test answers 0 exactly if all its numbers are 0
+-- TestsTaken     any slices and numbers are taken
+-- TestsRefuse    which refusal comes exactly when
+-- TestsNamed     what each refusal says
+-- TestsAnswer    what the counts are; the tests accept exactly what the book asks
+-- TestsOnce      no second answer fits
 use Rattle.std.specs.Prelude.{◌≡◌, ◌≢◌, ◌⊎◌, ◌↔◌, List, ℕ, ◌-◌, ◌≤◌, ◌<◌, length, get_or}
 use Rattle.listing.specs.declared.Answer.{Answer}
 use Rattle.listing.specs.declared.Number.{Number}

@@ -2,12 +2,12 @@
 -- text_of; the listing that is read is what these layers are written as, with derived sups. Where a text goes wrong is
 -- said by FirstPlace.
 --
--- TextGood      the number of a reading in whose text nothing is refused: 0, or 36 where only the room is too small
--- text_of_cell    the text of a listing
--- TextsTaken    any slices are taken
--- TextsRefuse   which refusal comes exactly when, what it carries, and that nothing is then written
--- TextsAnswer   what is read, what is checked, and what is written
--- TextsOnce     no second answer fits
+-- TextGood       the number of a reading in whose text nothing is refused: 0, or 36 where only the room is too small
+-- text_of_cell   the text of a listing
+-- TextsTaken     any slices are taken
+-- TextsRefuse    which refusal comes exactly when, what it carries, and that nothing is then written
+-- TextsAnswer    what is read, what is checked, and what is written
+-- TextsOnce      no second answer fits
 use Rattle.std.specs.Prelude.{◌≡◌, ◌≢◌, ◌⊎◌, ◌↔◌, List, ℕ, suc, ◌≤◌, ◌<◌, length, take}
 use Rattle.order.specs.Lists.{over}
 use Rattle.listing.specs.Refusals.{not_bounded, not_ascending, output_short, long_text}

@@ -1,12 +1,12 @@
 -- What is promised of volumes.
 --
--- VolumeSays       what six_volume answers and leaves, said of its listing, first flag, coordinates, table and bytes,
---                  before and after
--- VolumesTaken     any slices are taken
--- VolumesRefuse    which refusal comes exactly when, what is written, and what is answered where there is none
--- VolumesNamed     the number of a refusal is that of the closed test or of the search where these refuse
--- VolumesAnswer    what two calls answer; the numbers of an answer
--- VolumesOnce      no second answer fits
+-- VolumeSays      what six_volume answers and leaves, said of its listing, first flag, coordinates, table and bytes,
+--                 before and after
+-- VolumesTaken    any slices are taken
+-- VolumesRefuse   which refusal comes exactly when, what is written, and what is answered where there is none
+-- VolumesNamed    the number of a refusal is that of the closed test or of the search where these refuse
+-- VolumesAnswer   what two calls answer; the numbers of an answer
+-- VolumesOnce     no second answer fits
 use Rattle.std.specs.Prelude.{◌≡◌, ◌≢◌, List, ℕ, ◌≤◌, ◌<◌, Float}
 use Rattle.listing.specs.Refusals.{not_rank_four}
 use Rattle.listing.specs.Listing.{Listing, limits, rank}

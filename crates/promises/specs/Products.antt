@@ -1,16 +1,16 @@
 -- What is promised of a product of A and B, whose output slices held `old` and hold `new`, and that answered r. min and
 -- max tell which of the four it is.
 --
--- room_rules  the rules of a product whose output slices are as long as those of old
--- Produces   which refusal comes when, and what is then in the output slices
--- Kept       what an answered product keeps: it is closed where its factors are closed and high enough, and one body
---            where both are one body and high enough for that; it is made of the pairs in use, a pair directly under
---            another exactly if one member is equal and the other directly under, with the ends added; and its lists
---            stand in their order, as Arranged says
--- SameRoom   the output slices of two calls are equally long
--- Exchange   of two calls, of A and B and of B and A: with as much room they answer the same where the factors are
---            valid, and so one is answered if the other is; where both are, the second wrote the pairs of the first,
---            swapped
+-- room_rules   the rules of a product whose output slices are as long as those of old
+-- Produces     which refusal comes when, and what is then in the output slices
+-- Kept         what an answered product keeps: it is closed where its factors are closed and high enough, and one body
+--              where both are one body and high enough for that; it is made of the pairs in use, a pair directly under
+--              another exactly if one member is equal and the other directly under, with the ends added; and its lists
+--              stand in their order, as Arranged says
+-- SameRoom     the output slices of two calls are equally long
+-- Exchange     of two calls, of A and B and of B and A: with as much room they answer the same where the factors are
+--              valid, and so one is answered if the other is; where both are, the second wrote the pairs of the first,
+--              swapped
 use Rattle.std.specs.Prelude.{◌≡◌, ◌≢◌, ◌↔◌, Bool, true, false, List, ◌+◌, ◌-◌, length}
 use Rattle.listing.specs.declared.Built.{Built}
 use Rattle.listing.specs.Listing.{Listing, limits, rank}

@@ -1,40 +1,40 @@
 -- The listings and texts to try whose answers are known, and one table of what is said of them.
 --
--- square        vertices 0 to 3 with the edges {0,1}, {2,3}, {0,2}, {1,3}
--- other_square   the same with the edges {0,2}, {1,2}, {0,3}, {1,3}
+-- square          vertices 0 to 3 with the edges {0,1}, {2,3}, {0,2}, {1,3}
+-- other_square    the same with the edges {0,2}, {1,2}, {0,3}, {1,3}
 -- four_on_top     four vertices under the top
--- three_pyramid  the duopyramid of three vertices under a top with a point: an edge with three vertices
--- two_triangles  the duocomb of the dyad with the triangle: two triangles under one top
--- prism         the duoprism of the dyad with the triangle, in this order
--- cube          the duoprism of the dyad with the square
--- twice_listed   an edge whose only vertex stands twice among its subs
--- twice_pyramid  the duopyramid of that with a point
--- leaking_box    the insurer's cell: a box whose edge 0 is doubled as edge 12, each of the two in one face
--- turned_square  the dual of the square
--- turned_prism   the dual of the prism
--- octahedron    the dual of the cube
--- quoted        a text in quotes as its bytes, one for each character
+-- three_pyramid   the duopyramid of three vertices under a top with a point: an edge with three vertices
+-- two_triangles   the duocomb of the dyad with the triangle: two triangles under one top
+-- prism           the duoprism of the dyad with the triangle, in this order
+-- cube            the duoprism of the dyad with the square
+-- twice_listed    an edge whose only vertex stands twice among its subs
+-- twice_pyramid   the duopyramid of that with a point
+-- leaking_box     the insurer's cell: a box whose edge 0 is doubled as edge 12, each of the two in one face
+-- turned_square   the dual of the square
+-- turned_prism    the dual of the prism
+-- octahedron      the dual of the cube
+-- quoted          a text in quotes as its bytes, one for each character
 -- point_text, triangle_text   the texts of the point and of the triangle
--- missing_text   that of a point whose top has a second sub, which does not exist
--- missing_sub    the listing that it says
--- turned_sups    the triangle with the sups of its minimal element in falling order
--- Trial         a row of the table: what is tried, and what is answered
--- tested        a listing; what is_valid answers, what closed answers
--- combined      a product of two listings, with just the room that it takes; what it answers, the listing that it is,
---               and what the two tests answer of that
--- refused       a product without any room; what it answers
--- changed       a listing, a flag and a rank; what the change answers
--- read_as        a text, with just the room that it takes; what reading it answers, the listing that it says, and what
---               checking it answers
--- unread        a text without any room; what reading it answers
--- wrote_as       a listing, and room for so many bytes; what writing its text answers, and the text
--- unwritten     the same without the text
--- bodied        a listing, and room for so many flags; what the test for one body answers
--- turned_as      a listing, with just the room that it takes; what the dual answers, and the dual
--- unturned      a listing, with just the room that it takes but room for so many incidences; what the dual answers
--- to            a change that is answered with a flag, and with what it took out and put in
--- answered      the row with the answers that computing gives
--- tried         the rows; beside each name of a refusal stands its number
+-- missing_text    that of a point whose top has a second sub, which does not exist
+-- missing_sub     the listing that it says
+-- turned_sups     the triangle with the sups of its minimal element in falling order
+-- Trial           a row of the table: what is tried, and what is answered
+-- tested          a listing; what is_valid answers, what closed answers
+-- combined        a product of two listings, with just the room that it takes; what it answers, the listing that it is,
+--                 and what the two tests answer of that
+-- refused         a product without any room; what it answers
+-- changed         a listing, a flag and a rank; what the change answers
+-- read_as         a text, with just the room that it takes; what reading it answers, the listing that it says, and what
+--                 checking it answers
+-- unread          a text without any room; what reading it answers
+-- wrote_as        a listing, and room for so many bytes; what writing its text answers, and the text
+-- unwritten       the same without the text
+-- bodied          a listing, and room for so many flags; what the test for one body answers
+-- turned_as       a listing, with just the room that it takes; what the dual answers, and the dual
+-- unturned        a listing, with just the room that it takes but room for so many incidences; what the dual answers
+-- to              a change that is answered with a flag, and with what it took out and put in
+-- answered        the row with the answers that computing gives
+-- tried           the rows; beside each name of a refusal stands its number
 use Rattle.std.specs.Prelude.{Bool, true, false, List, [], ◌∷◌, ◌++◌, ℕ, length, drop}
 use Prim.Native.Char.{code}
 use Prim.Native.String.{String, [] as none, ◌∷◌ as ◌then◌}

@@ -1,7 +1,7 @@
 -- What is promised of a search of L from a first flag by the changes of a mask, that was lent a table and bytes and
 -- left table' and bytes' in them, and answered r. Only `first_found` names the search itself, with more room.
 --
--- room_in     how many flags there is room for
+-- room_in    how many flags there is room for
 -- Promised   which refusal comes when, and what then stands in the table and the bytes: refused with another number
 --            than 22 they are as they were, and at 22 they hold the first flags found, as many as there is room for;
 --            and answered with 0, all flags that the changes lead to, each once and in the order found, counted, and

@@ -1,16 +1,16 @@
 -- What a search answers and writes, from what it found.
 --
--- refused_as     the answer of a refusal: all numbers are 0
--- found_as       the answer of a search that came to its end
--- searched_as    the answer by its refusal: a refusal's, or that of a search that found so many flags
--- room_of        how many flags there is room for: the whole flags that fit the table, the bytes, the limit
--- search_test    the refusals in their order: those of the closed test, 20, 21, and 22 exactly if there are more than
+-- refused_as    the answer of a refusal: all numbers are 0
+-- found_as      the answer of a search that came to its end
+-- searched_as   the answer by its refusal: a refusal's, or that of a search that found so many flags
+-- room_of       how many flags there is room for: the whole flags that fit the table, the bytes, the limit
+-- search_test   the refusals in their order: those of the closed test, 20, 21, and 22 exactly if there are more than
 --               room
--- searched_of    the answer: how many flags, how many came before the cell showed itself not orientable, whether it is
--- left_after     what a lent slice holds afterwards: on success and at 22 what was found, written over its beginning
--- searched_by    what a search answers, with a table and bytes lent to it
--- table_after    what the table holds afterwards
--- bytes_after    what the bytes are afterwards
+-- searched_of   the answer: how many flags, how many came before the cell showed itself not orientable, whether it is
+-- left_after    what a lent slice holds afterwards: on success and at 22 what was found, written over its beginning
+-- searched_by   what a search answers, with a table and bytes lent to it
+-- table_after   what the table holds afterwards
+-- bytes_after   what the bytes are afterwards
 use Rattle.std.specs.Prelude.{not, cond, ◌||◌, List, ℕ, ◌+◌, ◌/◌, min, eqb, length}
 use Rattle.order.specs.Lists.{over}
 use Rattle.listing.specs.declared.Answer.{Answer}

@@ -1,16 +1,16 @@
 -- The events of a finished search, by their place in the row: the flags 0, 1, .. count - 1, with NonOrientable after
 -- the first `place` flags where place is from 1 to count, and without it otherwise.
 --
--- marked     NonOrientable is among the events
+-- marked      NonOrientable is among the events
 -- event_at    the event at a place of the row; Nothing past the last
--- events     how many events there are
+-- events      how many events there are
 -- next_at     the place after a place: the same past the last
 -- up_from     the n events f i, f (i + 1), ..
 -- events_of   the events in their order
--- replies    the answers of n calls of next_event, one after another, the first with the cursor at a place
+-- replies     the answers of n calls of next_event, one after another, the first with the cursor at a place
 -- said_of     an event as two numbers: kind 0 nothing, 1 a flag, 2 not orientable; and the flag
--- Stepped    one call of next_event: with the cursor at a place it says e, and leaves the cursor at another
--- SaidStep   the same where the event is said as numbers
+-- Stepped     one call of next_event: with the cursor at a place it says e, and leaves the cursor at another
+-- SaidStep    the same where the event is said as numbers
 use Rattle.std.specs.Prelude.{◌≡◌, Bool, cond, ◌&&◌, List, [], ◌∷◌, ◌++◌, ℕ, zero, suc, ◌+◌, ◌-◌, ltb, leb, eqb}
 use Rattle.search_events.specs.declared.Said.{Said}
 use Rattle.search_events.specs.declared.Event.{Event}

@@ -1,9 +1,9 @@
 -- Chains of rows with one hash: from each row to the last one before it.
 --
--- latest   the number after the last k < n whose row has the hash h, 0 if none has
--- Latest   what that says of a number p
--- WayBack  the way back along a chain from n rows has come to the number p: none of the rows from p on is y, and the
---          row before p has the hash of y
+-- latest    the number after the last k < n whose row has the hash h, 0 if none has
+-- Latest    what that says of a number p
+-- WayBack   the way back along a chain from n rows has come to the number p: none of the rows from p on is y, and the
+--           row before p has the hash of y
 use Rattle.std.specs.Prelude.{◌≡◌, ◌≢◌, Bool, false, cond, ℕ, zero, suc, ◌-◌, ◌≤◌, ◌<◌, eqb}
 
 module _ {A : Type 0} where

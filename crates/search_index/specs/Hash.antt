@@ -1,10 +1,10 @@
 -- Hashes of flags, by which a flag is looked up.
 --
--- hashes    how many hashes there are: a prime number
--- weight    what the number at a rank counts for: the powers of 5741, each reduced
+-- hashes     how many hashes there are: a prime number
+-- weight     what the number at a rank counts for: the powers of 5741, each reduced
 -- sum_from   the numbers of a list, each times its weight, added up; the first stands at rank r
 -- hash_of    the hash of a flag: that sum, reduced
--- Weights   a list has the weight of each rank that there can be
+-- Weights    a list has the weight of each rank that there can be
 use Rattle.std.specs.Prelude.{◌≡◌, List, [], ◌∷◌, ℕ, zero, suc, ◌+◌, ◌*◌, ◌%◌, ◌<◌, length, get_or}
 use Rattle.listing.specs.Listing.{limits}
 

@@ -1,9 +1,9 @@
 -- Flags in a table, w numbers a row.
 --
 -- row_of      the kth row
--- rows       the first n rows
+-- rows        the first n rows
 -- same_list   whether two lists are equal, by looking
--- flatten    the lists of a list, one after another: flags in a table
+-- flatten     the lists of a list, one after another: flags in a table
 use Rattle.std.specs.Prelude.{Bool, true, false, ◌&&◌, List, [], ◌∷◌, ◌++◌, ℕ, zero, suc, ◌*◌, eqb, take, drop}
 
 unfoldable pub row_of : ℕ → List ℕ → ℕ → List ℕ

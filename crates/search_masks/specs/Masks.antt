@@ -1,12 +1,12 @@
 -- The change mask: bit r asks for the change at rank r.
 --
--- bit_at        bit r of a number, 0 or 1
+-- bit_at       bit r of a number, 0 or 1
 -- InMask       a mask asks for the change at rank r
 -- InnerRanks   it asks for changes at ranks from 1 to rank - 1 only
--- mask_fits     whether it does, by looking
--- every_rank    the mask that asks for every change of a cell of that rank: at 1 to rank - 1
--- bits_in       the set bits of a number among its k lowest, upward, each b more than its place
--- ranks_of      the ranks that a mask asks for, from the lowest upward
+-- mask_fits    whether it does, by looking
+-- every_rank   the mask that asks for every change of a cell of that rank: at 1 to rank - 1
+-- bits_in      the set bits of a number among its k lowest, upward, each b more than its place
+-- ranks_of     the ranks that a mask asks for, from the lowest upward
 use Rattle.std.specs.Prelude.{◌≡◌, Bool, cond, ◌&&◌, ◌||◌, List, [], ◌∷◌, ℕ, zero, suc, ◌+◌, ◌-◌, ◌/◌, ◌%◌, ◌^◌, ◌<◌, eqb, ltb}
 use Rattle.order.specs.Tests.{every}
 use Rattle.listing.specs.Listing.{limits}

@@ -1,6 +1,6 @@
 -- What the code that keeps the flags found keeps.
 --
--- state_of    the state that a table, its bytes and the progress of the code stand for
+-- state_of   the state that a table, its bytes and the progress of the code stand for
 -- Held       the table and the bytes have the room, n rows of it are in use, and these are indexed
 -- Rest       what stands past the first n rows and bytes is as it was
 -- Moved      the code has come from the progress s, with one table and bytes, to the progress r, with another: that

@@ -1,31 +1,31 @@
 -- A search along neighbours in the order found, with room for so many, that gives each thing found one of two
 -- orientations: a byte, 0 even or 1 odd.
 --
--- State       found: what was found, in order. bytes: the byte of each. place: how many were known at the first repeat
---             with another byte than stored, 0 while there was none. overflow: one more was met than there is room for
--- unbegun     the state in which nothing was found
--- add         a new thing is found, with the byte b
--- overfull    one more was met than there is room for
--- place_after  the place after the ith was met again, as one that should have the byte b
--- again       the state after that: all but the place is kept
--- waits       whether the kth is there to be worked
--- index_in     the first index at which a thing stands, the length where it does not
--- meet        a thing is met that should have the byte b: it does nothing after an overflow; a new one is added while
---             there is room
--- meet_all     things are met, in order
--- work        the neighbours of the kth are met, each with the byte that the kth does not have
--- run_for      the kth and those after it are worked, at most d of them
--- run         the kth and those after it are worked, as long as there are any and there was no overflow
--- search      the start is met, with byte 0, and then all are worked
--- Neighbour   y is a neighbour of x
--- Decides     a test of two things says true exactly of equal ones
--- Once        nothing stands twice in a list
--- AtLeast     at least n different things are reachable
--- Beyond      a list has so many things, and one more is reachable
--- Proper      what holds of each state of a search
--- Colouring   two colours that each step from a reachable thing exchanges
--- tone        the byte of a colour, seen from the colour of the start: 0 for the same, 1 for the other
--- evens       the even ones of those found: those whose byte is 0; what stands past the last byte is left out
+-- State         found: what was found, in order. bytes: the byte of each. place: how many were known at the first repeat
+--               with another byte than stored, 0 while there was none. overflow: one more was met than there is room for
+-- unbegun       the state in which nothing was found
+-- add           a new thing is found, with the byte b
+-- overfull      one more was met than there is room for
+-- place_after   the place after the ith was met again, as one that should have the byte b
+-- again         the state after that: all but the place is kept
+-- waits         whether the kth is there to be worked
+-- index_in      the first index at which a thing stands, the length where it does not
+-- meet          a thing is met that should have the byte b: it does nothing after an overflow; a new one is added while
+--               there is room
+-- meet_all      things are met, in order
+-- work          the neighbours of the kth are met, each with the byte that the kth does not have
+-- run_for       the kth and those after it are worked, at most d of them
+-- run           the kth and those after it are worked, as long as there are any and there was no overflow
+-- search        the start is met, with byte 0, and then all are worked
+-- Neighbour     y is a neighbour of x
+-- Decides       a test of two things says true exactly of equal ones
+-- Once          nothing stands twice in a list
+-- AtLeast       at least n different things are reachable
+-- Beyond        a list has so many things, and one more is reachable
+-- Proper        what holds of each state of a search
+-- Colouring     two colours that each step from a reachable thing exchanges
+-- tone          the byte of a colour, seen from the colour of the start: 0 for the same, 1 for the other
+-- evens         the even ones of those found: those whose byte is 0; what stands past the last byte is left out
 use Rattle.std.specs.Prelude.{◌≡◌, ◌↔◌, Bool, true, false, cond, not, ◌&&◌, ℕ, zero, suc, ◌-◌, ◌≤◌, ltb, eqb, length, get_or}
 use mathlib.Core.List.{List, [], ◌∷◌, ◌++◌, Memᴰ}
 use Rattle.order.specs.Steps.{Reach}

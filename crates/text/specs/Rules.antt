@@ -1,10 +1,10 @@
 -- The refusals of a text, and of writing one, in their order. Which line of a text is the first that is wrong, and so
 -- which number from 2 to 43 comes, says FirstPlace of text_theory.
 --
--- text_rules   42; then that the text is that of some layers within the limits
--- read_rules   the same, and then 36, for slices of the lengths c, e and i
--- check_rules  the text's, and then those of the closed test, of the listing that it says
--- write_rules  of a listing to be written: those of the closed test, then 44 and 42, for a slice of a length
+-- text_rules    42; then that the text is that of some layers within the limits
+-- read_rules    the same, and then 36, for slices of the lengths c, e and i
+-- check_rules   the text's, and then those of the closed test, of the listing that it says
+-- write_rules   of a listing to be written: those of the closed test, then 44 and 42, for a slice of a length
 use Rattle.std.specs.Prelude.{◌≡◌, List, [], ◌∷◌, ◌++◌, ℕ, ◌≤◌, length}
 use Rattle.listing.specs.Refusals.{over_ranks, long_text, more_bytes, bytes_short, output_short}
 use Rattle.listing.specs.Listing.{Listing, Limits}

@@ -1,10 +1,10 @@
 -- The text of a closed listing written into a lent slice: which refusal comes, what is answered, what the slice holds
 -- then. m are the limits, L is the listing; the slice held `old` and holds `new`; r is what is answered.
 --
--- length_test  44, 42: a text of n bytes is too long for a slice of a length, or for the limit
--- write_test   the refusals of write_text in their order: the closed test's, then 44 and 42, for a slice of a length
--- written_of   the answer with the bytes written; 0 where it is a refusal
--- TextMade    what is answered and left where the test t decides and the bytes s are to be written
+-- length_test   44, 42: a text of n bytes is too long for a slice of a length, or for the limit
+-- write_test    the refusals of write_text in their order: the closed test's, then 44 and 42, for a slice of a length
+-- written_of    the answer with the bytes written; 0 where it is a refusal
+-- TextMade      what is answered and left where the test t decides and the bytes s are to be written
 use Rattle.std.specs.Prelude.{◌≡◌, List, ℕ, ltb, length}
 use Rattle.listing.specs.declared.Answer.{Answer}
 use Rattle.listing.specs.Refusals.{bytes_short, long_text}

@@ -1,7 +1,7 @@
 -- What the functions that read a text from a place on answer.
 --
 -- Key        one of the three keys
--- form_of     40, 41: whether what is left of a text goes on with a line of a key and numbers
+-- form_of    40, 41: whether what is left of a text goes on with a line of a key and numbers
 -- LineRead   such a line at a place: the number that refuses it, and where the next begins
 -- TermRead   a number of a row at a place: what it is, and what the rest of the row is; with what ends it, it takes two
 --            bytes at least

@@ -1,7 +1,7 @@
 -- The first reading of a text t, with the limits m: how far it has come, and what it finds. up has, for each element,
 -- how many sups it has, as far as the lines that were read tell. The numbers of these lines are noted down.
 --
--- left_test      the refusals that are left from line k on
+-- left_test     the refusals that are left from line k on
 -- Raising       the sups of all ranks that lie two or more below rank r are counted, the others not yet; no count
 --               passes the place that was reached
 -- CountsNoted   the counts of the ranks below r stand in a list, which is long enough for all

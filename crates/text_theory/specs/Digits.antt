@@ -2,8 +2,8 @@
 --
 -- is_digit    whether a byte is a digit
 -- digits_in   the digits that a text begins with
--- valued     the number that digits tell when they go on from v
--- Numeral    digits that are a number as it is written, one that a text can have
+-- valued      the number that digits tell when they go on from v
+-- Numeral     digits that are a number as it is written, one that a text can have
 -- good_row    whether a text goes on with these numbers up to a newline, and a text can have them: what follows a key
 use Rattle.std.specs.Prelude.{◌≡◌, Bool, cond, ◌&&◌, List, [], ◌∷◌, ◌++◌, ℕ, ◌+◌, ◌-◌, ◌*◌, ◌<◌, leb}
 use Rattle.text_theory.specs.Text.{text_width, newline, numeral, commas}

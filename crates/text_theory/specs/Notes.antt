@@ -1,7 +1,7 @@
 -- The numbers of layers noted down flat, as they are met from the first line of their text to the last.
 --
 -- subs_to   how many subs all elements have before element i of rank r
--- Noted    three lists have them: the count of each rank, how many subs each element has, and all subs
+-- Noted     three lists have them: the count of each rank, how many subs each element has, and all subs
 use Rattle.std.specs.Prelude.{◌≡◌, List, ℕ, suc, ◌+◌, ◌≤◌, ◌<◌, length, get_or}
 use Rattle.order.specs.Sums.{sum}
 use Rattle.listing.specs.Layers.{Layers}

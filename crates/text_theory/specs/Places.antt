@@ -16,7 +16,7 @@
 -- FirstPlace   n is the number of what follows the longest run; after a shorter one nothing of Then holds. Whether the
 --              text is too long, 42, is asked before
 -- Readable     layers within the limits, whose numbers a text can have, and whose text is not too long
--- cut_at        the layers up to rank r, with only the first i elements of that rank
+-- cut_at       the layers up to rank r, with only the first i elements of that rank
 use Rattle.std.specs.Prelude.{◌≡◌, ◌⊎◌, cond, List, [], ◌++◌, ℕ, suc, ◌≤◌, ◌<◌, ltb, eqb, length}
 use Rattle.order.specs.Lists.{In}
 use Rattle.order.specs.Sums.{sum}

@@ -5,27 +5,27 @@
 -- after_line      what follows the first newline
 -- from_line       what is left of a text from line k on
 -- values_from     the numbers up to a newline or the end, parted by commas; the first goes on from v; every other byte
---                counts as a digit, less 48 and not below 0
--- values         the same, but none where nothing stands before the newline
--- value          the first of them, 0 where nothing stands
+--                 counts as a digit, less 48 and not below 0
+-- values          the same, but none where nothing stands before the newline
+-- value           the first of them, 0 where nothing stands
 -- count_at        the number that line k of a text has after the key of a count
 -- count_line      which line has the count of rank r, if the counts of the lower ranks are where they should be
--- said           the layers that a text says
+-- said            the layers that a text says
 -- listing_in      the listing that it says, with derived sups
--- begins         whether a text begins with some bytes
+-- begins          whether a text begins with some bytes
 -- numbers_fit     whether a text can have these numbers
 -- form_test       40, 41: whether a text goes on with a line
 -- below_in        how many numbers of a list are below n
 -- size_below      the elements of the rank below a rank; none below rank 0
 -- incidences_of   the incidences that an element brings: its subs, and a sup for each of them that exists
 -- incidences_to   those of all elements before element i of rank r
--- Bound          an amount, the most that it may be, and the number that refuses more
+-- Bound           an amount, the most that it may be, and the number that refuses more
 -- bound_of        what is bounded at a line of rank r: at its count the elements so far, at an element the incidences
 -- bound_at        the same at line k; at line 0 the ranks
 -- bound_test      2, 3, 5: whether it is too much
 -- line_test       what is asked of line k of a text
 -- text_test       the refusals of a text in their order: 42, those of its lines, 43. Whether there is room, 36, is asked
---                of the slices after them
+--                 of the slices after them
 use Rattle.std.specs.Prelude.{Bool, true, false, cond, not, ◌&&◌, List, [], ◌∷◌, ℕ, zero, suc, ◌+◌, ◌-◌, ◌*◌, leb, ltb, eqb, length, get_or, drop}
 use Rattle.order.specs.Sums.{sum}
 use Rattle.listing.specs.declared.Answer.{Answer}

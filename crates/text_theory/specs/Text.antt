@@ -1,27 +1,27 @@
 -- The text of layers, as the house writes it: lines of a key and numbers, each ended by a newline. First the rank, then
 -- for each rank how many elements it has and, on a line for each, what lies under them.
 --
--- text_width        how many values a number of a text can have
+-- text_width   how many values a number of a text can have
 -- newline, comma   two bytes
--- digit            a digit as a byte
--- spelled          a number in decimal, k digits at most: of a longer one the last k
--- numeral          a number in decimal: one digit or more, and no 0 in front of others
--- parted           numbers, each with a comma before it
--- commas           numbers parted by commas
--- Line             a line: its key and its numbers
--- line             a line of a key and numbers
--- line_bytes        a line as it is written
--- rank_key          `rank=`, the key of the first line
--- count_key         `count=`, that of a line that tells how many elements a rank has
--- subs_key          `subs=`, that of an element's line
--- lines_in          how many lines a rank has: one for its count, and one for each element
--- line_of           line i of those of rank r
--- rank_bytes        all lines of rank r as they are written
--- spot             the rank that line k + 1 belongs to, and its place there, of which place 0 is the count
--- line_at           line k of layers; line 0 is the rank
--- line_count        how many lines layers have
--- text_to           their first k lines
--- text_of           their text
+-- digit        a digit as a byte
+-- spelled      a number in decimal, k digits at most: of a longer one the last k
+-- numeral      a number in decimal: one digit or more, and no 0 in front of others
+-- parted       numbers, each with a comma before it
+-- commas       numbers parted by commas
+-- Line         a line: its key and its numbers
+-- line         a line of a key and numbers
+-- line_bytes   a line as it is written
+-- rank_key     `rank=`, the key of the first line
+-- count_key    `count=`, that of a line that tells how many elements a rank has
+-- subs_key     `subs=`, that of an element's line
+-- lines_in     how many lines a rank has: one for its count, and one for each element
+-- line_of      line i of those of rank r
+-- rank_bytes   all lines of rank r as they are written
+-- spot         the rank that line k + 1 belongs to, and its place there, of which place 0 is the count
+-- line_at      line k of layers; line 0 is the rank
+-- line_count   how many lines layers have
+-- text_to      their first k lines
+-- text_of      their text
 use Rattle.std.specs.Prelude.{cond, List, [], ◌∷◌, ◌++◌, ℕ, zero, suc, ◌+◌, ◌/◌, ◌%◌, ltb}
 use Rattle.order.specs.Sums.{sum, part_at}
 use Rattle.listing.specs.Layers.{Layers}

@@ -2,7 +2,7 @@
 --
 -- line_from    the line of the ith element from place `here` on: what lies under it
 -- lines_from   the lines of the n elements from place `here` on
--- PutAt         d' is d with the bytes s written from place `at` on, and r is the place after them
+-- PutAt        d' is d with the bytes s written from place `at` on, and r is the place after them
 use Rattle.std.specs.Prelude.{◌≡◌, List, ℕ, ◌+◌, ◌*◌, length}
 use Rattle.listing.specs.Listing.{entries}
 use Rattle.listing.specs.Written.{joined}

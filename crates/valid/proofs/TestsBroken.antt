@@ -1,7 +1,7 @@
 -- Each test answers the number of the first rule that is broken; and so does what comes after the closed test.
 -- Assumes nothing.
-use mathlib.Core.Path.{◌≡◌, refl}
-use mathlib.Core.List.{List, [], ◌∷◌, ◌++◌}
+use mathlib.Core.Path.{refl}
+use mathlib.Core.List.{List, [], ◌++◌}
 use Prim.Native.Nat.{◌-◌}
 use Rattle.listing.specs.declared.Answer.{Answer}
 use Rattle.listing.specs.Answers.{fine, ◌or_else◌}

@@ -1,14 +1,14 @@
 -- Listings whose subs tell all: what the quick look finds where it says yes.
 --
--- Agrees      nothing lies under the one element of rank 0; above it each element has subs, which ascend and exist one
---             rank lower; below the top each has sups; and the sups of each are those derived from the subs
--- Cursors     there are cursors and ends for n elements from a place on
+-- Agrees         nothing lies under the one element of rank 0; above it each element has subs, which ascend and exist one
+--                rank lower; below the top each has sups; and the sups of each are those derived from the subs
+-- Cursors        there are cursors and ends for n elements from a place on
 -- AscendsBelow   a list ascends, and all that stands in it is below n
--- AllBelow    so do the first m of some lists, and none of them is empty
--- AgreesAt    what Agrees asks of the elements of a rank and of the subs of the rank above it
--- Met         the cursors of n elements have gone from `next` to `next'`, each along its numbers `so s`
--- AllMet      the cursors of n elements from a place on have come to the end of their sups
--- SomeSups    none of n elements from a place on is without sups
+-- AllBelow       so do the first m of some lists, and none of them is empty
+-- AgreesAt       what Agrees asks of the elements of a rank and of the subs of the rank above it
+-- Met            the cursors of n elements have gone from `next` to `next'`, each along its numbers `so s`
+-- AllMet         the cursors of n elements from a place on have come to the end of their sups
+-- SomeSups       none of n elements from a place on is without sups
 use Rattle.std.specs.Prelude.{◌≡◌, List, [], ℕ, suc, ◌+◌, ◌*◌, ◌≤◌, ◌<◌, length, get_or}
 use Rattle.order.specs.Lists.{In, Ascending}
 use Rattle.listing.specs.Listing.{Listing, limits, rank, count, subs, sups}

@@ -1,11 +1,11 @@
 -- The ascent test, 19: every list strictly ascends.
 --
--- climbs          the numbers strictly ascend, the first of them not below `from`
+-- climbs           the numbers strictly ascend, the first of them not below `from`
 -- side_ascent      refusal 19 at a list of an element that does not strictly ascend
 -- element_ascent   the same at an element: its subs, then its sups
 -- ascent_test      refusal 19 at the first list, by rank, index, subs before sups, that does not strictly ascend
--- AscendsAt       what the ascent test asks of an element: its subs and its sups strictly ascend
--- Ascends         the same of every element
+-- AscendsAt        what the ascent test asks of an element: its subs and its sups strictly ascend
+-- Ascends          the same of every element
 use Rattle.std.specs.Prelude.{Bool, true, not, ◌&&◌, List, [], ◌∷◌, ℕ, ◌+◌, ◌<◌, leb, length}
 use Rattle.order.specs.Lists.{Ascending}
 use Rattle.listing.specs.declared.Answer.{Answer}

@@ -1,7 +1,7 @@
 -- Test 1: one minimal and one maximal element.
 --
 -- bounded_test   refusal 10 with both counts unless each is 1
--- Bounded       the book's rule: one element at rank 0, one at the top
+-- Bounded        the book's rule: one element at rank 0, one at the top
 use Rattle.std.specs.Prelude.{◌≡◌, not, ◌&&◌, eqb}
 use Rattle.listing.specs.declared.Answer.{Answer}
 use Rattle.listing.specs.Refusals.{not_bounded}

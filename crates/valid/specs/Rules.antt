@@ -1,10 +1,10 @@
 -- The refusals of the five tests, in their order.
 --
--- bounded_rule    10
--- incident_rule   11 to 16, by the place of the first breach
--- ascent_rule     19
+-- bounded_rule     10
+-- incident_rule    11 to 16, by the place of the first breach
+-- ascent_rule      19
 -- below_top_rule   17 and 18 below the top: each index that a walk meets is met twice
--- up_to_top_rule    17 and 18 up to the top: the diamond
+-- up_to_top_rule   17 and 18 up to the top: the diamond
 -- bounded_rules, incident_rules, dyadic_rules, valid_rules, closed_rules    the five tests
 use Rattle.std.specs.Prelude.{List, [], ◌∷◌, ◌++◌, ◌-◌}
 use Rattle.listing.specs.Refusals.{not_bounded, no_subs, sup_missing, third_between, lone_between, not_ascending}

@@ -1,9 +1,9 @@
 -- The five entries: each is shape and then its tests in their order, with the first refusal.
 --
 -- bounded            shape, 1
--- check_incidences    shape, 2
--- is_dyadic           shape, 2, 3 at the ranks below the top
--- is_valid            shape, 1, 2, 3 at the ranks below the top
+-- check_incidences   shape, 2
+-- is_dyadic          shape, 2, 3 at the ranks below the top
+-- is_valid           shape, 1, 2, 3 at the ranks below the top
 -- closed             shape, 1, 2, ascent, 3 at the ranks to the top
 use Rattle.std.specs.Prelude.{◌-◌}
 use Rattle.listing.specs.declared.Answer.{Answer}

@@ -1,20 +1,20 @@
 -- Test 3: the diamond.
 --
--- subs_of_all      the subs of each number of a list in turn, whose elements' lists begin at place b
--- walk           the subs of an element's subs, in walking order
+-- subs_of_all     the subs of each number of a list in turn, whose elements' lists begin at place b
+-- walk            the subs of an element's subs, in walking order
 -- third_test      the refusal f x at the first number x that is met a third time, after those of `seen`
 -- seen_after      what has been seen after a walk
 -- lone_test       the refusal f x at the smallest number x below n that was met once
--- third          the refusal of a section under element i of rank r: its index x is met a third time
--- lone           the refusal of a section under element i of rank r: its index x is met once
+-- third           the refusal of a section under element i of rank r: its index x is met a third time
+-- lone            the refusal of a section under element i of rank r: its index x is met once
 -- sections_test   one element: 17 at the first third occurrence on the walk, then 18 at the smallest index met once
 -- dyadic_test     all elements of the ranks 2 to h, by rank and then index
--- LiesBetween        s lies between x, two ranks lower, and element i of rank r
--- DiamondAt      the book's rule at rank r: whenever some element lies between, exactly one other does, which makes two
--- DiamondUpTo        the book's rule at the ranks 2 to h
--- Distinct       no list of the listing holds an index twice
--- MetTwiceAt     what test 3 asks of an element, also where lists repeat: each index that its walk meets is met twice
--- MetTwice       the same of each element of the ranks 2 to h
+-- LiesBetween     s lies between x, two ranks lower, and element i of rank r
+-- DiamondAt       the book's rule at rank r: whenever some element lies between, exactly one other does, which makes two
+-- DiamondUpTo     the book's rule at the ranks 2 to h
+-- Distinct        no list of the listing holds an index twice
+-- MetTwiceAt      what test 3 asks of an element, also where lists repeat: each index that its walk meets is met twice
+-- MetTwice        the same of each element of the ranks 2 to h
 use Rattle.std.specs.Prelude.{◌≡◌, List, [], ◌∷◌, ◌++◌, ℕ, ◌+◌, ◌-◌, ◌*◌, ◌≤◌, ◌<◌, leb, eqb}
 use Rattle.order.specs.Lists.{In, occurs}
 use Rattle.order.specs.Diamond.{OneOther}

@@ -1,13 +1,13 @@
 -- What the code of test 3 keeps: how often each index has been met.
 --
--- at_least     how many counts of a tally are at least k
--- MetIn       a tally has n counts, `met` of them at least 1: so many indices were met and not set back
--- TotalsIn    the same, and `twice` of them are at least 2
--- Tally       a tally of n counts, by index, of what has been seen
--- Tallied     after a list: the answer at the first third occurrence, and else the tally of what has been seen
--- lone_in      the refusal f x at the smallest index x below n whose count is 1
--- undone      a tally, with the counts of a list's indices set back to 0, the last first
--- Walkable    the numbers of a list are elements whose lists begin at place b, and the subs of these are below n
+-- at_least   how many counts of a tally are at least k
+-- MetIn      a tally has n counts, `met` of them at least 1: so many indices were met and not set back
+-- TotalsIn   the same, and `twice` of them are at least 2
+-- Tally      a tally of n counts, by index, of what has been seen
+-- Tallied    after a list: the answer at the first third occurrence, and else the tally of what has been seen
+-- lone_in    the refusal f x at the smallest index x below n whose count is 1
+-- undone     a tally, with the counts of a list's indices set back to 0, the last first
+-- Walkable   the numbers of a list are elements whose lists begin at place b, and the subs of these are below n
 use Rattle.std.specs.Prelude.{◌≡◌, cond, List, [], ◌∷◌, ℕ, ◌+◌, ◌*◌, ◌<◌, leb, eqb, length, get_or, set}
 use Rattle.order.specs.Lists.{In, occurs}
 use Rattle.listing.specs.declared.Answer.{Answer}

@@ -2,12 +2,12 @@
 --
 -- element_test      one element: 11, its subs in order (15, 13), 12, its sups in order (16, 14)
 -- incidences_test   all elements, by rank and then index
--- SubBack          x, as a sub of element i of rank r, exists one rank lower and lists the element back
--- SupBack          x, as a sup of element i of rank r, exists one rank higher and lists the element back
--- LowerAt          an element has subs if it is above rank 0, and each exists and lists it back
--- UpperAt          an element has sups if it is below the top, and each exists and lists it back
--- IncidentAt       both: what test 2 asks of an element
--- Incident         the book's rule: all of it, of every element
+-- SubBack           x, as a sub of element i of rank r, exists one rank lower and lists the element back
+-- SupBack           x, as a sup of element i of rank r, exists one rank higher and lists the element back
+-- LowerAt           an element has subs if it is above rank 0, and each exists and lists it back
+-- UpperAt           an element has sups if it is below the top, and each exists and lists it back
+-- IncidentAt        both: what test 2 asks of an element
+-- Incident          the book's rule: all of it, of every element
 use Rattle.std.specs.Prelude.{ℕ, ◌+◌, ◌-◌, ◌<◌, length}
 use Rattle.order.specs.Lists.{In}
 use Rattle.listing.specs.declared.Answer.{Answer}

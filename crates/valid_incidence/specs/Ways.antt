@@ -1,10 +1,10 @@
 -- The two ways that test 2 looks from an element: down along its subs, up along its sups. What a way says stands with
 -- `Way` in src/incidence.rt.
 --
--- down        the way from rank r to the rank below
--- up          the way from rank r to the rank above
--- WayFits     the elements of a way are there
--- back        the list of element x of a way that leads back
+-- down         the way from rank r to the rank below
+-- up           the way from rank r to the rank above
+-- WayFits      the elements of a way are there
+-- back         the list of element x of a way that leads back
 -- entry_test   one entry x of a list of element i of rank r: x is an element of the way, and its list back holds i
 -- along_test   the first refusal along a list, its entries in order
 -- list_test    a list along its way: the refusal of an empty one, then its entries

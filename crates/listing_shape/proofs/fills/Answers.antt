@@ -1,6 +1,5 @@
 use Rattle.listing.proofs.ShapeExact.{fills_step, fills_end}
-use Rattle.listing.specs.Shape.{fills}
-use Rattle.std.proofs.Common.{◌-◌, sym, ◌∙◌, arith, le-leb}
+use Rattle.std.proofs.Common.{sym, ◌∙◌, arith, le-leb}
 use borrow.Author.Tests.{lt-leb}
 use Rattle.listing_shape.proofs.fills.Goals as goal
 

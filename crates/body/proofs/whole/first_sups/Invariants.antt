@@ -3,7 +3,7 @@
 use mathlib.Core.Path.{◌≡◌}
 use Prim.Native.Nat.{◌-◌, ◌≤◌}
 use lib.ListN.{length}
-use Rattle.listing.specs.Listing.{listing, limits, rank, count, before}
+use Rattle.listing.specs.Listing.{listing, limits, before}
 use Rattle.body.proofs.FirstSups.{WrittenTo}
 use Rattle.body.proofs.whole.first_sups.Given as goal
 

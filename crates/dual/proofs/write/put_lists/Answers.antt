@@ -1,17 +1,16 @@
 use native.Mathlib.Omega.{arith}
 use mathlib.Core.Path.{◌≡◌, ap, ◌∙◌}
-use mathlib.Core.List.{List}
 use Prim.Native.Nat.{ℕ, suc, ◌+◌, ◌-◌, ◌*◌, ◌≤◌, ◌<◌}
 use lib.ListN.{length}
 use Rattle.order.specs.Sums.{sum}
 use Rattle.order.proofs.Sums.{sum_none, sum_le, sum_same}
 use Rattle.listing.specs.Listing.{Listing, listing, rank, count, before}
-use Rattle.listing.specs.Written.{lengths, nth, written}
+use Rattle.listing.specs.Written.{lengths, written}
 use Rattle.listing.proofs.Listing.{before_step}
 use Rattle.listing.proofs.Places.{rank_fits}
 use Rattle.listing.proofs.ShapeExact.{shaped_ends}
 use Rattle.listing.proofs.Written.{lists}
-use Rattle.dual_theory.specs.Dual.{dual_size, dual_layers, dual_over, dual_of}
+use Rattle.dual_theory.specs.Dual.{dual_size, dual_layers, dual_of}
 use Rattle.dual_theory.proofs.DualLists.{dual_next, dual_elements, dual_lists, dual_lengths}
 use Rattle.dual.specs.Writing.{turned_from, ListsPut}
 use Rattle.dual.proofs.Putting.{none, lists_none, lists_as, lists_then, ends_room, inc_room, ends_over, inc_over}

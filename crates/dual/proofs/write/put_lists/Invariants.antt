@@ -7,7 +7,7 @@ use Prim.Native.Nat.{ℕ, ◌-◌, ◌*◌, ◌≤◌}
 use lib.ListN.{length}
 use Rattle.order.specs.Sums.{sum}
 use Rattle.listing.specs.Written.{nth}
-use Rattle.listing.specs.Listing.{Listing, listing, count, before}
+use Rattle.listing.specs.Listing.{Listing, listing, before}
 use Rattle.dual_theory.specs.Dual.{dual_size, dual_layers, dual_over}
 use Rattle.dual.specs.Writing.{ListsPut}
 use Rattle.dual.proofs.Putting.{none}

@@ -1,6 +1,5 @@
 -- `put_rank`. Invariant: the lists of all elements but the last `left` are written. Measure: the elements left.
 -- Assumes nothing.
-use mathlib.Core.List.{List}
 use Prim.Native.Nat.{◌-◌, ◌*◌, ◌≤◌}
 use Rattle.dual.specs.Writing.{turned_from, ListsPut}
 use Rattle.dual.proofs.write.put_rank.Given as goal

@@ -1,9 +1,7 @@
 use mathlib.Core.Path.{◌≡◌, refl, sym, ◌∙◌}
-use mathlib.Core.Bool.{true}
-use Prim.Native.Nat.{◌-◌}
 use native.Mathlib.Omega.{arith}
 use lib.ListN.{length}
-use Rattle.listing.specs.Listing.{Listing, listing, before}
+use Rattle.listing.specs.Listing.{Listing, listing}
 use Rattle.listing.proofs.Listing.{before_zero, before_next}
 use Rattle.listing.proofs.Places.{few_before}
 use Rattle.order.specs.Tests.{every}

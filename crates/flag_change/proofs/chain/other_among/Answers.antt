@@ -1,6 +1,5 @@
 use mathlib.Core.Path.{sym, ◌∙◌}
-use Prim.Native.Nat.{◌-◌}
-use Rattle.flag_change.proofs.Common.{left, same_next, lacked_next, held_found, none_left}
+use Rattle.flag_change.proofs.Common.{same_next, lacked_next, held_found, none_left}
 use Rattle.flag_change.proofs.chain.other_among.Goals as goal
 
 pub loop-i-preserved-then-x-e : goal.loop-i-preserved-then-x-e

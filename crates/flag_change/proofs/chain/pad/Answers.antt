@@ -1,7 +1,6 @@
 use mathlib.Core.Path.{refl, ◌∙◌}
-use Prim.Native.Nat.{◌-◌}
 use native.Mathlib.Omega.{arith}
-use Rattle.flag_change.proofs.Padding.{filled, filled_next, filled_end}
+use Rattle.flag_change.proofs.Padding.{filled_next, filled_end}
 use Rattle.flag_change.proofs.chain.pad.Goals as goal
 
 pub loop-k-init : goal.loop-k-init

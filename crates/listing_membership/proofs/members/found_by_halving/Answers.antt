@@ -1,6 +1,5 @@
 use mathlib.Core.Path.{sym}
 use mathlib.Core.Bool.{true≢false}
-use Prim.Native.Nat.{◌-◌}
 use native.Mathlib.Omega.{arith}
 use Rattle.order.proofs.Positions.{has_at, only_all, only_none, only_above, only_below}
 use Rattle.listing_membership.proofs.members.found_by_halving.Goals as goal

@@ -1,7 +1,5 @@
 use mathlib.Core.Path.{sym, ◌∙◌}
-use Prim.Native.Nat.{◌-◌}
 use borrow.Author.Tests.{eq-eqb, ne_eqb}
-use Rattle.order.specs.Lists.{has}
 use Rattle.order.proofs.Positions.{has_step, has_end}
 use Rattle.listing_membership.proofs.members.found_by_scanning.Goals as goal
 

@@ -3,7 +3,6 @@ use Prim.Native.Nat.{◌-◌, ◌≤◌, ◌<◌}
 use native.Mathlib.Omega.{arith}
 use lib.ListN.{length-take, length, get_or, take, drop}
 use lib.Seq.{take_all}
-use Rattle.order.specs.Lists.{occurs}
 use Rattle.order.proofs.Lists.{occurs_nil}
 use Rattle.listing_sups.specs.Sups.{span}
 use Rattle.listing_sups.proofs.Gathering.{element_read, element_room, element_raised, element_strewn}

@@ -1,8 +1,7 @@
 use mathlib.Core.Path.{◌≡◌}
-use Prim.Native.Nat.{◌+◌, ◌-◌, ◌*◌, ◌<◌}
+use Prim.Native.Nat.{◌+◌, ◌*◌, ◌<◌}
 use native.Mathlib.Omega.{arith}
 use lib.ListN.{length}
-use Rattle.listing.specs.Layers.{gather}
 use Rattle.listing_sups.proofs.Gathering.{gather_none, rank_apart, rank_raised, rank_strewn}
 use Rattle.listing_sups.proofs.Strewing.{strewn_none}
 use Rattle.listing_sups.proofs.Raising.{raised_none}

@@ -1,5 +1,5 @@
 use mathlib.Core.Path.{◌≡◌, refl}
-use Prim.Native.Nat.{◌+◌, ◌-◌}
+use Prim.Native.Nat.{◌+◌}
 use native.Mathlib.Omega.{arith}
 use Rattle.listing.proofs.Laying.{laid_none, laid_next}
 use Rattle.listing_sups.proofs.sups.set_cursors.Goals as goal

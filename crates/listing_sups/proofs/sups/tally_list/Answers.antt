@@ -1,9 +1,7 @@
 use mathlib.Core.Path.{◌≡◌}
-use Prim.Native.Nat.{◌-◌}
 use native.Mathlib.Omega.{arith}
 use lib.Seq.{take_all}
-use lib.ListN.{length, take}
-use Rattle.order.specs.Lists.{occurs}
+use lib.ListN.{take}
 use Rattle.order.proofs.Lists.{occurs_nil}
 use Rattle.listing_sups.proofs.Raising.{occurs_take, raised_none, raised_then, list_few}
 use Rattle.listing_sups.proofs.sups.tally_list.Goals as goal

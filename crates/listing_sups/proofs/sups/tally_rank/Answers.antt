@@ -1,7 +1,6 @@
 use mathlib.Core.Path.{◌≡◌}
-use Prim.Native.Nat.{◌+◌, ◌-◌, ◌*◌}
+use Prim.Native.Nat.{◌+◌, ◌*◌}
 use native.Mathlib.Omega.{arith}
-use Rattle.order.specs.Sums.{sum}
 use Rattle.order.proofs.Sums.{sum_none}
 use Rattle.listing_sups.proofs.Raising.{raised_none, rank_next, rank_few, rank_most}
 use Rattle.listing_sups.proofs.sups.tally_rank.Goals as goal

@@ -1,8 +1,8 @@
-use borrow.Author.Tests.{lt-ltb, not-false}
+use borrow.Author.Tests.{lt-ltb}
 use native.Mathlib.Omega.{arith}
 use native.Mathlib.Numerals.{add-one}
 use mathlib.Core.Path.{◌≡◌, sym, ap, ◌∙◌}
-use Prim.Native.Nat.{ℕ, suc, ◌+◌, ◌-◌}
+use Prim.Native.Nat.{ℕ, suc, ◌+◌}
 use lib.ListN.{length, get_or, length-replicate}
 use Rattle.listing.specs.Listing.{Listing, listing, limits, count, before}
 use Rattle.listing.proofs.Listing.{before_zero, before_next}

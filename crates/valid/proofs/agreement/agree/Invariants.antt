@@ -4,7 +4,7 @@
 use mathlib.Core.Path.{◌≡◌}
 use Prim.Native.Nat.{ℕ, ◌-◌, ◌≤◌, ◌<◌}
 use lib.ListN.{length}
-use Rattle.listing.specs.Listing.{listing, limits, count, before}
+use Rattle.listing.specs.Listing.{listing, limits, before}
 use Rattle.valid.specs.Agreement.{AgreesAt}
 use Rattle.valid.proofs.agreement.agree.Given as goal
 

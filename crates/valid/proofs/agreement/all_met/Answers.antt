@@ -1,9 +1,7 @@
-use borrow.Author.Tests.{eqb-false}
 use native.Mathlib.Omega.{arith}
 use mathlib.Core.Path.{◌≡◌, sym, ◌∙◌}
-use mathlib.Core.Logic.{⊎_elim}
 use mathlib.Core.Bool.{true, true≢false}
-use Prim.Native.Nat.{◌+◌, ◌-◌, ◌*◌}
+use Prim.Native.Nat.{◌+◌, ◌*◌}
 use lib.ListN.{get_or}
 use Rattle.valid.proofs.Agreeing.{said_no, each_at}
 use Rattle.valid.proofs.agreement.all_met.Goals.{else-some-via-then-some+else-ends-k, else-some-via-else-some}

@@ -1,8 +1,7 @@
-use borrow.Author.Tests.{not-false}
 use native.Mathlib.Omega.{arith}
 use mathlib.Core.Path.{◌≡◌, refl}
-use Prim.Native.Nat.{◌-◌, ◌≤◌}
-use lib.ListN.{length, get_or, take}
+use Prim.Native.Nat.{◌≤◌}
+use lib.ListN.{get_or, take}
 use lib.Seq.{take_all}
 use Rattle.valid.proofs.Agreeing.{said_no, cursors_same, met_none, met_nil, met_next}
 use Rattle.valid.proofs.Agreeing.{none_below, below_next, subs_none, subs_next}

@@ -1,9 +1,6 @@
-use borrow.Author.Tests.{not-false}
 use native.Mathlib.Omega.{arith}
 use mathlib.Core.Path.{◌≡◌}
-use Prim.Native.Nat.{◌-◌}
 use Rattle.listing.specs.Listing.{subs_at}
-use Rattle.listing.specs.Layers.{gather}
 use Rattle.valid.proofs.Agreeing.{said_no, cursors_same, met_none, gather_none, all_below_next, met_all_next}
 use Rattle.valid.proofs.agreement.meet_rank.Goals as goal
 

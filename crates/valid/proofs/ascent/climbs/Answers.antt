@@ -1,6 +1,4 @@
 use mathlib.Core.Path.{sym, ◌∙◌}
-use Prim.Native.Nat.{◌-◌}
-use Rattle.valid.specs.Ascent.{climbs}
 use Rattle.valid.proofs.AscentExact.{climbs_stop, climbs_next, climbs_end}
 use Rattle.valid.proofs.ascent.climbs.Goals as goal
 

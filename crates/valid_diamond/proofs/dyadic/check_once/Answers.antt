@@ -1,7 +1,5 @@
 use mathlib.Core.Path.{refl}
-use Prim.Native.Nat.{◌-◌}
 use native.Mathlib.Omega.{arith}
-use Rattle.listing.specs.Answers.{on}
 use Rattle.listing.proofs.Answers.{of_done}
 use Rattle.valid_diamond.specs.Dyadic.{lone}
 use Rattle.valid_diamond.specs.Tally.{lone_in}

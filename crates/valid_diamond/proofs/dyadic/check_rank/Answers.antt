@@ -1,5 +1,4 @@
 use mathlib.Core.Path.{refl}
-use Prim.Native.Nat.{◌-◌}
 use native.Mathlib.Omega.{arith}
 use Rattle.listing.proofs.Answers.{of_return, of_turn, of_done}
 use Rattle.valid_diamond.proofs.dyadic.check_rank.Goals as goal

@@ -5,10 +5,9 @@ use mathlib.Core.List.{[]}
 use Prim.Native.Nat.{◌-◌}
 use lib.ListN.{length, take}
 use Rattle.listing.specs.Listing.{limits}
-use Rattle.order.specs.Lists.{In}
 use Rattle.valid_diamond.specs.Dyadic.{subs_of_all, third}
 use Rattle.valid_diamond.specs.Tally.{TotalsIn}
-use Rattle.valid_diamond.proofs.Walks.{subs_of, Walked}
+use Rattle.valid_diamond.proofs.Walks.{Walked}
 use Rattle.valid_diamond.proofs.dyadic.tally_all.Given as goal
 
 abbrev pub invariant-loop-j : goal.invariant-loop-j

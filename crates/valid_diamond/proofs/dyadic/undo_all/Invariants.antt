@@ -3,9 +3,8 @@
 -- nothing is left, and the loop has ended. Measure: j.
 -- Assumes nothing.
 use mathlib.Core.Path.{◌≡◌}
-use Prim.Native.Nat.{◌-◌, ◌≤◌}
+use Prim.Native.Nat.{◌≤◌}
 use lib.ListN.{length, take}
-use Rattle.order.specs.Lists.{In}
 use Rattle.listing.specs.Listing.{limits}
 use Rattle.valid_diamond.specs.Dyadic.{subs_of_all}
 use Rattle.valid_diamond.specs.Tally.{MetIn, undone}

@@ -2,7 +2,7 @@
 -- as setting back its first k indices in the tally at hand; and `left` counts of that are not 0. Measure: k.
 -- Assumes nothing.
 use mathlib.Core.Path.{◌≡◌}
-use Prim.Native.Nat.{◌-◌, ◌≤◌}
+use Prim.Native.Nat.{◌≤◌}
 use lib.ListN.{length, take}
 use Rattle.listing.specs.Listing.{limits}
 use Rattle.valid_diamond.specs.Tally.{MetIn, undone}

@@ -1,7 +1,7 @@
 use mathlib.Core.Path.{refl, sym}
-use Prim.Native.Nat.{◌+◌, ◌-◌}
+use Prim.Native.Nat.{◌+◌}
 use native.Mathlib.Omega.{arith}
-use Rattle.listing.specs.Listing.{listing, before}
+use Rattle.listing.specs.Listing.{listing}
 use Rattle.listing.proofs.Answers.{of_return, of_turn, of_done}
 use Rattle.listing.proofs.Listing.{before_zero, before_next}
 use Rattle.valid_incidence.specs.Incidence.{incidences_test}

@@ -1,5 +1,4 @@
 use mathlib.Core.Path.{sym, ◌∙◌}
-use Prim.Native.Nat.{◌-◌}
 use Rattle.listing.proofs.Answers.{in_next, in_stop, in_end, no_of, stops}
 use Rattle.valid_incidence.specs.Ways.{along_test}
 use Rattle.valid_incidence.proofs.incidence.check_along.Goals as goal

@@ -1,4 +1,3 @@
-use Prim.Native.Nat.{◌-◌}
 use native.Mathlib.Omega.{arith}
 use Rattle.listing.proofs.Answers.{of_return, of_turn, of_done}
 use Rattle.valid_incidence.proofs.incidence.check_rank.Goals as goal
