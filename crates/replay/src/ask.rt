@@ -1,6 +1,6 @@
 // Each question read from its line and put to the function that it names. The functions are told apart by letters of
 // their names.
-use crate::{bodies, cell, duals, flags};
+use crate::{bodies, cell, flags};
 use listing::Index;
 use replay_products::pair;
 use replay_reading::text;
@@ -22,11 +22,10 @@ fn on_flag(
     }
 }
 
-// Whether the line asks for a product: its name, or 'tested' or 'written' before it. Only 'dual' begins alike.
+// Whether the line asks for a product: its name, or 'tested' or 'written' before it.
 fn is_product(line: &[u8]) -> bool {
     match text::letter(line, 0) {
-        b'd' => text::letter(line, 2) == b'o',
-        b't' => true,
+        b'd' | b't' => true,
         b'w' => text::letter(line, 5) == b'e',
         _ => false,
     }
@@ -55,8 +54,8 @@ fn is_volume(line: &[u8]) -> bool {
     text::letter(line, 4) == b'v'
 }
 
-// A question on one cell, and perhaps a flag: a count, one on the flag, six_volume, one_body, write_text, dual, or
-// another test.
+// A question on one cell, and perhaps a flag: a count, one on the flag, six_volume, one_body, write_text, or another
+// test.
 fn on_cell(
     rt: &impl Print,
     line: &[u8],
@@ -79,9 +78,6 @@ fn on_cell(
     }
     if text::letter(line, 0) == b'w' {
         return replay_texts::write_text(rt, line, counts, ends, inc);
-    }
-    if text::letter(line, 0) == b'd' {
-        return duals::dual(rt, line, counts, ends, inc);
     }
     cell::test(rt, line, counts, ends, inc)
 }

@@ -6,7 +6,6 @@
 mod ask;
 mod bodies;
 mod cell;
-mod duals;
 mod flags;
 
 ghost use Rattle.std.specs.Prelude.{◌≡◌, length};

@@ -1,6 +1,5 @@
 use native.Mathlib.Omega.{arith}
 use mathlib.Core.Path.{sym, ◌∙◌}
-use Prim.Native.Nat.{◌-◌}
 use Rattle.cellbuild.proofs.Texts.{first_stops, first_goes, first_none}
 use Rattle.cellbuild.proofs.two.first_of_two.Goals as goal
 

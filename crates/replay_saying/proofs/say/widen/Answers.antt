@@ -1,5 +1,5 @@
 use Rattle.replay_saying.proofs.Counting.{counted}
-use Rattle.std.proofs.Common.{◌-◌, length, length-set, rules}
+use Rattle.std.proofs.Common.{length-set, rules}
 use Rattle.replay_saying.proofs.say.widen.Goals as goal
 
 pub loop-i-preserved : goal.loop-i-preserved

@@ -1,9 +1,7 @@
 use Rattle.replay_reading.proofs.Stores.{storing_all, storing_on, storing_end}
 use Rattle.replay_texts.proofs.Pieces.{escape_next, itself_next, unescaped_end}
-use Rattle.replay_texts.specs.Quoted.{unescaped}
 use lib.ListN.{get_or}
 use mathlib.Core.List.{[], ◌∷◌}
-use Prim.Native.Nat.{◌-◌}
 use native.Mathlib.Omega.{arith}
 use borrow.Author.Rules.{rules}
 use Rattle.replay_texts.proofs.quoted.put_once.Goals as goal

@@ -1,7 +1,7 @@
 use Rattle.replay_reading.proofs.Stores.{storing_all, storing_on, storing_end, stored_counts}
 use Rattle.replay_reading.proofs.Texts.{until_is}
 use Rattle.replay_texts.proofs.Pieces.{quoted_none, quoted_open, quoted_next}
-use Prim.Native.Nat.{◌+◌, ◌-◌}
+use Prim.Native.Nat.{◌+◌}
 use native.Mathlib.Omega.{arith}
 use borrow.Author.Rules.{rules}
 use Rattle.replay_texts.proofs.quoted.put_text.Goals as goal

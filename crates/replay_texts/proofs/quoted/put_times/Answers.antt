@@ -1,6 +1,6 @@
 use Rattle.replay_reading.proofs.Stores.{storing_all, storing_on, storing_end}
 use Rattle.replay_texts.proofs.Pieces.{copies_first, copies_none}
-use Rattle.replay_texts.specs.Quoted.{unescaped, copies}
+use Rattle.replay_texts.specs.Quoted.{unescaped}
 use borrow.Author.Rules.{rules}
 use Rattle.replay_texts.proofs.quoted.put_times.Goals as goal
 

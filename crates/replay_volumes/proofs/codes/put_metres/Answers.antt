@@ -1,4 +1,4 @@
-use Rattle.std.proofs.Common.{◌-◌, length, sym, ◌∙◌, arith, length-set}
+use Rattle.std.proofs.Common.{sym, ◌∙◌, arith, length-set}
 use Rattle.replay_volumes.proofs.Metres.{write_past, write_next, write_none, begins}
 use Rattle.replay_volumes.proofs.codes.put_metres.Goals as goal
 
