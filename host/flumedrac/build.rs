@@ -2,7 +2,7 @@
 //! without the archive nothing in this package works.
 //!
 //! The archive lies in the folder that the environment variable FLUMEDRAC_LIB names or, without it, in
-//! `target/staticlib` of the project, where `rt staticlib flumedrac` writes it.
+//! `target/staticlib` of the project, where `host/archive.sh` writes it.
 
 use std::env;
 use std::fs;
@@ -35,7 +35,7 @@ fn archive() -> Result<PathBuf, String> {
         )),
         Err(_) => Err(format!(
             "Flumedrac's archive is not there: {}\n\
-             Make it by 'rt staticlib flumedrac' in {}, which writes target/staticlib/libflumedrac.a.\n\
+             Make it by host/archive.sh in {}, which writes target/staticlib/libflumedrac.a.\n\
              Or have FLUMEDRAC_LIB name the folder that libflumedrac.a lies in.",
             archive.display(),
             project().display()

@@ -4,7 +4,7 @@
 //! The work is done by the archive `libflumedrac.a`, whose functions are proved; this package wraps them. A cell is a
 //! [`Listing`]. What is refused is a [`Refusal`], with the place where the fault was seen first.
 //!
-//! The archive is made by `rt staticlib flumedrac`. Where it is not found the package does not build: `build.rs` says
+//! The archive is made by `host/archive.sh`. Where it is not found the package does not build: `build.rs` says
 //! where it looks.
 //!
 //! ```

@@ -24,7 +24,7 @@ fn run(words: &[String], text: &[u8]) -> io::Result<(f64, Vec<u8>)> {
 /// The times of `cellcheck` for the text of the box, and of a process that does nothing, in turn; or why there are none.
 /// FLUMEDRAC_RUN has words to start the program by, such as an emulator.
 pub fn measured(runs: usize) -> Result<[(String, Summary); 2], String> {
-    let program = Path::new(env!("CARGO_MANIFEST_DIR")).join("../target/bin/cellcheck");
+    let program = Path::new(env!("CARGO_MANIFEST_DIR")).join("../crates/cellcheck/out/cellcheck");
     if !program.is_file() {
         return Err("The program cellcheck was not made (rt check cellcheck)".into());
     }
