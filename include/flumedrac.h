@@ -2,9 +2,10 @@
  * Flumedrac: tests of cells, the four products, duals, flag changes and the oriented flag search; cells read from a
  * text and written as one; the volume of a cell.
  *
- * What is proved, for every input, are the contracts of the functions in crates/flumedrac: that they end, stay inside
- * the slices they are lent, and answer and write what the contracts say. This header says the same in words for C and
- * C++. That its words, numbers and layouts agree with the functions is held by tests, not by proof.
+ * What is proved, for every input, are the contracts of the functions in crates/flumedrac, which crates/flumedrac_c
+ * exports: that they end, stay inside the slices they are lent, and answer and write what the contracts say. This header
+ * says the same in words for C and C++. That its words, numbers and layouts agree with the functions is held by tests,
+ * not by proof.
  *
  * A LISTING is three lent slices of 16-bit numbers.
  *   counts  How many elements each rank has, from rank 0 upward. A listing of rank n has n + 1 counts: the nullitope

@@ -9,7 +9,7 @@ use native.Mathlib.Decide.{dec_lt}
 use native.Mathlib.Omega.{arith}
 use lib.ListN.{length}
 use Rattle.listing.specs.declared.Answer.{Answer}
-use Rattle.listing.specs.Refusals.{not_aFlag, more_flags, several_parts}
+use Rattle.listing.specs.Refusals.{not_a_flag, more_flags, several_parts}
 use Rattle.listing.specs.Answers.{plain, fine}
 use Rattle.listing.specs.Listing.{Listing, limits}
 use Rattle.listing.specs.Rules.{rule, FirstBroken}
@@ -33,11 +33,11 @@ use Rattle.body.proofs.FoundAll.{found_piece}
 use Rattle.body.proofs.Judged.{parts_more, parts_several, parts_fine}
 
 -- the number of the closed test is less than the others
-closed_most : (L : Listing) → (closed limits L).no ≤ not_aFlag
+closed_most : (L : Listing) → (closed limits L).no ≤ not_a_flag
 unfolding start_test
 closed_most L = go (zero_or (closed limits L).no)
   where
-    go : ((closed limits L).no ≡ 0) ⊎ ((closed limits L).no ≢ 0) → (closed limits L).no ≤ not_aFlag
+    go : ((closed limits L).no ≡ 0) ⊎ ((closed limits L).no ≢ 0) → (closed limits L).no ≤ not_a_flag
     go (inl z) = omega arith
     go (inr h) = rw (or_stop (closed limits L) _ h) at (start_most limits L (sups_flag L))
 

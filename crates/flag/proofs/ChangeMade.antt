@@ -54,8 +54,8 @@ module _ (m : Limits) (L : Listing) (f : List ℕ) (r : ℕ) where
     change_replaces =
         let p = change_asked in
         let R = replaces L p.0 r p.2 p.3 f p.1 in
-        let at-r = padded_at new r (omega (arith, new_long)) in
-        rw change_made (record { taken = R.taken; put = R.put ∙ sym at-r; two = R.two })
+        let at_r = padded_at new r (omega (arith, new_long)) in
+        rw change_made (record { taken = R.taken; put = R.put ∙ sym at_r; two = R.two })
 
 -- Where a change is not refused, the same change of the new flag is not refused either; it gives the old flag, and what
 -- is taken out and put in are exchanged.

@@ -8,7 +8,7 @@ use Prim.Native.Nat.{ℕ}
 use native.Mathlib.Omega.{arith}
 use borrow.Author.Tests.{not-false}
 use Rattle.listing.specs.declared.Answer.{Answer}
-use Rattle.listing.specs.Refusals.{not_aFlag}
+use Rattle.listing.specs.Refusals.{not_a_flag}
 use Rattle.listing.specs.Answers.{plain, fine}
 use Rattle.listing.specs.Listing.{Listing, Limits}
 use Rattle.listing.proofs.Answers.{or_no, no_or, on_no, on_off, then_go}
@@ -24,7 +24,7 @@ module _ (m : Limits) (L : Listing) (f : List ℕ) where
     unfolding start_test
     start_fine t k = then_go e z (rw t k)
 
-    pub start_none : flag_test L f ≡ false → b ≡ plain not_aFlag → b ≡ start_test m L f
+    pub start_none : flag_test L f ≡ false → b ≡ plain not_a_flag → b ≡ start_test m L f
     unfolding start_test
     start_none t k = then_go e z (rw t k)
 
@@ -36,10 +36,10 @@ module _ (m : Limits) (L : Listing) (f : List ℕ) where
       there : (start_test m L f).no ≡ 0 → Closed m L × IsFlag L f
       there e =
           let p = or_no (closed m L) _ e in
-          let t = on_no (not (flag_test L f)) (plain not_aFlag) (λ z. omega arith) p.1 in
+          let t = on_no (not (flag_test L f)) (plain not_a_flag) (λ z. omega arith) p.1 in
           ((closed_exact m L).0 p.0, (flag_exact L f).0 (not-false _ t))
 
       back : Closed m L × IsFlag L f → (start_test m L f).no ≡ 0
       back h =
           no_or (closed m L) _ ((closed_exact m L).1 h.0)
-          (on_off (not (flag_test L f)) (plain not_aFlag) (ap not ((flag_exact L f).1 h.1)))
+          (on_off (not (flag_test L f)) (plain not_a_flag) (ap not ((flag_exact L f).1 h.1)))

@@ -8,7 +8,7 @@ use Rattle.std.specs.Prelude.{◌≡◌, Bool, not, ◌&&◌, ◌||◌, List, �
 use Rattle.order.specs.Lists.{In, has}
 use Rattle.order.specs.Tests.{every}
 use Rattle.listing.specs.declared.Answer.{Answer}
-use Rattle.listing.specs.Refusals.{not_aFlag}
+use Rattle.listing.specs.Refusals.{not_a_flag}
 use Rattle.listing.specs.Answers.{plain, on, ◌or_else◌}
 use Rattle.listing.specs.Listing.{Listing, Limits, count, subs}
 use Rattle.valid.specs.Tests.{closed}
@@ -20,7 +20,7 @@ unfoldable pub flag_test : Listing → List ℕ → Bool
 flag_test L f = eqb (length f) (length L.counts) && every (flag_at L f) (length L.counts)
 
 unfoldable pub start_test : Limits → Listing → List ℕ → Answer
-start_test m L f = closed m L or_else on (not (flag_test L f)) (plain not_aFlag)
+start_test m L f = closed m L or_else on (not (flag_test L f)) (plain not_a_flag)
 
 pub record IsFlag (L : Listing) (f : List ℕ) : Type 0 where
   pub one_each : length f ≡ length L.counts

@@ -12,7 +12,7 @@
 -- sub_missing, sup_missing                 a sub, a sup that does not exist
 -- third_between, lone_between              the diamond: an element met a third time between; one met only once
 -- not_ascending     a list that does not strictly ascend
--- not_aFlag         the numbers are no flag
+-- not_a_flag         the numbers are no flag
 -- outside_ranks, more_flags                a change, or a bit of a mask, outside 1 to rank - 1; more flags than room
 -- several_parts     closed, but its flags are in several parts
 -- left_invalid, right_invalid              is_valid refuses the left, the right factor
@@ -83,8 +83,8 @@ abbrev pub not_ascending : ℕ
 not_ascending = 19
 
 -- flags
-abbrev pub not_aFlag : ℕ
-not_aFlag = 20
+abbrev pub not_a_flag : ℕ
+not_a_flag = 20
 
 abbrev pub outside_ranks : ℕ
 outside_ranks = 21

@@ -4,7 +4,7 @@
 ghost use Rattle.std.specs.Prelude.{◌≡◌};
 ghost use Rattle.listing.specs.Refusals.{band, band_no};
 ghost use Rattle.listing.specs.Listing.{held, limits};
-ghost use Rattle.listing.specs.Shape.{shape_test, fills as fillsTo};
+ghost use Rattle.listing.specs.Shape.{shape_test, fills as fills_to};
 ghost use Rattle.listing_shape.specs.Counts.{rank_of, el_count_of, vertex_count_of, facet_count_of};
 
 use listing::{Answer, Band, Index, Number, inner, limit, refusal};
@@ -85,7 +85,7 @@ pub fn facet_count(counts: &[Index]) -> Number
 
 // Whether the ends do not fall, and come to n.
 fn fills(ends: &[Index], n: usize) -> bool
-    ensures { result ≡ fillsTo 0 ends.now n }
+    ensures { result ≡ fills_to 0 ends.now n }
 {
     let mut from: Index = 0;
     let mut k: usize = 0;

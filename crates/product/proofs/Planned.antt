@@ -48,34 +48,34 @@ module _ (min max : Bool) (A B : Listing) (u_a : Usable min max A) (u_b : Usable
 
   -- ---- sizes
 
-  some_P : 0 < length P.counts
-  some_P = omega (arith, in_use_length min max A u_a)
+  some_p : 0 < length P.counts
+  some_p = omega (arith, in_use_length min max A u_a)
 
-  some_Q : 0 < length Q.counts
-  some_Q = omega (arith, in_use_length min max B u_b)
+  some_q : 0 < length Q.counts
+  some_q = omega (arith, in_use_length min max B u_b)
 
-  size_T : sum T.size (suc T.top) ≡ n
-  size_T = target_size P Q some_P some_Q min max
+  size_t : sum T.size (suc T.top) ≡ n
+  size_t = target_size P Q some_p some_q min max
 
-  size_R : elements R ≡ n
-  size_R =
+  size_r : elements R ≡ n
+  size_r =
       ap elements' (sym (target_written min max A B u_a u_b))
-      ∙ written_elements T (derived T) (target_topped min max P Q) ∙ size_T
+      ∙ written_elements T (derived T) (target_topped min max P Q) ∙ size_t
     where
       elements' : Listing → ℕ
       elements' L = elements L
 
-  ends_R : length R.ends ≡ 2 * n
-  ends_R =
+  ends_r : length R.ends ≡ 2 * n
+  ends_r =
       ap (λ (L : Listing). length L.ends) (sym (target_written min max A B u_a u_b))
-      ∙ written_ends_length T (derived T) ∙ ap (λ k. 2 * k) size_T
+      ∙ written_ends_length T (derived T) ∙ ap (λ k. 2 * k) size_t
 
-  inc_R : length R.inc ≡ starts (lists_of min max P Q) (2 * n)
+  inc_r : length R.inc ≡ starts (lists_of min max P Q) (2 * n)
   unfolding written lists_of
-  inc_R =
+  inc_r =
       ap (λ (L : Listing). length L.inc) (sym (target_written min max A B u_a u_b))
       ∙ joined_length (lists_of min max P Q) (2 * sum T.size (suc T.top))
-      ∙ ap (λ k. starts (lists_of min max P Q) (2 * k)) size_T
+      ∙ ap (λ k. starts (lists_of min max P Q) (2 * k)) size_t
 
   -- ---- the plan
 
@@ -84,7 +84,7 @@ module _ (min max : Bool) (A B : Listing) (u_a : Usable min max A) (u_b : Usable
     unfolding lists_of
     small =
         let t = target_topped min max P Q in
-        let h : sum T.size (suc T.top) ≤ limits.elements = omega (arith, size_T, size_R) in
+        let h : sum T.size (suc T.top) ≤ limits.elements = omega (arith, size_t, size_r) in
         all_few T t (target_sound min max A B u_a u_b) limits.elements h (highest_past min max A B u_a u_b t h)
 
     planned : length R.inc ≤ limits.incidences → (re ri : ℕ) → length R.ends ≤ re → length R.inc ≤ ri
@@ -95,22 +95,22 @@ module _ (min max : Bool) (A B : Listing) (u_a : Usable min max A) (u_b : Usable
         let f_a = in_use_few min max A u_a in
         let f_b = in_use_few min max B u_b in
         record {
-          lists_P = shaped_ends A a;
-          lists_Q = shaped_ends B b;
-          ends_P = omega (arith, f_a, a.two_ends_each);
-          ends_Q = omega (arith, f_b, b.two_ends_each);
-          ranks_P = (some_P, omega (arith, in_use_length min max A u_a, a.few_ranks));
-          ranks_Q = (some_Q, omega (arith, in_use_length min max B u_b, b.few_ranks));
-          few_P = omega (arith, f_a, a.few_elements);
-          few_Q = omega (arith, f_b, b.few_elements);
+          lists_p = shaped_ends A a;
+          lists_q = shaped_ends B b;
+          ends_p = omega (arith, f_a, a.two_ends_each);
+          ends_q = omega (arith, f_b, b.two_ends_each);
+          ranks_p = (some_p, omega (arith, in_use_length min max A u_a, a.few_ranks));
+          ranks_q = (some_q, omega (arith, in_use_length min max B u_b, b.few_ranks));
+          few_p = omega (arith, f_a, a.few_elements);
+          few_q = omega (arith, f_b, b.few_elements);
           under = pair_under min max P Q;
           over = λ i a j b ha hb.
               pair_over min max P Q i a j b ha hb (factor_sound min max A u_a) (factor_sound min max B u_b);
           small = small;
-          elements = omega (arith, size_R);
-          room_for_ends = omega (arith, ends_R);
-          room_for_inc = omega (arith, inc_R);
-          incidences = omega (arith, inc_R);
+          elements = omega (arith, size_r);
+          room_for_ends = omega (arith, ends_r);
+          room_for_inc = omega (arith, inc_r);
+          incidences = omega (arith, inc_r);
         }
 
 -- ---- the same, of the counts x and y that the code has in hand

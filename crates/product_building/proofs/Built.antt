@@ -44,10 +44,10 @@ module _ {poles : Poles} {P Q : Listing} {counts₀ ends₀ inc₀ : List ℕ}
   topped = target_topped poles.min poles.max P Q
 
   size : N ≡ size_of poles.min poles.max P.counts Q.counts
-  size = target_size P Q r.plan.ranks_P.0 r.plan.ranks_Q.0 poles.min poles.max
+  size = target_size P Q r.plan.ranks_p.0 r.plan.ranks_q.0 poles.min poles.max
 
   counts_are : W.counts ≡ counts_of poles.min poles.max P.counts Q.counts
-  counts_are = target_counts P Q r.plan.ranks_P.0 r.plan.ranks_Q.0 poles.min poles.max
+  counts_are = target_counts P Q r.plan.ranks_p.0 r.plan.ranks_q.0 poles.min poles.max
 
   pub counts_room : length (counts_of poles.min poles.max P.counts Q.counts) ≤ length counts₀
   counts_room = rw (← counts_are) r.room
@@ -60,8 +60,8 @@ module _ {poles : Poles} {P Q : Listing} {counts₀ ends₀ inc₀ : List ℕ}
         counts_length poles.min poles.max P.counts Q.counts,
         bit_le poles.min,
         bit_le poles.max,
-        p.ranks_P.1,
-        p.ranks_Q.1,
+        p.ranks_p.1,
+        p.ranks_q.1,
       ))
 
   -- there is room, by the layers
@@ -90,9 +90,9 @@ module _ {poles : Poles} {P Q : Listing} {counts₀ ends₀ inc₀ counts₁ end
   number_is : n ≡ N r
   number_is = l.n_is ∙ sym (size r)
 
-  laid_T : ElementsLaid (nth (T r) (derived (T r))) (N r) ends₀ inc₀ ends₁ inc₁
+  laid_t : ElementsLaid (nth (T r) (derived (T r))) (N r) ends₀ inc₀ ends₁ inc₁
   unfolding lists_of
-  laid_T = rw (size r) l.elements
+  laid_t = rw (size r) l.elements
 
   pub product_unfilled : Unfilled (T r) counts₀ ends₀ inc₀ counts₁ ends₁ inc₁ k n
   product_unfilled = record {
@@ -100,7 +100,7 @@ module _ {poles : Poles} {P Q : Listing} {counts₀ ends₀ inc₀ counts₁ end
     k_is = l.k_is ∙ ap length (sym (counts_are r));
     counts = rw (counts_are r) l.counts;
     n_is = number_is;
-    elements = laid_T;
+    elements = laid_t;
     few_counts = few_counts r;
     few_elements = omega (arith, size r, r.plan.elements);
     room_counts = r.room;

@@ -31,7 +31,7 @@ module _ {poles : Poles} {P Q : Listing} {psups qsups ends inc : List ℕ}
   -- the same, with slices of the same size
   pub writable_room : (ends' inc' : List ℕ) → length ends' ≡ length ends → length inc' ≡ length inc
       → Writable poles P Q psups qsups ends' inc'
-  writable_room ends' inc' e f = record { plan = rw (e, f) w.plan; sups_P = w.sups_P; sups_Q = w.sups_Q }
+  writable_room ends' inc' e f = record { plan = rw (e, f) w.plan; sups_p = w.sups_p; sups_q = w.sups_q }
 
   -- the pairs are few
   pub first_few : (R i : ℕ) → i ≤ R + 1 → R + 2 ≤ length P.counts + length Q.counts
@@ -47,7 +47,7 @@ module _ {poles : Poles} {P Q : Listing} {psups qsups ends inc : List ℕ}
     where
       pub left_there : 2 * (B.base + B.pbefore + a) + 0 < length P.ends
       left_there =
-          omega (arith, block.base, block.p_before, before_lt P.counts B.i a ha, w.plan.ends_P)
+          omega (arith, block.base, block.p_before, before_lt P.counts B.i a ha, w.plan.ends_p)
 
       pub left_few : B.base + B.pbefore + a ≤ width
       left_few =
@@ -56,7 +56,7 @@ module _ {poles : Poles} {P Q : Listing} {psups qsups ends inc : List ℕ}
             block.base,
             block.p_before,
             before_lt P.counts B.i a ha,
-            w.plan.few_P,
+            w.plan.few_p,
             bit_le poles.min,
           )
 
@@ -113,13 +113,13 @@ module _ {poles : Poles} {P Q : Listing} {psups qsups ends inc : List ℕ} {B : 
   -- its members' places
   pub right_there : 2 * (B.base + B.qbefore + b) + 0 < length Q.ends
   right_there =
-      omega (arith, x.block.base, x.block.q_before, before_lt q B.j b x.right, plan.ends_Q)
+      omega (arith, x.block.base, x.block.q_before, before_lt q B.j b x.right, plan.ends_q)
 
-  pub up_P : B.pbefore + a ≤ limits.elements
-  up_P = omega (arith, x.block.p_before, before_lt p B.i a x.left, plan.few_P)
+  pub up_p : B.pbefore + a ≤ limits.elements
+  up_p = omega (arith, x.block.p_before, before_lt p B.i a x.left, plan.few_p)
 
-  pub up_Q : B.qbefore + b ≤ limits.elements
-  up_Q = omega (arith, x.block.q_before, before_lt q B.j b x.right, plan.few_Q)
+  pub up_q : B.qbefore + b ≤ limits.elements
+  up_q = omega (arith, x.block.q_before, before_lt q B.j b x.right, plan.few_q)
 
   pub cap_few : B.cap ≤ 1
   cap_few = rw x.block.cap (cond_le (poles.max && eqb (B.i + B.j + 2) (length p + length q)))
@@ -152,13 +152,13 @@ module _ {poles : Poles} {P Q : Listing} {psups qsups ends inc : List ℕ} {B : 
         x.block.left,
         offset_few (pred B.i) B.j (omega arith),
         count_le q B.j,
-        plan.few_Q,
+        plan.few_q,
       )
 
   pub right_shift_few : (a * B.qbelow ≤ width * width) × (B.right ≤ width)
   right_shift_few =
-      let s : B.qbelow < width = omega (arith, x.block.q_below, count_le q (pred B.j), plan.few_Q) in
-      let m = product_le a B.qbelow (omega (arith, x.left, count_le p B.i, plan.few_P)) s in
+      let s : B.qbelow < width = omega (arith, x.block.q_below, count_le q (pred B.j), plan.few_q) in
+      let m = product_le a B.qbelow (omega (arith, x.left, count_le p B.i, plan.few_p)) s in
       (m, omega (arith, x.block.right, offset_few B.i (pred B.j) (omega arith)))
 
   -- ---- its lists
@@ -169,8 +169,8 @@ module _ {poles : Poles} {P Q : Listing} {psups qsups ends inc : List ℕ} {B : 
   over_pair_lem =
       plan.over B.i a B.j b x.left x.right
       ∙ rw (
-        ← x.ready.sups_P B.i a x.left,
-        ← x.ready.sups_Q B.j b x.right,
+        ← x.ready.sups_p B.i a x.left,
+        ← x.ready.sups_q B.j b x.right,
         x.block.p_before,
         x.block.q_before,
         x.block.cap,

@@ -68,14 +68,14 @@ unfoldable pub size_of : Bool → Bool → List ℕ → List ℕ → ℕ
 size_of min max p q = bit min + pairs_to p q (length p + length q - 1) + bit max
 
 pub record Plan (min max : Bool) (P Q : Listing) (room_ends room_inc : ℕ) : Type 0 where
-  pub lists_P : Ends P.ends P.inc
-  pub lists_Q : Ends Q.ends Q.inc
-  pub ends_P : 2 * (bit min + elements P) ≤ length P.ends
-  pub ends_Q : 2 * (bit min + elements Q) ≤ length Q.ends
-  pub ranks_P : (0 < length P.counts) × (length P.counts ≤ limits.ranks)
-  pub ranks_Q : (0 < length Q.counts) × (length Q.counts ≤ limits.ranks)
-  pub few_P : elements P ≤ limits.elements
-  pub few_Q : elements Q ≤ limits.elements
+  pub lists_p : Ends P.ends P.inc
+  pub lists_q : Ends Q.ends Q.inc
+  pub ends_p : 2 * (bit min + elements P) ≤ length P.ends
+  pub ends_q : 2 * (bit min + elements Q) ≤ length Q.ends
+  pub ranks_p : (0 < length P.counts) × (length P.counts ≤ limits.ranks)
+  pub ranks_q : (0 < length Q.counts) × (length Q.counts ≤ limits.ranks)
+  pub few_p : elements P ≤ limits.elements
+  pub few_q : elements Q ≤ limits.elements
   pub under : (i a j b : ℕ) → a < count P i → b < count Q j
       → lists_of min max P Q (2 * pair_number min P.counts Q.counts i a j b) ≡ under_pair min P Q i a j b
   pub over : (i a j b : ℕ) → a < count P i → b < count Q j
@@ -89,5 +89,5 @@ pub record Plan (min max : Bool) (P Q : Listing) (room_ends room_inc : ℕ) : Ty
 
 pub record Writable (poles : Poles) (P Q : Listing) (psups qsups ends inc : List ℕ) : Type 0 where
   pub plan : Plan poles.min poles.max P Q (length ends) (length inc)
-  pub sups_P : UpCounts (bit poles.min) P psups
-  pub sups_Q : UpCounts (bit poles.min) Q qsups
+  pub sups_p : UpCounts (bit poles.min) P psups
+  pub sups_q : UpCounts (bit poles.min) Q qsups

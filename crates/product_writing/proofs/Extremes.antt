@@ -119,13 +119,13 @@ module _ (min max : Bool) (P Q : Listing) (re ri : ℕ) (plan : Plan min max P Q
       → Put lists 0 (first_at min p' q' 0 0) r ends inc ends' inc
   min_put sups r ends inc ends' el es er ee =
       rw first
-      (low_put max P Q plan.ranks_P.0 plan.ranks_Q.0 min sups r ends inc ends'
+      (low_put max P Q plan.ranks_p.0 plan.ranks_q.0 min sups r ends inc ends'
       (omega (arith, plan.room_for_ends, sizes)) es er ee)
 
   module _ (at k e' : ℕ) (ea : at ≡ starts lists (2 * first_at min p' q' m 0)) (ek : k ≡ pairs_in p' q' (m - 1) m)
       (eq : e' ≡ bit min + pairs_to p' q' m) where
     max_room : at + cond max k 0 ≤ starts lists (2 * size_of min max p' q')
-    max_room = rw sizes (high_room min P Q plan.ranks_P.0 plan.ranks_Q.0 max at k (rw last at ea) ek)
+    max_room = rw sizes (high_room min P Q plan.ranks_p.0 plan.ranks_q.0 max at k (rw last at ea) ek)
 
     -- what is asked of the code that writes the highest element
     pub max_asked : (2 * (e' + bit max) ≤ re) × ((at + cond max k 0 ≤ ri) × (at + cond max k 0 < width))
@@ -142,5 +142,5 @@ module _ (min max : Bool) (P Q : Listing) (re ri : ℕ) (plan : Plan min max P Q
         → Put lists (first_at min p' q' m 0) (size_of min max p' q') r ends inc ends' inc'
     max_put r ends inc ends' inc' el er l ee =
         rw (last, sizes)
-        (high_put min P Q plan.ranks_P.0 plan.ranks_Q.0 max at k r ends inc ends' inc'
+        (high_put min P Q plan.ranks_p.0 plan.ranks_q.0 max at k r ends inc ends' inc'
         (omega (arith, plan.room_for_ends, sizes)) (rw last at ea) ek er l (rw eq at ee))

@@ -13,7 +13,7 @@ use Rattle.std.specs.Prelude.{◌≡◌, ◌≢◌, List, [], ◌∷◌, ◌++�
 use Rattle.order.specs.Lists.{Earlier, In, Ascending, occurs}
 use Rattle.listing.specs.declared.Answer.{Answer}
 use Rattle.listing.specs.Refusals.{no_ranks, falling_ends, not_bounded, no_subs, no_sups, sub_not_back, sup_not_back}
-use Rattle.listing.specs.Refusals.{sub_missing, sup_missing, third_between, lone_between, not_ascending, not_aFlag, more_flags}
+use Rattle.listing.specs.Refusals.{sub_missing, sup_missing, third_between, lone_between, not_ascending, not_a_flag, more_flags}
 use Rattle.listing.specs.Refusals.{several_parts}
 use Rattle.listing.specs.Answers.{plain, refusal}
 use Rattle.listing.specs.Listing.{Listing, rank, count, side, subs, sups}
@@ -76,7 +76,7 @@ pub data Named (h : ℕ) (L : Listing) : Answer → Type 0 where
       → ((t : ℕ) → t < s → Ascending (side L t r i)) → ¬ Ascending (side L s r i)
       → Named h L (refusal not_ascending r i s 0)
   -- 20 to 22 carry nothing
-  of_flags : (n : ℕ) → not_aFlag ≤ n → n ≤ more_flags → Named h L (plain n)
+  of_flags : (n : ℕ) → not_a_flag ≤ n → n ≤ more_flags → Named h L (plain n)
   -- 25 carries nothing: the flags are not in one piece
   named_several_parts : ¬ OnePiece L → Named h L (plain several_parts)
 

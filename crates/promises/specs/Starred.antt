@@ -40,7 +40,7 @@ use Prim.Native.Char.{code}
 use Prim.Native.String.{String, [] as none, ◌∷◌ as ◌then◌}
 use Rattle.listing.specs.declared.Answer.{Answer}
 use Rattle.listing.specs.Refusals.{no_ranks, over_ranks, over_elements, not_bounded, sub_not_back, sub_missing, third_between}
-use Rattle.listing.specs.Refusals.{lone_between, not_ascending, not_aFlag, outside_ranks, more_flags, several_parts}
+use Rattle.listing.specs.Refusals.{lone_between, not_ascending, not_a_flag, outside_ranks, more_flags, several_parts}
 use Rattle.listing.specs.Refusals.{comb_of_point, output_short, wrong_key, bad_line, more_bytes, bytes_short}
 use Rattle.listing.specs.Answers.{refusal, plain, fine}
 use Rattle.listing.specs.Listing.{Listing, listing, limits}
@@ -274,10 +274,10 @@ tried =
     changed triangle (0 ∷ 1 ∷ 0 ∷ 0 ∷ []) 1 (to (0 ∷ 0 ∷ 0 ∷ 0 ∷ []) 1 0) ∷
     changed triangle (0 ∷ 0 ∷ 0 ∷ 0 ∷ []) 2 (to (0 ∷ 0 ∷ 1 ∷ 0 ∷ []) 0 1) ∷
     changed cube (0 ∷ 0 ∷ 0 ∷ 0 ∷ 0 ∷ []) 3 (to (0 ∷ 0 ∷ 0 ∷ 2 ∷ 0 ∷ []) 0 2) ∷
-    -- outside_ranks is 21, not_aFlag is 20
+    -- outside_ranks is 21, not_a_flag is 20
     changed triangle (0 ∷ 0 ∷ 0 ∷ 0 ∷ []) 0 (unchanged_as (plain outside_ranks)) ∷
     changed triangle (0 ∷ 0 ∷ 0 ∷ 0 ∷ []) 3 (unchanged_as (plain outside_ranks)) ∷
-    changed triangle (0 ∷ 0 ∷ 0 ∷ []) 1 (unchanged_as (plain not_aFlag)) ∷
+    changed triangle (0 ∷ 0 ∷ 0 ∷ []) 1 (unchanged_as (plain not_a_flag)) ∷
     -- more_flags is 22, several_parts is 25
     bodied nullitope 0 (plain more_flags) ∷
     bodied nullitope 1 fine ∷

@@ -2,7 +2,7 @@
 ghost use Rattle.std.specs.Prelude.{◌≡◌, false, ◌+◌, ◌*◌, ◌≤◌, ◌<◌, length, get_or, take, set};
 ghost use Rattle.std.proofs.Math.Seq.{paste};
 ghost use Rattle.listing.specs.Listing.{limits};
-ghost use Rattle.search_theory.specs.Search.{meet as meetIn};
+ghost use Rattle.search_theory.specs.Search.{meet as meet_in};
 ghost use Rattle.search_index.specs.Hash.{hash_of};
 ghost use Rattle.search_index.specs.Rows.{same_list};
 ghost use Rattle.search_store.specs.Held.{state_of, Held, Moved};
@@ -62,7 +62,7 @@ pub fn meet(
     requires overflow_value { s.overflow ≡ false }
     ensures { Moved w room table.old bytes.old s table.new bytes.new
         heads.new next.new result
-        (meetIn same_list room byte (state_of w table.old bytes.old s)
+        (meet_in same_list room byte (state_of w table.old bytes.old s)
         (take w flag.now)) }
 {
     let n = s.count;

@@ -5,7 +5,7 @@ ghost use Rattle.listing.specs.Listing.{held, limits, rank};
 ghost use Rattle.valid.specs.Closed.{Closed};
 ghost use Rattle.flag_change.specs.Flags.{IsFlag};
 ghost use Rattle.flag_change.specs.Change.{change_at};
-ghost use Rattle.search_theory.specs.Search.{meet as meetIn, meet_all, run as runIn};
+ghost use Rattle.search_theory.specs.Search.{meet as meet_in, meet_all, run as run_in};
 ghost use Rattle.search_index.specs.Rows.{row_of, same_list};
 ghost use Rattle.search_store.specs.Held.{state_of, Held, Moved};
 ghost use Rattle.search_masks.specs.Masks.{InnerRanks};
@@ -62,7 +62,7 @@ fn try_next(
     ensures flag_unchanged { flag.new ≡ flag.old }
     ensures moved { Moved (length counts.now) room table.old bytes.old s
         table.new bytes.new heads.new next.new result
-        (meetIn same_list room byte (state_of (length counts.now) table.old bytes.old s)
+        (meet_in same_list room byte (state_of (length counts.now) table.old bytes.old s)
         (change_at (held counts.entry ends.entry inc.entry) r
         (take (length counts.now) flag.old))) }
 {
@@ -151,7 +151,7 @@ fn run(
         next.old start.count }
     ensures { (a : List ℕ) → Moved (length counts.now) room table.old bytes.old
         start table.new bytes.new heads.new next.new result
-        (runIn same_list room (mask_changes (held counts.entry ends.entry inc.entry) mask) a
+        (run_in same_list room (mask_changes (held counts.entry ends.entry inc.entry) mask) a
         0 (state_of (length counts.now) table.old bytes.old start)) }
 {
     let mut s = start;

@@ -3,13 +3,13 @@ ghost use Rattle.std.specs.Prelude.{◌≡◌, ◌<◌, length, get_or};
 ghost use Rattle.listing.specs.Answers.{first_of};
 ghost use Rattle.listing.specs.Listing.{held, limits, before};
 ghost use Rattle.listing.specs.Shape.{Shaped};
-ghost use Rattle.valid.specs.Ascent.{climbs as climbsFrom, side_ascent, element_ascent, ascent_test};
+ghost use Rattle.valid.specs.Ascent.{climbs as climbs_from, side_ascent, element_ascent, ascent_test};
 
 use listing::{Answer, Index, inner, refusal};
 
 // Whether a list strictly ascends: each number is at least `from`, which is one more than the number before it.
 fn climbs(list: &[Index]) -> bool
-    ensures { result ≡ climbsFrom 0 list.now }
+    ensures { result ≡ climbs_from 0 list.now }
 {
     let mut from: usize = 0;
     let mut j: usize = 0;

@@ -10,14 +10,12 @@ use crate::subject::{By, Subject};
 const LONGEST: usize = 1200;
 const LONGEST_LARGE: usize = 3000;
 
-/// How many of the largest answers of each product, of the dual and of the search are kept.
+/// How many of the largest answers of each product and of the search are kept.
 const LARGEST: usize = 3;
 
 /// Some of the answers that the Rust files gave.
 pub struct Replay {
     random: Random,
-    /// Duals are drawn by numbers of their own, so that the other lines are those that they were without them.
-    dual_random: Random,
     /// Kept whatever they are, in their order.
     chosen: Vec<String>,
     /// Whether all lines are kept at the moment.
@@ -36,12 +34,15 @@ struct Drawn {
 
 impl Replay {
     pub fn new(seed: u64) -> Self {
-        let [random, dual_random] = [(); 2].map(|()| Random::new(seed));
-        Self { random, dual_random, chosen: vec![], choosing: false, drawn: BTreeMap::new() }
+        Self { random: Random::new(seed), chosen: vec![], choosing: false, drawn: BTreeMap::new() }
     }
 
     /// A reply that was compared and is right.
     pub fn offer(&mut self, question: &Question<&Subject>, reply: &Reply, by: By) {
+        // The program takes a line that begins with d for a product.
+        if matches!(question, Question::Dual { .. }) {
+            return;
+        }
         let line = format!("{question} = {reply}");
         if by != By::Rust || line.len() > LONGEST_LARGE || self.chosen.contains(&line) {
             return;
@@ -50,8 +51,8 @@ impl Replay {
             return self.chosen.push(line);
         }
         let drawn = self.drawn.entry((question.name(), reply.numbers[0])).or_default();
-        if matches!(question, Question::Product { .. } | Question::Dual { .. } | Question::Search { .. }) {
-            // What was built or found: the lengths of a product or a dual, the count of a search.
+        if matches!(question, Question::Product { .. } | Question::Search { .. }) {
+            // What was built or found: the lengths of a product, the count of a search.
             drawn.offer_large(reply.numbers[5..].iter().sum(), &line);
         }
         if line.len() > LONGEST {
@@ -60,7 +61,6 @@ impl Replay {
         let (shortest, lot) = match (question, reply.numbers[0]) {
             (Question::Product { .. }, _) => (10, 20),
             (Question::Events { .. } | Question::Search { .. } | Question::Change { .. }, 0) => (6, 14),
-            (Question::Dual { .. }, _) => (4, 10),
             _ => (2, 4),
         };
         drawn.seen += 1;
@@ -69,8 +69,7 @@ impl Replay {
             drawn.shortest.insert(at, line.clone());
             drawn.shortest.truncate(shortest);
         }
-        let random = if matches!(question, Question::Dual { .. }) { &mut self.dual_random } else { &mut self.random };
-        match random.below(drawn.seen) {
+        match self.random.below(drawn.seen) {
             at if drawn.lot.len() < lot || at >= lot => {
                 if drawn.lot.len() < lot {
                     drawn.lot.push(line);
@@ -112,8 +111,8 @@ const HEAD: &str = "\
 #
 # Made in host/ by 'cargo run --release --bin compare -- --model --small --seed SEED --write-replay replay.txt', from
 # the answers of the checked build of the Rust files (host/oracle). The first lines are the listings to try of the
-# requests; the others are, for each function and each answer, the shortest questions, some drawn by lot and, of
-# products, duals and searches, the largest.
+# request; the others are, for each function and each answer, the shortest questions, some drawn by lot and, of products
+# and searches, the largest.
 #
 #   FUNCTION ARGUMENTS = NUMBERS SLICES
 #
@@ -132,7 +131,6 @@ const HEAD: &str = "\
 #                                    [orientation flag..], or [] for 'not orientable'
 #   duopyramid, duoprism, duotegum, duocomb
 #                                    p q length length length = no a b c d counts ends inc [counts] [ends] [inc]
-#   dual                             listing length length length = no a b c d counts ends inc [counts] [ends] [inc]
 # Lent slices hold 65535 everywhere before the call (orientations 255), and are given as they are afterwards, whole.
 #
 # Where the Rust's own answer needs a word:
@@ -142,5 +140,4 @@ const HEAD: &str = "\
 # - is_dyadic is asked only where check_incidences accepts; else the line has that one's answer.
 # - change answers a flag in the Rust. taken and put are the numbers at r of the flag that it was given and of this one;
 #   that they are the two elements between, and no others are, was tested.
-# - dual asks nothing of its listing in the Rust. Its answers here are those for closed listings.
 ";

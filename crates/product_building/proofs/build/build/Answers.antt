@@ -39,9 +39,9 @@ tally-requires c =
     let g = c.requires.plan in
     let e = c.bit_of-base.ensures in
     record {
-      ends = g.lists_P;
-      counts_in_bounds = omega (arith, g.ends_P);
-      counts_in_bounds_2 = g.few_P;
+      ends = g.lists_p;
+      counts_in_bounds = omega (arith, g.ends_p);
+      counts_in_bounds_2 = g.few_p;
       by_index = zeros limits.elements;
     }
 
@@ -50,9 +50,9 @@ tally-requires-2 c =
     let g = c.requires.plan in
     let e = c.bit_of-base.ensures in
     record {
-      ends = g.lists_Q;
-      counts_in_bounds = omega (arith, g.ends_Q);
-      counts_in_bounds_2 = g.few_Q;
+      ends = g.lists_q;
+      counts_in_bounds = omega (arith, g.ends_q);
+      counts_in_bounds_2 = g.few_q;
       by_index = zeros limits.elements;
     }
 
@@ -61,8 +61,8 @@ put_counts-ranks-requires c =
     let P : Listing = listing c.args.p.now c.args.pends.now c.args.pinc.now in
     let Q : Listing = listing c.args.q.now c.args.qends.now c.args.qinc.now in
     let g = c.requires.plan in
-    let p = g.ranks_P in
-    let q = g.ranks_Q in
+    let p = g.ranks_p in
+    let q = g.ranks_q in
     record {
       p_nonzero = (p.0, p.1, q.0, q.1);
       q_bound = g.elements;
@@ -76,8 +76,8 @@ put_elements-n-requires c =
     let e = c.bit_of-base.ensures in
     record {
       plan = c.requires.plan;
-      sups_P = counted_from P _ e c.tally.ensures;
-      sups_Q = counted_from Q _ e c.tally-2.ensures;
+      sups_p = counted_from P _ e c.tally.ensures;
+      sups_q = counted_from Q _ e c.tally-2.ensures;
     }
 
 pub slice_bounds-fill-end : goal.slice_bounds-fill-end

@@ -14,7 +14,7 @@ use Rattle.product_places.specs.declared.block.Block.{Block}
 use Rattle.product_places.specs.Blocks.{BlockOf, in_block}
 use Rattle.product_places.proofs.Numbers.{bit_le}
 use Rattle.product_element.specs.Pairs.{Writable, subs_in_use, product_lists}
-use Rattle.product_element.proofs.Fits.{PairIn, right_there, up_P, up_Q, cap_few, index, index_few}
+use Rattle.product_element.proofs.Fits.{PairIn, right_there, up_p, up_q, cap_few, index, index_few}
 use Rattle.product_element.proofs.Fits.{left_shift_few, right_shift_few, InHand, pair_asked, pair_put}
 use Rattle.product_element.proofs.pair.put_pair.Goals as goal
 
@@ -37,25 +37,25 @@ module _ {poles : Poles} {P Q : Listing} {psups qsups ends inc : List ℕ} {B : 
 pub overflow_add-block : goal.overflow_add-block
 overflow_add-block c =
     let x = pair c.requires.writable c.requires.block_of c.requires.a_bound in
-    omega (arith, up_Q x, c.requires.block_of.base, bit_le c.args.poles.min)
+    omega (arith, up_q x, c.requires.block_of.base, bit_le c.args.poles.min)
 
 pub overflow_add-block-2 : goal.overflow_add-block-2
 overflow_add-block-2 c =
     let x = pair c.requires.writable c.requires.block_of c.requires.a_bound in
-    omega (arith, up_Q x, c.requires.block_of.base, bit_le c.args.poles.min)
+    omega (arith, up_q x, c.requires.block_of.base, bit_le c.args.poles.min)
 
 pub subs_in_use-right-requires : goal.subs_in_use-right-requires
 subs_in_use-right-requires c =
     let x = pair c.requires.writable c.requires.block_of c.requires.a_bound in
     record {
-      ends = c.requires.writable.plan.lists_Q;
+      ends = c.requires.writable.plan.lists_q;
       e_in_bounds = right_there x;
     }
 
 pub sups_over-sups-requires : goal.sups_over-sups-requires
 sups_over-sups-requires c =
     let x = pair c.requires.writable c.requires.block_of c.requires.a_bound in
-    (omega (arith, up_P x), omega (arith, up_Q x), cap_few x)
+    (omega (arith, up_p x), omega (arith, up_q x), cap_few x)
 
 pub get_element_index-e-requires : goal.get_element_index-e-requires
 get_element_index-e-requires c =

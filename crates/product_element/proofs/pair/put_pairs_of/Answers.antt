@@ -19,7 +19,7 @@ overflow_add-block-2 c = omega (arith, left_few c.requires.writable c.requires.b
 pub subs_in_use-left-requires : goal.subs_in_use-left-requires
 subs_in_use-left-requires c =
     record {
-      ends = c.requires.writable.plan.lists_P;
+      ends = c.requires.writable.plan.lists_p;
       e_in_bounds = left_there c.requires.writable c.requires.block_of c.requires.a_bound;
     }
 
@@ -38,7 +38,7 @@ put_pair-to-requires c =
 
 pub overflow_add-b : goal.overflow_add-b
 overflow_add-b c =
-    omega (arith, c.loop-b.invariant.1, count_le c.args.q.now c.args.block.j, c.requires.writable.plan.few_Q)
+    omega (arith, c.loop-b.invariant.1, count_le c.args.q.now c.args.block.j, c.requires.writable.plan.few_q)
 
 pub loop-b-preserved : goal.loop-b-preserved
 loop-b-preserved c =

@@ -10,8 +10,8 @@ use Rattle.product_writing.proofs.pairs.put_elements.Goals as goal
 
 pub put_min-at-requires : goal.put_min-at-requires
 put_min-at-requires c =
-    let p = c.requires.plan.ranks_P in
-    let q = c.requires.plan.ranks_Q in
+    let p = c.requires.plan.ranks_p in
+    let q = c.requires.plan.ranks_q in
     let f = first_few c.requires 0 1 (omega arith) (omega arith) in
     let n = sizes _ _ _ _ _ _ c.requires.plan in
     omega (arith, c.requires.plan.room_for_ends, f, c.pairs_in-lowest.ensures)
@@ -26,15 +26,15 @@ put_ranks-to-requires c =
     }
 
 pub overflow_add-ranks : goal.overflow_add-ranks
-overflow_add-ranks c = omega (arith, c.requires.plan.ranks_P, c.requires.plan.ranks_Q)
+overflow_add-ranks c = omega (arith, c.requires.plan.ranks_p, c.requires.plan.ranks_q)
 
 pub overflow_sub-ranks : goal.overflow_sub-ranks
-overflow_sub-ranks c = omega (arith, c.requires.plan.ranks_P, c.requires.plan.ranks_Q)
+overflow_sub-ranks c = omega (arith, c.requires.plan.ranks_p, c.requires.plan.ranks_q)
 
 pub pairs_to-requires : goal.pairs_to-requires
 pairs_to-requires c =
-    let p = c.requires.plan.ranks_P in
-    let q = c.requires.plan.ranks_Q in
+    let p = c.requires.plan.ranks_p in
+    let q = c.requires.plan.ranks_q in
     omega (arith, c.requires.plan.elements, sizes _ _ _ _ _ _ c.requires.plan)
 
 pub overflow_add-e : goal.overflow_add-e
@@ -43,10 +43,10 @@ overflow_add-e c =
     omega (arith, c.requires.plan.elements, c.bit_of.ensures, c.pairs_to.ensures)
 
 pub overflow_sub-ranks-2 : goal.overflow_sub-ranks-2
-overflow_sub-ranks-2 c = omega (arith, c.requires.plan.ranks_P, c.requires.plan.ranks_Q)
+overflow_sub-ranks-2 c = omega (arith, c.requires.plan.ranks_p, c.requires.plan.ranks_q)
 
 pub pairs_in-highest-requires : goal.pairs_in-highest-requires
-pairs_in-highest-requires c = omega (arith, c.requires.plan.ranks_P, c.requires.plan.ranks_Q)
+pairs_in-highest-requires c = omega (arith, c.requires.plan.ranks_p, c.requires.plan.ranks_q)
 
 pub put_max-requires : goal.put_max-requires
 put_max-requires c =

@@ -18,8 +18,8 @@ block_of-block-requires c =
     let whole : let r = c.args.rank in
     c.loop-i.i + (r - c.loop-i.i) ≡ r = omega (arith, c.loop-i-test.true) in
     let e = whole in
-    let p = c.requires.writable.plan.ranks_P in
-    let q = c.requires.writable.plan.ranks_Q in
+    let p = c.requires.writable.plan.ranks_p in
+    let q = c.requires.writable.plan.ranks_q in
     let f = first_few c.requires.writable c.args.rank c.loop-i.i (omega arith) c.requires.rank_in_bounds in rw e record {
       j_bound = omega (arith, c.requires.rank_in_bounds);
       start_value = c.requires.start_value;
@@ -42,7 +42,7 @@ put_block-to-requires c =
 
 pub overflow_add-i : goal.overflow_add-i
 overflow_add-i c =
-    omega (arith, c.loop-i-test.true, c.requires.rank_in_bounds, c.requires.writable.plan.ranks_P, c.requires.writable.plan.ranks_Q)
+    omega (arith, c.loop-i-test.true, c.requires.rank_in_bounds, c.requires.writable.plan.ranks_p, c.requires.writable.plan.ranks_q)
 
 pub loop-i-preserved : goal.loop-i-preserved
 loop-i-preserved c =

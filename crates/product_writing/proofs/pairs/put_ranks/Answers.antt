@@ -13,8 +13,8 @@ pub overflow_add-ranks : goal.overflow_add-ranks
 overflow_add-ranks c =
     let ranks : let p = length c.args.p.now in
     let q = length c.args.q.now in
-    (0 < p) × (p ≤ limits.ranks) × (0 < q) × (q ≤ limits.ranks) = let p = c.requires.writable.plan.ranks_P in
-    let q = c.requires.writable.plan.ranks_Q in
+    (0 < p) × (p ≤ limits.ranks) × (0 < q) × (q ≤ limits.ranks) = let p = c.requires.writable.plan.ranks_p in
+    let q = c.requires.writable.plan.ranks_q in
     (p.0, p.1, q.0, q.1) in
     omega (arith, ranks)
 
@@ -22,8 +22,8 @@ pub overflow_sub-ranks : goal.overflow_sub-ranks
 overflow_sub-ranks c =
     let ranks : let p = length c.args.p.now in
     let q = length c.args.q.now in
-    (0 < p) × (p ≤ limits.ranks) × (0 < q) × (q ≤ limits.ranks) = let p = c.requires.writable.plan.ranks_P in
-    let q = c.requires.writable.plan.ranks_Q in
+    (0 < p) × (p ≤ limits.ranks) × (0 < q) × (q ≤ limits.ranks) = let p = c.requires.writable.plan.ranks_p in
+    let q = c.requires.writable.plan.ranks_q in
     (p.0, p.1, q.0, q.1) in
     omega (arith, ranks)
 
@@ -38,8 +38,8 @@ pub put_rank-to-requires : goal.put_rank-to-requires
 put_rank-to-requires c =
     let ranks : let p = length c.args.p.now in
     let q = length c.args.q.now in
-    (0 < p) × (p ≤ limits.ranks) × (0 < q) × (q ≤ limits.ranks) = let p = c.requires.writable.plan.ranks_P in
-    let q = c.requires.writable.plan.ranks_Q in
+    (0 < p) × (p ≤ limits.ranks) × (0 < q) × (q ≤ limits.ranks) = let p = c.requires.writable.plan.ranks_p in
+    let q = c.requires.writable.plan.ranks_q in
     (p.0, p.1, q.0, q.1) in
     let v = c.loop-rank.invariant in record {
       writable = writable_room c.requires.writable _ _ v.2.ends_length v.2.inc_length;
@@ -52,8 +52,8 @@ pub overflow_add-rank : goal.overflow_add-rank
 overflow_add-rank c =
     let ranks : let p = length c.args.p.now in
     let q = length c.args.q.now in
-    (0 < p) × (p ≤ limits.ranks) × (0 < q) × (q ≤ limits.ranks) = let p = c.requires.writable.plan.ranks_P in
-    let q = c.requires.writable.plan.ranks_Q in
+    (0 < p) × (p ≤ limits.ranks) × (0 < q) × (q ≤ limits.ranks) = let p = c.requires.writable.plan.ranks_p in
+    let q = c.requires.writable.plan.ranks_q in
     (p.0, p.1, q.0, q.1) in
     omega (arith, ranks)
 
@@ -61,8 +61,8 @@ pub pairs_in-start-requires : goal.pairs_in-start-requires
 pairs_in-start-requires c =
     let ranks : let p = length c.args.p.now in
     let q = length c.args.q.now in
-    (0 < p) × (p ≤ limits.ranks) × (0 < q) × (q ≤ limits.ranks) = let p = c.requires.writable.plan.ranks_P in
-    let q = c.requires.writable.plan.ranks_Q in
+    (0 < p) × (p ≤ limits.ranks) × (0 < q) × (q ≤ limits.ranks) = let p = c.requires.writable.plan.ranks_p in
+    let q = c.requires.writable.plan.ranks_q in
     (p.0, p.1, q.0, q.1) in
     omega (arith, ranks)
 
@@ -70,8 +70,8 @@ pub overflow_add-start : goal.overflow_add-start
 overflow_add-start c =
     let ranks : let p = length c.args.p.now in
     let q = length c.args.q.now in
-    (0 < p) × (p ≤ limits.ranks) × (0 < q) × (q ≤ limits.ranks) = let p = c.requires.writable.plan.ranks_P in
-    let q = c.requires.writable.plan.ranks_Q in
+    (0 < p) × (p ≤ limits.ranks) × (0 < q) × (q ≤ limits.ranks) = let p = c.requires.writable.plan.ranks_p in
+    let q = c.requires.writable.plan.ranks_q in
     (p.0, p.1, q.0, q.1) in
     let k = c.loop-rank.rank in
     let r = ranks in
@@ -86,8 +86,8 @@ pub overflow_add-rank-in-loop-rank : goal.overflow_add-rank-in-loop-rank
 overflow_add-rank-in-loop-rank c =
     let ranks : let p = length c.args.p.now in
     let q = length c.args.q.now in
-    (0 < p) × (p ≤ limits.ranks) × (0 < q) × (q ≤ limits.ranks) = let p = c.requires.writable.plan.ranks_P in
-    let q = c.requires.writable.plan.ranks_Q in
+    (0 < p) × (p ≤ limits.ranks) × (0 < q) × (q ≤ limits.ranks) = let p = c.requires.writable.plan.ranks_p in
+    let q = c.requires.writable.plan.ranks_q in
     (p.0, p.1, q.0, q.1) in
     omega (arith, ranks)
 
