@@ -1,7 +1,7 @@
 #!/usr/bin/env python3
 """Turns the proofs of a crate that walk the code (proofs/F/Proof.antt) into Invariants.antt and Answers.antt.
 
-usage: turn_proofs.py CRATE [NAMES.json]      at the top of the repository
+usage: turn_proofs.py CRATE [NAMES.json [F ..]]      at the top of the repository
 
 NAMES.json is what `rt check --generated DIR --old-names` writes in the crate's folder. It has each goal's and each step's
 old and new name. Answers that only said `search rules` go: the check finds them. What the script cannot turn it leaves,
@@ -160,8 +160,6 @@ class Function:
         for _, _, (old, new), callee in [tuple(p[:4]) for p in names["places"]]:
             if old:
                 self.steps.setdefault(squash(old), (new, callee))
-        for p in names["places"]:
-            pass
         self.needs = {squash(o): n for o, n in names["needs"]}
         self.asked = {}
         for o, n in names["needs"]:
@@ -287,7 +285,7 @@ def main():
     crate = sys.argv[1]
     top = os.getcwd()
     listed = sys.argv[2] if len(sys.argv) > 2 else "/tmp/names/names.json"
-    only = sys.argv[3:] 
+    only = sys.argv[3:]
     with open(listed, encoding="utf-8") as f:
         names = json.load(f)
     sources = clauses_in_source(top)
