@@ -54,3 +54,6 @@ module _ (n : ℕ) where
         lt-leb 20 n (omega arith),
         lt-leb 30 n (omega arith),
       )
+
+-- one law for each band
+pub ruleset bands = (band_shape, band_structure, band_flags, band_products, band_over, band_none)

@@ -10,6 +10,7 @@ ghost use Rattle.listing_shape.specs.Counts.{rank_of, el_count_of, vertex_count_
 use listing::{Answer, Band, Index, Number, inner, limit, refusal};
 
 // The class that a refusal's number falls into.
+#[tactic(auto, using(crate::proofs::Bands::bands))]
 pub fn class(no: u16) -> Band
     ensures { result ≡ band no }
 {

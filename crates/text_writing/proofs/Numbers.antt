@@ -76,3 +76,6 @@ module _ (x at : ℕ) (d : List ℕ) where
         let w = s.whole ∙ ap (λ (l : List ℕ). l ++ s.tail) (numeral_short v h) in
         let l = list_before at d d' s.tail (digit v) (omega (arith, spelling_fits)) (rw q at s.laid) in
         record { laid = rw w l; next = e }
+
+-- one law for each number of digits
+pub ruleset digit_counts = (one_digit, two_digits, three_digits, four_digits, five_digits)

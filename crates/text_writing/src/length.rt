@@ -8,6 +8,7 @@ ghost use Rattle.text_theory.specs.Text.{numeral, commas, line, line_bytes, rank
 use listing::{Index, inner};
 
 // How many digits a number has.
+#[tactic(auto, using(crate::proofs::Numbers::digit_counts))]
 pub fn digits(x: Index) -> usize
     ensures { (result ≡ length (numeral x)) × (result ≤ 5) }
 {
