@@ -1,7 +1,7 @@
 #!/usr/bin/env python3
 """Turns the proofs of a crate that walk the code (proofs/F/Proof.antt) into Invariants.antt and Answers.antt.
 
-usage: turn_proofs.py CRATE [NAMES.json [F ..]]      at the top of the repository
+usage: turn_proofs.py CRATE NAMES.json [F ..]      at the top of the repository
 
 NAMES.json is what `rt check --generated DIR --old-names` writes in the crate's folder. It has each goal's and each step's
 old and new name. Answers that only said `search rules` go: the check finds them. What the script cannot turn it leaves,
@@ -284,7 +284,7 @@ def inline_parts(text, fn):
 def main():
     crate = sys.argv[1]
     top = os.getcwd()
-    listed = sys.argv[2] if len(sys.argv) > 2 else "/tmp/names/names.json"
+    listed = sys.argv[2]
     only = sys.argv[3:]
     with open(listed, encoding="utf-8") as f:
         names = json.load(f)

@@ -1,6 +1,8 @@
--- How much of a slice is filled, or lent.
+-- How far a slice is filled.
+--
+-- IsPrefixLen   the list has n numbers at its start to take: n is not past its end. Said by taking them, too, for callers
+--               that cut the slice there
 use Rattle.std.specs.Prelude.{◌≡◌, ℕ, ◌≤◌, List, length, take}
 
--- `&xs[..n]` is in bounds and has n numbers. The second part follows from the first, and spares a caller's `&buf[..n]` a proof file.
 abbrev pub IsPrefixLen : ℕ → List ℕ → Type 0
-IsPrefixLen n xs = (n ≤ length xs) × (n ≡ length (take n xs))
+IsPrefixLen n list = (n ≤ length list) × (n ≡ length (take n list))

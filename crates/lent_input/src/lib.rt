@@ -1,32 +1,32 @@
-// Input, read into a lent slice.
+// Input for the programs: bytes are read into a slice that is lent for them, and no memory is asked for.
 #![tactic(auto)]
 
 ghost use Rattle.lent_input.specs.Counts.{IsPrefixLen};
 
 use std::io::Read;
 
-// One read into buf: how many bytes it put at the start of buf, 0 where the input has ended or the read fails.
-fn read_some(input: &mut impl Read, buf: &mut [u8]) -> usize
-    ensures { IsPrefixLen result buf.new }
+// How many bytes one read brings. That nothing is left to read and that reading fails look alike: both bring none.
+fn read_some(input: &mut impl Read, room: &mut [u8]) -> usize
+    ensures { IsPrefixLen result room.new }
 {
-    match input.read(buf) {
+    match input.read(room) {
         Ok(n) => n,
         Err(_) => 0,
     }
 }
 
-// Reads until buf is full, the input ends or a read fails, and returns how many bytes it put at the start of buf. On an
-// empty buf it reads nothing.
-pub fn read_full(input: &mut impl Read, buf: &mut [u8]) -> usize
-    ensures { IsPrefixLen result buf.new }
+// Fills the slice from its start, by as many reads as it takes, and says how far it is filled: to its end, unless the
+// input was shorter.
+pub fn read_full(input: &mut impl Read, room: &mut [u8]) -> usize
+    ensures { IsPrefixLen result room.new }
 {
-    let mut done = 0;
-    while done < buf.len() {
-        let n = read_some(input, &mut buf[done..]);
-        if n == 0 {
-            break;
+    let mut filled: usize = 0;
+    while filled < room.len() {
+        let brought = read_some(input, &mut room[filled..]);
+        if brought == 0 {
+            return filled;
         }
-        done += n;
+        filled += brought;
     }
-    done
+    filled
 }
