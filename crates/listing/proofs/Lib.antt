@@ -1,4 +1,5 @@
 pub mod Answers
+pub mod Told
 pub mod Listing
 pub mod Elements
 pub mod Places

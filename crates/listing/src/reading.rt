@@ -1,0 +1,67 @@
+// How the crates above read a listing. Some of these functions ask something of their caller, as that the ends do not
+// fall; the entries ask nothing.
+ghost use Rattle.std.specs.Prelude.{◌≡◌, ◌+◌, ◌*◌, ◌≤◌, ◌<◌, length, get_or, take};
+ghost use Rattle.listing.specs.Listing.{held, limits, width, before, start, entries, Ends};
+ghost use Rattle.listing.specs.Shape.{Shaped};
+ghost use Rattle.listing.specs.Told.{side_no};
+
+use crate::{Cell, Index, Side, Slices};
+
+// The first n numbers of a slice; all where it has fewer.
+pub fn front<'a>(list: &'a [Index], n: usize) -> &'a [Index]
+    ensures { result.now ≡ take n list.now }
+{
+    list.get(..n).unwrap_or(list)
+}
+
+// The number of elements of a rank: 0 for a rank that is not there.
+pub fn count_at(counts: &[Index], r: usize) -> Index
+    ensures { result ≡ get_or counts.now r 0 }
+{
+    counts.get(r).copied().unwrap_or(0)
+}
+
+// The number of elements of all ranks below rank r: where rank r begins.
+#[tactic(auto, using(crate::proofs::Listing::before_zero, crate::proofs::Listing::before_next))]
+pub fn elements_before(counts: &[Index], r: usize) -> usize
+    requires { r < width }
+    ensures { result ≡ before counts.now r }
+{
+    let mut n: usize = 0;
+    for q in 0..r {
+        n += usize::from(count_at(counts, q));
+    }
+    n
+}
+
+impl<'a> Slices<'a> {
+    // Where the kth list begins.
+    pub fn start_of(self, k: usize) -> usize
+        requires { k ≤ length self.ends.now }
+        ensures { result ≡ start self.entry.ends.now k }
+    {
+        if k == 0 {
+            return 0;
+        }
+        usize::from(self.ends[k - 1])
+    }
+
+    // The kth list.
+    #[tactic(auto, unfolding(crate::specs::Listing::entries))]
+    pub fn list_of(self, k: usize) -> &'a [Index]
+        requires ends { Ends self.ends.now self.inc.now }
+        requires k_in_bounds { k < length self.ends.now }
+        ensures { result.now ≡ entries self.entry.ends.now self.entry.inc.now k }
+    {
+        &self.inc[self.start_of(k)..usize::from(self.ends[k])]
+    }
+
+    // The list at a side of the element x places after the place p.
+    pub fn side_of(self, p: usize, x: Index, side: Side) -> &'a [Index]
+        requires ends { Ends self.ends.now self.inc.now }
+        requires side_in_bounds { 2 * (p + x) + side_no side < length self.ends.now }
+        ensures { result.now ≡ entries self.entry.ends.now self.entry.inc.now (2 * (p + x) + side_no side) }
+    {
+        self.list_of(2 * (p + usize::from(x)) + usize::from(Index::from(side)))
+    }
+}
