@@ -5,8 +5,8 @@
 -- of_element    a refusal that names an element, and two numbers more
 -- answer_of     the answer of a refusal
 -- told          the answer of a result: that of its refusal, else the one of no refusal
--- counted       what a count answers: the refusal's number and 0, or 0 and the count
--- built         what a function that writes a listing answers: its refusal and no numbers, or how many it wrote
+-- told_number   what a count answers: the refusal's number and 0, or 0 and the count
+-- told_built    what a function that writes a listing answers: its refusal and no numbers, or how many it wrote
 use Rattle.std.specs.Prelude.{ℕ, Result, Ok, Err}
 use Rattle.listing.specs.declared.Answer.{Answer}
 use Rattle.listing.specs.declared.Number.{Number}
@@ -90,10 +90,10 @@ abbrev pub told : {A : Type 0} → Result A Refusal → Answer
 told (Ok x) = fine
 told (Err e) = answer_of e
 
-abbrev pub counted : Result ℕ Refusal → Number
-counted (Ok n) = record { no = 0; value = n }
-counted (Err e) = record { no = (answer_of e).no; value = 0 }
+abbrev pub told_number : Result ℕ Refusal → Number
+told_number (Ok n) = record { no = 0; value = n }
+told_number (Err e) = record { no = (answer_of e).no; value = 0 }
 
-abbrev pub built : Result Lengths Refusal → Built
-built (Ok n) = record { answer = fine; counts = n.counts; ends = n.ends; inc = n.inc }
-built (Err e) = record { answer = answer_of e; counts = 0; ends = 0; inc = 0 }
+abbrev pub told_built : Result Lengths Refusal → Built
+told_built (Ok n) = record { answer = fine; counts = n.counts; ends = n.ends; inc = n.inc }
+told_built (Err e) = record { answer = answer_of e; counts = 0; ends = 0; inc = 0 }

@@ -1,7 +1,7 @@
 // What crosses to callers that have no enum: refusals as numbers, each with the fields that it carries.
 ghost use Rattle.std.specs.Prelude.{◌≡◌};
 ghost use Rattle.listing.specs.Answers.{plain, fine};
-ghost use Rattle.listing.specs.Told.{side_no, bare_no, not_back_no, missing_no, of_element, answer_of, told, counted, built};
+ghost use Rattle.listing.specs.Told.{side_no, bare_no, not_back_no, missing_no, of_element, answer_of, told, told_number, told_built};
 
 use crate::{Answer, Built, Element, Index, Lengths, Number, Refusal, Side, numbers};
 
@@ -153,7 +153,7 @@ impl<T: Copy> From<Result<T, Refusal>> for Answer {
 
 impl From<Result<usize, Refusal>> for Number {
     fn from(outcome: Result<usize, Refusal>) -> Number
-        ensures { result ≡ counted outcome }
+        ensures { result ≡ told_number outcome }
     {
         match outcome {
             Ok(value) => Number { no: 0, value },
@@ -167,7 +167,7 @@ impl From<Result<usize, Refusal>> for Number {
 
 impl From<Result<Lengths, Refusal>> for Built {
     fn from(outcome: Result<Lengths, Refusal>) -> Built
-        ensures { result ≡ built outcome }
+        ensures { result ≡ told_built outcome }
     {
         match outcome {
             Ok(n) => Built {

@@ -1,9 +1,10 @@
-// Output slices that a caller lends: whether they have room for a listing, and what is answered at a refusal.
+// Output slices that a caller lends: whether they have room for a listing, and what is answered of one that is written.
 ghost use Rattle.std.specs.Prelude.{◌≡◌, ◌<◌};
-ghost use Rattle.listing.specs.Listing.{Listing, width};
-ghost use Rattle.listing_outputs.specs.Output.{need_of, short_test, built_of};
+ghost use Rattle.listing.specs.Listing.{width};
+ghost use Rattle.listing.specs.Told.{told};
+ghost use Rattle.listing_outputs.specs.Output.{short_test};
 
-use listing::{Answer, Built, inner, refusal};
+use listing::{Lengths, Refusal};
 
 // How many numbers the three slices of a listing take, or have room for.
 #[derive(Clone, Copy)]
@@ -14,40 +15,22 @@ pub struct Room {
 }
 
 // Whether slices with this much room can hold a listing that needs so much.
-pub fn check_room(need: Room, room: Room) -> Answer
-    ensures { result ≡ short_test need room }
+#[tactic(auto, using(crate::proofs::Output::room))]
+pub fn check_room(need: Room, room: Room) -> Result<(), Refusal>
+    ensures { told result ≡ short_test need room }
 {
-    if room.counts < need.counts {
-        return inner::plain(refusal::OUTPUT_SHORT);
+    if room.counts < need.counts || room.ends < need.ends || room.inc < need.inc {
+        return Err(Refusal::OutputShort);
     }
-    if room.ends < need.ends {
-        return inner::plain(refusal::OUTPUT_SHORT);
-    }
-    if room.inc < need.inc {
-        return inner::plain(refusal::OUTPUT_SHORT);
-    }
-    inner::plain(0)
+    Ok(())
 }
 
-// What is answered at a refusal: nothing is written.
-pub fn refused(answer: Answer) -> Built
-    ensures { (R : Listing) → (answer.no ≡ 0 → ⊥) → result ≡ built_of answer R }
-{
-    Built {
-        answer,
-        counts: 0,
-        ends: 0,
-        inc: 0,
-    }
-}
-
-// What is answered of a listing that is written, which takes so much room.
-pub fn written(answer: Answer, need: Room) -> Built
+// How many numbers are written of a listing that takes so much room.
+pub fn lengths(need: Room) -> Lengths
     requires { (need.counts < width) × (need.ends < width) × (need.inc < width) }
-    ensures { (R : Listing) → need ≡ need_of R → answer.no ≡ 0 → result ≡ built_of answer R }
+    ensures { (result.counts ≡ need.counts) × (result.ends ≡ need.ends) × (result.inc ≡ need.inc) }
 {
-    Built {
-        answer,
+    Lengths {
         counts: need.counts as u16,
         ends: need.ends as u16,
         inc: need.inc as u16,

@@ -1,12 +1,7 @@
--- `fills`. Invariant: the answer for all the ends is the answer for those from k on, begun at `from`.
--- Measure: the ends left.
--- Assumes nothing.
+-- Invariant: the answer for all the ends is the answer for those that are left, begun at `from`.
 use Rattle.listing.specs.Shape.{fills}
-use Rattle.std.proofs.Common.{◌≡◌, ◌-◌, ◌≤◌, length, drop}
+use Rattle.std.proofs.Common.{◌≡◌, drop}
 use Rattle.listing_shape.proofs.fills.Given as goal
 
-abbrev pub invariant-loop-k : goal.invariant-loop-k
-invariant-loop-k l = (l.k ≤ length l.ends) × (fills 0 l.ends l.n ≡ fills l.from (drop l.k l.ends) l.n)
-
-abbrev pub decreases-loop-k : goal.decreases-loop-k
-decreases-loop-k l = length l.ends - l.k
+abbrev pub invariant-loop-end : goal.invariant-loop-end
+invariant-loop-end l = fills 0 l.ends l.n ≡ fills l.from (drop l.end-index l.ends) l.n
