@@ -57,6 +57,8 @@ module _ (ends inc : List ℕ) (w : Way) (r i : ℕ) where
     unfolding along_test
     along_done v e h = e ∙ sym (in_end _ _ _ _ v h)
 
+    pub ruleset along = (along_return, along_turn, along_done)
+
   module _ (list : List ℕ) where
     pub list_none : 0 < w.none → w.asked ≡ true → eqb (length list) 0 ≡ true
         → list_test ends inc w r i list ≡ refusal w.none r i 0 0

@@ -57,7 +57,7 @@ fn check_entry(ends: &[Index], inc: &[Index], way: Way, of: Element, x: Index) -
 }
 
 // The entries of a list in their order.
-#[tactic(auto, using(crate::proofs::Entries::along_return, crate::proofs::Entries::along_turn, crate::proofs::Entries::along_done))]
+#[tactic(auto, using(crate::proofs::Entries::along))]
 fn check_along(ends: &[Index], inc: &[Index], way: Way, of: Element, list: &[Index]) -> Answer
     requires ends { Ends ends.now inc.now }
     requires way_fits { WayFits ends.now way }
@@ -164,7 +164,7 @@ fn check_element(
 }
 
 // The elements of rank r, which begins at place here.
-#[tactic(auto, using(listing::proofs::Answers::of_return, listing::proofs::Answers::of_turn, listing::proofs::Answers::of_done))]
+#[tactic(auto, using(crate::proofs::Turns::turns))]
 fn check_rank(counts: &[Index], ends: &[Index], inc: &[Index], here: usize, r: usize) -> Answer
     requires shaped { Shaped limits (held counts ends inc) }
     requires here_value { (here ≡ before counts.now r) × (r < length counts.now) }
@@ -182,7 +182,7 @@ fn check_rank(counts: &[Index], ends: &[Index], inc: &[Index], here: usize, r: u
 }
 
 // All elements, by rank and then index.
-#[tactic(auto, using(listing::proofs::Answers::of_return, listing::proofs::Answers::of_turn, listing::proofs::Answers::of_done, listing::proofs::Listing::before_zero, listing::proofs::Listing::before_next), unfolding(crate::specs::Incidence::incidences_test))]
+#[tactic(auto, using(crate::proofs::Turns::rank_turns), unfolding(crate::specs::Incidence::incidences_test))]
 pub fn check_all(counts: &[Index], ends: &[Index], inc: &[Index]) -> Answer
     requires { Shaped limits (held counts ends inc) }
     ensures { result ≡ incidences_test (held counts.entry ends.entry inc.entry) }
