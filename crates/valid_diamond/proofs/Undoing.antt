@@ -4,19 +4,31 @@
 use mathlib.Core.Path.{◌≡◌, refl, sym, ap, ◌∙◌}
 use mathlib.Core.Logic.{◌⊎◌, inl, inr}
 use mathlib.Core.Bool.{Bool, true, false}
-use mathlib.Core.List.{List, [], ◌∷◌, ◌++◌}
+use mathlib.Core.List.{List, [], ◌∷◌, ◌++◌, map, reverse}
 use Prim.Native.Nat.{ℕ, zero, suc, ◌+◌, ◌-◌, ◌<◌, ◌≤◌}
 use native.Mathlib.Omega.{arith}
 use borrow.Author.Tests.{eqb-true, eqb-false}
+use denote.Ref.{Bor}
 use lib.Dec.{eqb}
 use lib.ListN.{length, get_or, take, set, length-set}
-use lib.Seq.{take-suc, get_or-set_other, set-get_or}
+use lib.Seq.{get_or-set_other, set-get_or}
+use Rattle.std.specs.Prelude.{Option, Some, None}
+use Rattle.std.specs.Iterator.{Yields}
+use Rattle.std.specs.declared.iter.Rev.{Rev}
+use Rattle.std.specs.declared.slice.Iter.{Iter}
+use Rattle.std.specs.Iterator.Adapters.{rev_source, rev_steps}
+use Rattle.std.specs.Slice.Iter.{iter_rest, iter_steps_back}
+use Rattle.std.proofs.lemmas.Grind.{get_or_default_zero}
+use Rattle.std.proofs.lemmas.Iterator.Adapters.{YieldsList-from_rev_slice}
+use Rattle.std.proofs.lemmas.Iterator.Consumers.{YieldsList-turn, YieldsList-end}
+use Rattle.std.proofs.lemmas.List.{map-append, reverse-append, reverse-reverse, length-reverse, get_or-reverse}
 use Rattle.order.specs.Lists.{In}
 use Rattle.order.proofs.Lists.{in?, occurs_none, occurs_nil}
+use Rattle.order.proofs.Positions.{in_at}
 use Rattle.valid_diamond.specs.Dyadic.{subs_of_all, seen_after}
 use Rattle.valid_diamond.specs.Tally.{Tally, undone}
 use Rattle.valid_diamond.proofs.Counting.{all_seen}
-use Rattle.valid_diamond.proofs.Walks.{subs_of, walk_next}
+use Rattle.valid_diamond.proofs.Walks.{subs_of}
 
 -- ---- one count
 
@@ -42,23 +54,47 @@ unfolding undone
 undone_append [] b t = refl
 undone_append (x ∷ a) b t = ap (λ (u : List ℕ). set u x 0) (undone_append a b t)
 
--- ---- what is to be set back of the first k indices of a list, and of the subs of its first j elements
+-- ---- a list that is taken from its end
 
-pub list_one : (l t : List ℕ) (k : ℕ) → 0 < k → k ≤ length l
-    → undone (take k l) t ≡ undone (take (k - 1) l) (set t (get_or l (k - 1) 0) 0)
-unfolding undone
-list_one l t k h le =
-    let s : suc (k - 1) ≡ k = omega arith in
-    let e = rw s at (take-suc l (k - 1) 0 (omega arith)) in
-    rw e (undone_append (take (k - 1) l) (get_or l (k - 1) 0 ∷ []) t)
+-- what has been taken, in the order of the list
+abbrev pub taken : List (Bor ℕ) → List ℕ
+taken ys = reverse (map (λ y. y.now) ys)
 
-pub subs_one : (ends inc : List ℕ) (b : ℕ) (l t : List ℕ) (j : ℕ) → 0 < j → j ≤ length l
-    → undone (subs_of_all ends inc b (take j l)) t
-    ≡ undone (subs_of_all ends inc b (take (j - 1) l)) (undone (subs_of ends inc b (get_or l (j - 1) 0)) t)
-subs_one ends inc b l t j h le =
-    let s : j - 1 + 1 ≡ j = omega arith in
-    let e = rw s at (walk_next ends inc b l (j - 1) (omega arith)) in
-    rw e (undone_append (subs_of_all ends inc b (take (j - 1) l)) (subs_of ends inc b (get_or l (j - 1) 0)) t)
+taken_more : (ys : List (Bor ℕ)) (y : Bor ℕ) → taken (ys ++ y ∷ []) ≡ y.now ∷ taken ys
+taken_more ys y = simp (map-append, reverse-append)
+
+module _ (l : List ℕ) (s t u : Rev (Iter ℕ)) (e : iter_rest (rev_source s) ≡ l) (ys : List (Bor ℕ))
+    (k : Yields (rev_steps iter_steps_back) s ys t) (r : Option (Bor ℕ)) where
+  -- the next that is taken stands in the list
+  pub taken_in : (y : Bor ℕ) → r ≡ Some y → rev_steps iter_steps_back t r u → In y.now l
+  taken_in y q h =
+      let p = YieldsList-turn (YieldsList-from_rev_slice l e) ys t k r u y q h in
+      let n : length ys < length l = omega (arith, p.0, length-reverse l) in
+      let g = p.1 ∙ get_or-reverse l (length ys) y.now n in
+      let z = get_or_default_zero l (length l - 1 - length ys) y.now (omega arith) in
+      rw (g ∙ z) (in_at l (length l - 1 - length ys) (omega arith))
+
+  -- and where there is no next, all were taken
+  pub taken_all : r ≡ None → rev_steps iter_steps_back t r u → taken ys ≡ l
+  taken_all q h =
+      ap reverse (YieldsList-end (YieldsList-from_rev_slice l e) ys t k r u q h).0 ∙ reverse-reverse l
+
+-- one more is set back: an index, and the subs of an element
+module _ (ys : List (Bor ℕ)) (y : Bor ℕ) (t u v : List ℕ) where
+  pub index_more : u ≡ undone (taken ys) t → (x : ℕ) → x ≡ y.now → v ≡ set u x 0 → v ≡ undone (taken (ys ++ y ∷ [])) t
+  unfolding undone
+  index_more e x q s = s ∙ rw (q, taken_more) (ap (λ (w : List ℕ). set w y.now 0) e)
+
+  module _ (ends inc : List ℕ) (b : ℕ) where
+    abbrev walk_of : List ℕ → List ℕ
+    walk_of l = subs_of_all ends inc b l
+
+    pub subs_more : u ≡ undone (walk_of (taken ys)) t → (list : List ℕ) → list ≡ subs_of ends inc b y.now
+        → v ≡ undone list u → v ≡ undone (walk_of (taken (ys ++ y ∷ []))) t
+    unfolding subs_of_all
+    subs_more e list q s =
+        let own = subs_of ends inc b y.now in
+        s ∙ rw (q, taken_more) (ap (undone own) e ∙ sym (undone_append own (walk_of (taken ys)) t))
 
 -- ---- what is left
 

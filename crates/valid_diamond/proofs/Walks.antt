@@ -12,6 +12,7 @@ use lib.Dec.{leb, eqb}
 use lib.ListN.{length, get_or, take, drop, set, length-set, replicate, length-replicate, get_or-replicate}
 use lib.Seq.{take-suc, take_all, split_at, get_or-set_same, get_or-set_other}
 use Rattle.order.specs.Lists.{In, occurs}
+use Rattle.order.proofs.Positions.{in_at}
 use Rattle.listing.specs.Answers.{fine, on, ◌or_else◌, first_of}
 use Rattle.listing.specs.Listing.{Listing, Limits, count, before, entries, subs}
 use Rattle.listing.specs.Shape.{Shaped}
@@ -125,6 +126,10 @@ tallied_walked T z = record { clear = ap (λ (a : Answer). a.no) (sym T.answer) 
 
 -- ---- along one list
 
+-- what holds of each of a list's indices holds of the one at a place
+pub inside_at : (l : List ℕ) (n j : ℕ) → ((x : ℕ) → In x l → x < n) → j < length l → get_or l j 0 < n
+inside_at l n j f h = f (get_or l j 0) (in_at l j h)
+
 module _ {n : ℕ} (f : ℕ → Answer) {t : List ℕ} (seen l : List ℕ) (j : ℕ) (w : Walked n f t seen (take j l)) where
   pub list_more : j < length l → (x : ℕ) → x ≡ get_or l j 0 → x < n → get_or t x 0 < 2
       → Walked n f (set t x (get_or t x 0 + 1)) seen (take (j + 1) l)
@@ -176,20 +181,36 @@ module _ (ends inc : List ℕ) (b : ℕ) where
   unfolding subs_of_all
   walk_split l j h = ap walk_of (split_at l j 0 h) ∙ walk_append (take j l) (get_or l j 0 ∷ drop (suc j) l)
 
-  module _ {n : ℕ} (f : ℕ → Answer) {t : List ℕ} (seen l : List ℕ) (j : ℕ)
-      (w : Walked n f t seen (walk_of (take j l))) where
-    pub walk_more : {u : List ℕ} → j < length l
-        → Walked n f u (seen_after seen (walk_of (take j l))) (subs_of (get_or l j 0))
-        → Walked n f u seen (walk_of (take (j + 1) l))
-    walk_more h v = rw (walk_next l j h) (walked_more f seen w (subs_of (get_or l j 0)) v)
+  module _ {n : ℕ} (l : List ℕ) (j : ℕ) (W : Walkable ends inc b n l) (h : j < length l) where
+    -- the list at place j is there, and its indices are below n
+    pub list_there : 2 * (b + get_or l j 0) + 0 < length ends
+    list_there = W.there (get_or l j 0) (in_at l j h)
 
-    pub walk_stop : {u : List ℕ} {a : Answer} → j < length l
-        → a ≡ third_test f (seen_after seen (walk_of (take j l))) (subs_of (get_or l j 0)) → (a.no ≡ 0 → ⊥)
-        → Tallied n u f seen (walk_of l) a
-    walk_stop h e z = rw (walk_split l j h) (walked_stop f seen w (subs_of (get_or l j 0)) (walk_of (drop (suc j) l)) e z)
+    pub list_inside : {list : List ℕ} → list ≡ subs_of (get_or l j 0) → (x : ℕ) → In x list → x < n
+    list_inside e x m = W.inside (get_or l j 0) x (in_at l j h) (rw e at m)
 
-    pub walk_all : {a : Answer} → length l ≤ j → a ≡ fine → Tallied n t f seen (walk_of l) a
-    walk_all h e = rw (take_all j l h) at (walked_all f seen w e)
+  module _ {n : ℕ} (f : ℕ → Answer) {t : List ℕ} (seen : List ℕ) where
+    pub walk_none : Tally n t seen → Walked n f t seen (walk_of [])
+    unfolding subs_of_all
+    walk_none T = walked_none f seen T
+
+    module _ (l : List ℕ) (j : ℕ) (w : Walked n f t seen (walk_of (take j l))) where
+      -- a callee walks the list at place j: without refusal, and with one
+      module _ {u : List ℕ} {a : Answer} (h : j < length l) {list : List ℕ} (e : list ≡ subs_of (get_or l j 0))
+          (tallied : (s : List ℕ) → Tally n t s → Tallied n u f s list a) where
+        here : Tallied n u f (seen_after seen (walk_of (take j l))) (subs_of (get_or l j 0)) a
+        here = rw e at (tallied (seen_after seen (walk_of (take j l))) w.tally)
+
+        pub walk_more : a.no ≡ 0 → Walked n f u seen (walk_of (take (j + 1) l))
+        walk_more z = rw (walk_next l j h) (walked_more f seen w (subs_of (get_or l j 0)) (tallied_walked here z))
+
+        pub walk_stop : (a.no ≡ 0 → ⊥) → Tallied n u f seen (walk_of l) a
+        walk_stop z =
+            let rest = walk_of (drop (suc j) l) in
+            rw (walk_split l j h) (walked_stop f seen w (subs_of (get_or l j 0)) rest here.answer z)
+
+      pub walk_all : {a : Answer} → length l ≤ j → a ≡ fine → Tallied n t f seen (walk_of l) a
+      walk_all h e = rw (take_all j l h) at (walked_all f seen w e)
 
 -- where test 2 passes, the subs of an element's subs can be walked
 pub walkable : {m : Limits} (L : Listing) → Shaped m L → Incident L → (r i : ℕ) → i < count L r → {b : ℕ} {l : List ℕ}

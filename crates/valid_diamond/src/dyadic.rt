@@ -45,6 +45,7 @@ fn totals_after(totals: Totals, before: u8) -> Totals
 
 // Counts the subs of one of an element's subs, and refuses the first that is met a third time. `totals` are those of
 // what was met before.
+#[tactic(auto, using(crate::proofs::Walks::inside_at, crate::proofs::Totals::totals_few))]
 fn tally_list(
     tally: &mut [u8; limit::ELEMENTS],
     subs: &[Index],
@@ -59,9 +60,7 @@ fn tally_list(
     ensures totals_in { TotalsIn limits.elements tally.new result.totals.met result.totals.twice }
 {
     let mut so_far = totals;
-    let mut j: usize = 0;
-    while j < subs.len() {
-        let sub_sub = subs[j];
+    for &sub_sub in subs {
         let at = inner::wide(sub_sub);
         if 2 <= tally[at] {
             let low = of.rank - 2;
@@ -79,7 +78,6 @@ fn tally_list(
         }
         so_far = totals_after(so_far, tally[at]);
         tally[at] += 1;
-        j += 1;
     }
     Counted {
         answer: inner::plain(0),
@@ -89,6 +87,7 @@ fn tally_list(
 
 // Counts the subs of an element's subs, in walking order, in the tally of nothing. The lists of those subs begin at
 // place b.
+#[tactic(auto, using(crate::proofs::Walks::list_there, crate::proofs::Walks::list_inside))]
 fn tally_all(
     tally: &mut [u8; limit::ELEMENTS],
     ends: &[Index],
@@ -105,19 +104,12 @@ fn tally_all(
     ensures totals_in { TotalsIn limits.elements tally.new result.totals.met result.totals.twice }
 {
     let mut totals = Totals { met: 0, twice: 0 };
-    let mut j: usize = 0;
-    while j < subs.len() {
-        let c = tally_list(
-            &mut *tally,
-            inner::side_of(ends, inc, b, subs[j], 0),
-            totals,
-            of,
-        );
+    for &sub in subs {
+        let c = tally_list(tally, inner::side_of(ends, inc, b, sub, 0), totals, of);
         if c.answer.no != 0 {
             return c;
         }
         totals = c.totals;
-        j += 1;
     }
     Counted {
         answer: inner::plain(0),
@@ -126,13 +118,13 @@ fn tally_all(
 }
 
 // The smallest index below n that was met once.
+#[tactic(auto, using(listing::proofs::Answers::of_done), unfolding(crate::specs::Tally::lone_in))]
 fn check_once(tally: &[u8; limit::ELEMENTS], n: Index, of: Element) -> Answer
     requires n_le_elements { n ≤ limits.elements }
     requires le_rank { 2 ≤ of.rank }
     ensures { result ≡ lone_in (lone of.rank of.index) tally.now n }
 {
-    let mut x: Index = 0;
-    while x < n {
+    for x in 0..n {
         if tally[inner::wide(x)] == 1 {
             let low = of.rank - 2;
             return Answer {
@@ -143,7 +135,6 @@ fn check_once(tally: &[u8; limit::ELEMENTS], n: Index, of: Element) -> Answer
                 d: of.index,
             };
         }
-        x += 1;
     }
     inner::plain(0)
 }
@@ -183,10 +174,8 @@ fn undo_list(tally: &mut [u8; limit::ELEMENTS], subs: &[Index], met: Index) -> I
     ensures met_in_2 { MetIn limits.elements tally.new result }
 {
     let mut left = met;
-    let mut k = subs.len();
-    while 0 < k {
-        left = undo_count(&mut *tally, inner::wide(subs[k - 1]), left);
-        k -= 1;
+    for &sub_sub in subs.iter().rev() {
+        left = undo_count(tally, inner::wide(sub_sub), left);
     }
     left
 }
@@ -208,14 +197,11 @@ fn undo_all(
     ensures { Tally limits.elements tally.new [] }
 {
     let mut left = met;
-    let mut j = subs.len();
-    while 0 < left {
-        left = undo_list(
-            &mut *tally,
-            inner::side_of(ends, inc, b, subs[j - 1], 0),
-            left,
-        );
-        j -= 1;
+    for &sub in subs.iter().rev() {
+        if left == 0 {
+            return;
+        }
+        left = undo_list(tally, inner::side_of(ends, inc, b, sub, 0), left);
     }
 }
 
@@ -264,20 +250,21 @@ fn check_sections(
     if meets_one_twice(ends, inc, b, subs) {
         return inner::plain(0);
     }
-    let c = tally_all(&mut *tally, ends, inc, b, subs, of);
+    let c = tally_all(tally, ends, inc, b, subs, of);
     if c.answer.no != 0 {
         return c.answer;
     }
-    let a = check_lone(&*tally, c.totals, counts[r - 2], of);
+    let a = check_lone(tally, c.totals, counts[r - 2], of);
     if a.no != 0 {
         return a;
     }
-    undo_all(&mut *tally, ends, inc, b, subs, c.totals.met);
+    undo_all(tally, ends, inc, b, subs, c.totals.met);
     a
 }
 
 // The elements of rank r. The tally comes in as that of nothing, and is so again where they pass. The rank below begins
 // at place b.
+#[tactic(auto, using(valid_incidence::proofs::Turns::turns))]
 fn check_rank(
     tally: &mut [u8; limit::ELEMENTS],
     counts: &[Index],
@@ -296,26 +283,17 @@ fn check_rank(
     ensures tally_2 { result.no ≡ 0 → Tally limits.elements tally.new [] }
 {
     let rank = r as Index;
-    let n = counts[r];
-    let mut i: Index = 0;
-    while i < n {
-        let a = check_sections(
-            &mut *tally,
-            counts,
-            ends,
-            inc,
-            b,
-            Element { rank, index: i },
-        );
+    for index in 0..counts[r] {
+        let a = check_sections(tally, counts, ends, inc, b, Element { rank, index });
         if a.no != 0 {
             return a;
         }
-        i += 1;
     }
     inner::plain(0)
 }
 
 // The elements of the ranks 2 to high, by rank and then index.
+#[tactic(auto, using(valid_incidence::proofs::Turns::rank_turns, crate::proofs::Walks::dyadic_low))]
 pub fn check_up_to(counts: &[Index], ends: &[Index], inc: &[Index], high: usize) -> Answer
     requires shaped { Shaped limits (held counts ends inc) }
     requires incident { Incident (held counts ends inc) }
@@ -328,14 +306,12 @@ pub fn check_up_to(counts: &[Index], ends: &[Index], inc: &[Index], high: usize)
     }
     let mut tally = [0u8; limit::ELEMENTS];
     let mut b = inner::wide(counts[0]);
-    let mut r: usize = 2;
-    while r <= high {
+    for r in 2..=high {
         let a = check_rank(&mut tally, counts, ends, inc, b, r);
         if a.no != 0 {
             return a;
         }
         b += inner::wide(counts[r - 1]);
-        r += 1;
     }
     inner::plain(0)
 }

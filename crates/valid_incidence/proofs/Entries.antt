@@ -1,20 +1,20 @@
 -- Test 2 piece by piece: the answers of an entry, of a list along its way, and of an element.
 -- Assumes nothing.
-use mathlib.Core.Path.{◌≡◌, refl}
+use mathlib.Core.Path.{◌≡◌, refl, sym, ◌∙◌}
 use mathlib.Core.Logic.{◌⊎◌, inl, inr}
 use mathlib.Core.Bool.{true, false}
 use mathlib.Core.List.{List}
-use Prim.Native.Nat.{ℕ, ◌≤◌, ◌<◌}
+use Prim.Native.Nat.{ℕ, ◌+◌, ◌≤◌, ◌<◌}
 use native.Mathlib.Omega.{arith}
 use borrow.Author.Tests.{lt-ltb, le-ltb}
 use lib.Dec.{eqb}
-use lib.ListN.{length}
+use lib.ListN.{length, get_or, drop}
 use Rattle.order.specs.Lists.{has}
 use Rattle.order.proofs.Tests.{and_off}
 use Rattle.listing.specs.declared.Answer.{Answer}
 use Rattle.listing.specs.Answers.{fine, refusal}
 use Rattle.listing.specs.Listing.{Listing, subs, sups}
-use Rattle.listing.proofs.Answers.{or_stop, or_fine, then_stop, then_go}
+use Rattle.listing.proofs.Answers.{or_stop, or_fine, no_of, stops, then_stop, then_go, in_next, in_stop, in_end}
 use Rattle.valid_incidence.specs.declared.incidence.Way.{Way}
 use Rattle.valid_incidence.specs.Ways.{down, up, back, entry_test, along_test, list_test}
 use Rattle.valid_incidence.specs.Incidence.{element_test}
@@ -37,6 +37,27 @@ module _ (ends inc : List ℕ) (w : Way) (r i : ℕ) where
     entry_missing h = rw (le-ltb _ _ h)
 
   -- ---- a list along its way
+
+  -- the loop over its entries, which has come to place k: it leaves, it goes on, and it ends
+  module _ (list : List ℕ) (k : ℕ) (a : Answer) where
+    abbrev Kept : Type 0
+    Kept = along_test ends inc w r i list ≡ along_test ends inc w r i (drop k list)
+
+    pub along_return : Kept → a ≡ entry_test ends inc w r i (get_or list k 0) → k < length list → (a.no ≡ 0 → ⊥)
+        → a ≡ along_test ends inc w r i list
+    unfolding along_test
+    along_return v e h z = e ∙ sym (in_stop _ _ _ _ v h (stops e z))
+
+    pub along_turn : Kept → a ≡ entry_test ends inc w r i (get_or list k 0) → k < length list → a.no ≡ 0
+        → along_test ends inc w r i list ≡ along_test ends inc w r i (drop (k + 1) list)
+    unfolding along_test
+    along_turn v e h z = in_next _ _ _ _ v h (no_of e z)
+
+    pub along_done : Kept → a ≡ fine → length list ≤ k → a ≡ along_test ends inc w r i list
+    unfolding along_test
+    along_done v e h = e ∙ sym (in_end _ _ _ _ v h)
+
+    pub ruleset along = (along_return, along_turn, along_done)
 
   module _ (list : List ℕ) where
     pub list_none : 0 < w.none → w.asked ≡ true → eqb (length list) 0 ≡ true

@@ -1,4 +1,5 @@
 pub mod Ways
+pub mod Turns
 pub mod Entries
 pub mod IncidenceExact
 pub mod Below

@@ -57,19 +57,18 @@ fn check_entry(ends: &[Index], inc: &[Index], way: Way, of: Element, x: Index) -
 }
 
 // The entries of a list in their order.
+#[tactic(auto, using(crate::proofs::Entries::along))]
 fn check_along(ends: &[Index], inc: &[Index], way: Way, of: Element, list: &[Index]) -> Answer
     requires ends { Ends ends.now inc.now }
     requires way_fits { WayFits ends.now way }
     ensures { result ≡ along_test ends.now inc.now way of.rank of.index
         list.now }
 {
-    let mut j: usize = 0;
-    while j < list.len() {
-        let a = check_entry(ends, inc, way, of, list[j]);
+    for &x in list {
+        let a = check_entry(ends, inc, way, of, x);
         if a.no != 0 {
             return a;
         }
-        j += 1;
     }
     inner::plain(0)
 }
@@ -165,6 +164,7 @@ fn check_element(
 }
 
 // The elements of rank r, which begins at place here.
+#[tactic(auto, using(crate::proofs::Turns::turns))]
 fn check_rank(counts: &[Index], ends: &[Index], inc: &[Index], here: usize, r: usize) -> Answer
     requires shaped { Shaped limits (held counts ends inc) }
     requires here_value { (here ≡ before counts.now r) × (r < length counts.now) }
@@ -172,32 +172,28 @@ fn check_rank(counts: &[Index], ends: &[Index], inc: &[Index], here: usize, r: u
         (element_test (held counts.entry ends.entry inc.entry) r) 0
         (get_or counts.now r 0) }
 {
-    let n = counts[r];
-    let mut i: Index = 0;
-    while i < n {
+    for i in 0..counts[r] {
         let a = check_element(counts, ends, inc, here, r, i);
         if a.no != 0 {
             return a;
         }
-        i += 1;
     }
     inner::plain(0)
 }
 
 // All elements, by rank and then index.
+#[tactic(auto, using(crate::proofs::Turns::rank_turns), unfolding(crate::specs::Incidence::incidences_test))]
 pub fn check_all(counts: &[Index], ends: &[Index], inc: &[Index]) -> Answer
     requires { Shaped limits (held counts ends inc) }
     ensures { result ≡ incidences_test (held counts.entry ends.entry inc.entry) }
 {
     let mut here: usize = 0;
-    let mut r: usize = 0;
-    while r < counts.len() {
+    for (r, &count) in counts.iter().enumerate() {
         let a = check_rank(counts, ends, inc, here, r);
         if a.no != 0 {
             return a;
         }
-        here += inner::wide(counts[r]);
-        r += 1;
+        here += inner::wide(count);
     }
     inner::plain(0)
 }

@@ -1,7 +1,6 @@
--- Invariant: the answer to the whole is the answer from index x on. Measure: the indices left.
+-- Invariant: the answer to the whole is the answer from index x on.
 -- Assumes nothing.
 use mathlib.Core.Path.{◌≡◌}
-use Prim.Native.Nat.{◌-◌}
 use lib.Dec.{eqb}
 use lib.ListN.{get_or}
 use Rattle.listing.specs.Answers.{on, first_of}
@@ -12,6 +11,3 @@ use Rattle.valid_diamond.proofs.dyadic.check_once.Given as goal
 abbrev pub invariant-loop-x : goal.invariant-loop-x
 invariant-loop-x l = let f = lone l.of.rank l.of.index in
     lone_in f l.tally l.n ≡ first_of (λ y. on (eqb (get_or l.tally y 0) 1) (f y)) l.x l.n
-
-abbrev pub decreases-loop-x : goal.decreases-loop-x
-decreases-loop-x l = l.n - l.x

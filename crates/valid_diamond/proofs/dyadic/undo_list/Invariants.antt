@@ -1,17 +1,11 @@
--- Invariant: k is at most the length of the list; setting back the whole list in the tally of the start gives the same
--- as setting back its first k indices in the tally at hand; and `left` counts of that are not 0. Measure: k.
+-- Invariant: the tally at hand is that of the start, with the counts of the indices so far set back; and `left` of its
+-- counts are not 0.
 -- Assumes nothing.
 use mathlib.Core.Path.{◌≡◌}
-use Prim.Native.Nat.{◌≤◌}
-use lib.ListN.{length, take}
 use Rattle.listing.specs.Listing.{limits}
 use Rattle.valid_diamond.specs.Tally.{MetIn, undone}
+use Rattle.valid_diamond.proofs.Undoing.{taken}
 use Rattle.valid_diamond.proofs.dyadic.undo_list.Given as goal
 
-abbrev pub invariant-loop-k : goal.invariant-loop-k
-invariant-loop-k l = (l.k ≤ length l.subs)
-    × (undone l.subs l.initial.tally ≡ undone (take l.k l.subs) l.tally)
-    × MetIn limits.elements l.tally l.left
-
-abbrev pub decreases-loop-k : goal.decreases-loop-k
-decreases-loop-k l = l.k
+abbrev pub invariant-loop-sub_sub : goal.invariant-loop-sub_sub
+invariant-loop-sub_sub l = (l.tally ≡ undone (taken l.yielded) l.initial.tally) × MetIn limits.elements l.tally l.left
