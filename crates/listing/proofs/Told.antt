@@ -1,8 +1,8 @@
 -- Laws of what a result answers, for `?`: each conclusion is what a function has to show where it returns or goes on,
 -- and the premises are what it knows there.
 --
--- `then` is for steps one after another, `in` for a walk along a list, `of` for one along numbers. -err is the return
--- of a refusal by `?`, -ok the next step, -end the end of a walk.
+-- `then` is for steps one after another, `in` for a walk along a list, `of` for one along numbers. -ok is the next step,
+-- -halt a refusal on the way, -done and -over the end of a walk; told_err is the return of a refusal by `?`.
 use mathlib.Core.Path.{◌≡◌, refl, sym, ◌∙◌}
 use mathlib.Core.List.{List}
 use Prim.Native.Nat.{ℕ, ◌+◌, ◌≤◌, ◌<◌}
@@ -12,6 +12,7 @@ use Rattle.std.proofs.Common.{Result}
 use Rattle.std.specs.Result.{IsErrAnd}
 use Rattle.std.proofs.lemmas.Result.{err_from_is_err_and}
 use Rattle.listing.specs.declared.Answer.{Answer}
+use Rattle.listing.specs.declared.Side.{Side}
 use Rattle.listing.specs.declared.Side.TheVariants.{Subs, Sups}
 use Rattle.listing.specs.declared.Refusal.{Refusal}
 use Rattle.listing.specs.declared.Refusal.TheVariants.{NoRanks, OverRanks, OverElements, WrongEnds, OverIncidences}
@@ -22,7 +23,7 @@ use Rattle.listing.specs.declared.Refusal.TheVariants.{ProductRanks, ProductElem
 use Rattle.listing.specs.declared.Refusal.TheVariants.{WrongKey, BadLine, LongText, MoreBytes, BytesShort}
 use Rattle.listing.specs.declared.Refusal.TheVariants.{NotRankFour, NotOrientable, WrongCoordinates, NotInMetres}
 use Rattle.listing.specs.Answers.{fine, ◌or_else◌, first_in, first_of}
-use Rattle.listing.specs.Told.{answer_of, told}
+use Rattle.listing.specs.Told.{side_no, bare_no, not_back_no, missing_no, answer_of, told}
 use Rattle.listing.proofs.Answers.{no_of, stops, or_fine, or_stop, in_next, in_stop, in_end, of_next, of_stop, of_end}
 
 -- each refusal has a number
@@ -64,6 +65,22 @@ refuses NotOrientable e = absurd (omega arith)
 refuses WrongCoordinates e = absurd (omega arith)
 refuses NotInMetres e = absurd (omega arith)
 
+pub side_two : (s : Side) → side_no s < 2
+side_two Subs = omega arith
+side_two Sups = omega arith
+
+pub bare_some : (s : Side) → 0 < bare_no s
+bare_some Subs = omega arith
+bare_some Sups = omega arith
+
+pub not_back_some : (s : Side) → 0 < not_back_no s
+not_back_some Subs = omega arith
+not_back_some Sups = omega arith
+
+pub missing_some : (s : Side) → 0 < missing_no s
+missing_some Subs = omega arith
+missing_some Sups = omega arith
+
 -- a refusal that equals an answer makes that refuse
 pub halts : (d : Refusal) {S : Answer} → answer_of d ≡ S → S.no ≡ 0 → ⊥
 halts d e = stops e (refuses d)
@@ -81,9 +98,6 @@ module _ {S : Answer} (B : Answer) where
   pub then_halt : (d : Refusal) → answer_of d ≡ S → answer_of d ≡ S or_else B
   then_halt d e = e ∙ sym (or_stop S B (halts d e))
 
-  pub then_err : {A : Type 0} (r : Result A Refusal) (d : Refusal) → IsErrAnd r (λ x. x ≡ d) → answer_of d ≡ S
-      → told r ≡ S or_else B
-  then_err r d h e = told_err r d h ∙ then_halt d e
 
 -- ---- along a list
 
@@ -94,9 +108,6 @@ module _ (W : Answer) (f : ℕ → Answer) (l : List ℕ) (k : ℕ) (e : W ≡ f
   pub in_halt : k < length l → (d : Refusal) → answer_of d ≡ f (get_or l k 0) → answer_of d ≡ W
   in_halt h d z = z ∙ sym (in_stop W f l k e h (halts d z))
 
-  pub in_err : {A : Type 0} (r : Result A Refusal) (d : Refusal) → IsErrAnd r (λ x. x ≡ d) → k < length l
-      → answer_of d ≡ f (get_or l k 0) → told r ≡ W
-  in_err r d i h z = told_err r d i ∙ in_halt h d z
 
   pub in_done : length l ≤ k → fine ≡ W
   in_done h = sym (in_end W f l k e h)
@@ -110,9 +121,14 @@ module _ (W : Answer) (f : ℕ → Answer) (i n : ℕ) (e : W ≡ first_of f i n
   pub of_halt : i < n → (d : Refusal) → answer_of d ≡ f i → answer_of d ≡ W
   of_halt h d z = z ∙ sym (of_stop W f i n e h (halts d z))
 
-  pub of_err : {A : Type 0} (r : Result A Refusal) (d : Refusal) → IsErrAnd r (λ x. x ≡ d) → i < n
-      → answer_of d ≡ f i → told r ≡ W
-  of_err r d k h z = told_err r d k ∙ of_halt h d z
 
   pub of_over : n ≤ i → fine ≡ W
   of_over h = sym (of_end W f i n e h)
+
+-- ---- for `using`: steps, a walk along a list, a walk along numbers
+
+pub ruleset steps = (told_err, then_ok, then_halt)
+
+pub ruleset along = (told_err, in_ok, in_halt, in_done)
+
+pub ruleset among = (told_err, of_ok, of_halt, of_over)

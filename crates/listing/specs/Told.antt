@@ -1,6 +1,7 @@
 -- What a result answers, as callers that have no enum read it: a number and four fields.
 --
 -- side_no       a side as a number: 0 subs, 1 sups
+-- other_side    subs for sups, and sups for subs
 -- bare_no, not_back_no, missing_no   the numbers of a refusal that has a side
 -- of_element    a refusal that names an element, and two numbers more
 -- answer_of     the answer of a refusal
@@ -35,6 +36,10 @@ use Rattle.listing.specs.Answers.{refusal, plain, fine}
 abbrev pub side_no : Side → ℕ
 side_no Subs = 0
 side_no Sups = 1
+
+abbrev pub other_side : Side → Side
+other_side Subs = Sups
+other_side Sups = Subs
 
 abbrev pub bare_no : Side → ℕ
 bare_no Subs = no_subs

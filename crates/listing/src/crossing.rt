@@ -1,9 +1,21 @@
 // What crosses to callers that have no enum: refusals as numbers, each with the fields that it carries.
 ghost use Rattle.std.specs.Prelude.{◌≡◌};
 ghost use Rattle.listing.specs.Answers.{plain, fine};
-ghost use Rattle.listing.specs.Told.{side_no, bare_no, not_back_no, missing_no, of_element, answer_of, told, told_number, told_built};
+ghost use Rattle.listing.specs.Told.{side_no, other_side, bare_no, not_back_no, missing_no, of_element, answer_of, told, told_number, told_built};
 
 use crate::{Answer, Built, Element, Index, Lengths, Number, Refusal, Side, numbers};
+
+impl Side {
+    // Subs for sups, and sups for subs.
+    pub fn other(self) -> Side
+        ensures { result ≡ other_side self }
+    {
+        match self {
+            Side::Subs => Side::Sups,
+            Side::Sups => Side::Subs,
+        }
+    }
+}
 
 // A side as a number: 0 subs, 1 sups.
 impl From<Side> for Index {

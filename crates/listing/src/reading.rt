@@ -65,3 +65,22 @@ impl<'a> Slices<'a> {
         self.list_of(2 * (p + usize::from(x)) + usize::from(Index::from(side)))
     }
 }
+
+impl<'a> Cell<'a> {
+    // The kth list.
+    pub fn list_of(self, k: usize) -> &'a [Index]
+        requires { k < length self.slices.ends.now }
+        ensures { result.now ≡ entries self.entry.slices.ends.now self.entry.slices.inc.now k }
+    {
+        self.slices.list_of(k)
+    }
+
+    // The list at a side of the element x places after the place p.
+    pub fn side_of(self, p: usize, x: Index, side: Side) -> &'a [Index]
+        requires { 2 * (p + x) + side_no side < length self.slices.ends.now }
+        ensures { result.now ≡ entries self.entry.slices.ends.now self.entry.slices.inc.now
+            (2 * (p + x) + side_no side) }
+    {
+        self.slices.side_of(p, x, side)
+    }
+}

@@ -2,7 +2,7 @@
 ghost use Rattle.std.specs.Prelude.{◌≡◌, true};
 ghost use Rattle.order.specs.Lists.{has, Ascending};
 
-use listing::{Index, inner};
+use listing::Index;
 
 // The longest list that is looked through from its start at once.
 const SHORT: usize = 8;
@@ -11,7 +11,7 @@ const SHORT: usize = 8;
 fn stands_at_own_place(list: &[Index], x: Index) -> bool
     ensures { result ≡ true → has list.now x ≡ true }
 {
-    let at = inner::wide(x);
+    let at = usize::from(x);
     if list.len() <= at {
         return false;
     }
@@ -44,12 +44,10 @@ fn found_by_halving(list: &[Index], x: Index) -> bool
 fn found_by_scanning(list: &[Index], x: Index) -> bool
     ensures { result ≡ has list.now x }
 {
-    let mut j: usize = 0;
-    while j < list.len() {
-        if list[j] == x {
+    for &y in list {
+        if y == x {
             return true;
         }
-        j += 1;
     }
     false
 }

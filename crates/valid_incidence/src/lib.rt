@@ -1,4 +1,19 @@
 // Whether subs and sups match up: each index that an element lists names an element that is there and lists it back.
 #![tactic(auto)]
 
+ghost use Rattle.std.specs.Prelude.{◌≡◌};
+ghost use Rattle.listing.specs.Listing.{held, limits};
+ghost use Rattle.listing.specs.Shape.{Shaped};
+ghost use Rattle.valid_incidence.specs.Incidence.{incidences_test};
+
 pub mod incidence;
+
+use listing::Slices;
+
+// A listing whose subs and sups match up.
+#[derive(Clone, Copy)]
+pub struct MatchedCell<'a> {
+    pub slices: Slices<'a>,
+    ghost shaped: { Shaped limits (held slices) },
+    ghost matched: { (incidences_test (held slices)).no ≡ 0 },
+}
