@@ -5,15 +5,15 @@ use mathlib.Core.Path.{◌≡◌, sym, ap, ◌∙◌}
 use mathlib.Core.List.{List, [], ◌∷◌}
 use Prim.Native.Nat.{ℕ, ◌+◌, ◌-◌, ◌*◌, ◌≤◌, ◌<◌}
 use native.Mathlib.Omega.{arith}
-use lib.ListN.{length, get_or}
+use lib.ListN.{get_or}
 use Rattle.listing.specs.declared.Answer.{Answer}
 use Rattle.listing.specs.Answers.{fine}
-use Rattle.listing.specs.Listing.{Listing, Limits, Ends, listing, limits, count, before, entries}
+use Rattle.listing.specs.Listing.{Listing, Limits, count, before, entries}
 use Rattle.listing.specs.Shape.{Shaped}
-use Rattle.listing.proofs.Listing.{rank_there, before_step}
-use Rattle.listing.proofs.ShapeExact.{shaped_ends}
-use Rattle.listing.proofs.Places.{side_fits, side_at, few_before, few_in_rank}
+use Rattle.listing.proofs.Listing.{before_step}
+use Rattle.listing.proofs.Places.{side_at, few_in_rank}
 use Rattle.valid_incidence.specs.Incidence.{Incident}
+use Rattle.valid_incidence.proofs.Places.{places}
 use Rattle.valid_diamond.specs.Dyadic.{subs_of_all, walk, third, lone, sections_test}
 use Rattle.valid_diamond.specs.Tally.{Tallied, lone_in, Walkable}
 use Rattle.valid_diamond.proofs.Walks.{walk_same, walkable, lone_same, sections_stop, sections_go}
@@ -21,31 +21,14 @@ use Rattle.valid_diamond.proofs.OneTwice.{pair_passes}
 
 -- ---- where the element is
 
--- a rank that has an element is there
-pub rank_in : (counts : List ℕ) (r i : ℕ) → i < get_or counts r 0 → r < length counts
-rank_in counts r i h = rank_there (listing counts [] []) r i h
-
--- q is its rank, and n is how many elements the rank below has
+-- r is its rank, and so is q; n is how many elements the rank below has
 pub here_is : (counts : List ℕ) (r q b n : ℕ) → b ≡ before counts (r - 1) → 2 ≤ r → q ≡ r
     → n ≡ get_or counts (q - 1) 0 → b + n ≡ before counts r
 here_is counts r q b n p low e d =
     let f = d ∙ ap (λ (k : ℕ). get_or counts (k - 1) 0) e in
     omega (arith, before_step counts r (omega arith))
 
-module _ (counts ends inc : List ℕ) (S : Shaped limits (listing counts ends inc)) (r : ℕ) where
-  pub few_here : before counts r ≤ limits.elements
-  few_here = few_before (listing counts ends inc) S r
-
-  pub few_in : get_or counts r 0 ≤ limits.elements
-  few_in = few_in_rank (listing counts ends inc) S r
-
-  pub ends_are : Ends ends inc
-  ends_are = shaped_ends (listing counts ends inc) S
-
-  pub subs_there : (here i : ℕ) → here ≡ before counts r → i < get_or counts r 0 → 2 * (here + i) + 0 < length ends
-  subs_there here i e h = rw e (side_fits (listing counts ends inc) S r i 0 h (omega arith))
-
-pub ruleset places = (rank_in, here_is, few_here, few_in, ends_are)
+pub ruleset sections = (places, here_is)
 
 -- ---- what is under it
 

@@ -228,7 +228,7 @@ fn meets_one_twice(ends: &[Index], inc: &[Index], b: usize, subs: &[Index]) -> b
 
 // The sections under an element. The tally comes in as that of nothing, and is so again where they pass. The rank below
 // begins at place b.
-#[tactic(auto, using(crate::proofs::Sections::places))]
+#[tactic(auto, using(crate::proofs::Sections::sections))]
 fn check_sections(
     tally: &mut [u8; limit::ELEMENTS],
     counts: &[Index],

@@ -1,3 +1,4 @@
+pub mod Places
 pub mod Ways
 pub mod Turns
 pub mod Entries

@@ -81,7 +81,7 @@ fn check_list(ends: &[Index], inc: &[Index], way: Way, of: Element, list: &[Inde
     ensures { result ≡ list_test ends.now inc.now way of.rank of.index
         list.now }
 {
-    if way.asked && list.len() == 0 {
+    if way.asked && list.is_empty() {
         return Answer {
             no: way.none,
             a: of.rank,
@@ -140,6 +140,7 @@ fn way_up(counts: &[Index], here: usize, r: usize) -> Way
 }
 
 // Element i of rank r, which begins at place here: its subs, then its sups.
+#[tactic(auto, using(crate::proofs::Places::places))]
 fn check_element(
     counts: &[Index],
     ends: &[Index],

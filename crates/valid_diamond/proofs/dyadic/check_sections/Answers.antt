@@ -1,8 +1,10 @@
 -- The lists that are walked are the element's subs and theirs. A walk that meets one index twice passes; else the
 -- answer is that of the walk's tally.
 -- Assumes nothing.
+use native.Mathlib.Omega.{arith}
 use Rattle.listing.specs.Listing.{Listing, listing, limits}
-use Rattle.valid_diamond.proofs.Sections.{here_is, subs_there, Under, under, pair_answer, third_answer, lone_answer}
+use Rattle.valid_incidence.proofs.Places.{side_there}
+use Rattle.valid_diamond.proofs.Sections.{here_is, Under, under, pair_answer, third_answer, lone_answer}
 use Rattle.valid_diamond.proofs.dyadic.check_sections.Goals.{After-side_of-subs}
 use Rattle.valid_diamond.proofs.dyadic.check_sections.Goals as goal
 
@@ -21,7 +23,8 @@ side_of-subs-requires-clause-s_in_bounds c =
     let a = c.args in
     let below = c.requires.b_value in
     let here = here_is a.counts.now _ _ _ _ below.0 below.1 c.wide-r.ensures.0 c.wide.ensures.0 in
-    subs_there a.counts.now a.ends.now a.inc.now c.requires.shaped _ _ _ here c.requires.index_bound.0
+    let there = side_there a.counts.now a.ends.now a.inc.now c.requires.shaped _ _ _ 0 here in
+    there c.requires.index_bound.0 (omega arith)
 
 pub meets_one_twice-requires-clause-walkable : goal.meets_one_twice-requires-clause-walkable
 meets_one_twice-requires-clause-walkable c =
