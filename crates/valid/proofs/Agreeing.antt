@@ -192,7 +192,9 @@ entries_run ends inc good k h l e at =
     let a = start ends k in
     ext_get_or 0 (entries ends inc k) l (omega (arith, n))
     (λ i b.
-    get_or-take (get_or ends k 0 - a) (drop a inc) i 0 (omega (arith, n)) ∙ get_or-drop a inc i 0 ∙ at i (omega (arith, n)))
+    get_or-take (get_or ends k 0 - a) (drop a inc) i 0 (omega (arith, n))
+    ∙ get_or-drop a inc i 0
+    ∙ at i (omega (arith, n)))
 
 module _ (L : Listing) (S : Shaped limits L) where
   -- there are cursors and ends for a rank

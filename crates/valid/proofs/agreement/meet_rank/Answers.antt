@@ -19,4 +19,5 @@ loop-x-preserved c =
     let m = c.meet_list.ensures in
     let t = c.if-not-meet_list.false in
     let some : 0 < length c.side_of-subs.result.now = grind (arith, nat_tests) in
-    (all_below_next _ f _ _ e l.invariant.0 some (m.ascends_below t), met_all_next _ f _ _ e _ _ _ _ l.invariant.1 (m.met t))
+    let below = all_below_next _ f _ _ e l.invariant.0 some (m.ascends_below t) in
+    (below, met_all_next _ f _ _ e _ _ _ _ l.invariant.1 (m.met t))
