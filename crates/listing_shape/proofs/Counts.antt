@@ -1,7 +1,9 @@
 -- The four counts: refused for no ranks, which is the one rule that they have, and else the number asked for; the
 -- facets where the rank less one wraps.
 -- Assumes nothing.
-use Rattle.std.proofs.Common.{◌≡◌, ℕ, ◌+◌, ◌-◌, ◌%◌, ◌^◌, ◌<◌, Bool, true, false, cond, eqb, leb, List, [], ◌∷◌, length, get_or, sym, refl, ap, ◌∙◌, inl, inr, arith, eq-eqb, ne_eqb, eqb-true, leb-false, leb-true}
+use Rattle.std.proofs.Common.{◌≡◌, ℕ, ◌+◌, ◌-◌, ◌%◌, ◌^◌, ◌<◌, Bool, true, false, cond, eqb, leb, List, []}
+use Rattle.std.proofs.Common.{◌∷◌, length, get_or, sym, refl, ap, ◌∙◌, inl, inr, arith, eq-eqb}
+use Rattle.std.proofs.Common.{ne_eqb, eqb-true, leb-false, leb-true}
 use borrow.Author.Tests.{eqb-false}
 use lib.ListN.{get_or-eq_default}
 use Rattle.listing.specs.declared.Number.{Number}
@@ -17,6 +19,9 @@ module _ (counts : List ℕ) (n : ℕ) where
   pub counted_some : (length counts ≡ 0 → ⊥) → counted counts n ≡ record { no = 0; value = n }
   unfolding counted
   counted_some h = rw (ne_eqb _ _ h)
+
+-- both laws
+pub ruleset counts = (counted_none, counted_some)
 
 pub counted_broken : (counts : List ℕ) (n : ℕ) → FirstBroken (count_rules counts) (counted counts n).no
 unfolding counted FirstBroken

@@ -24,6 +24,7 @@ pub fn class(no: u16) -> Band
 }
 
 // A class as a number, for callers that have no enum.
+#[tactic(auto, unfolding(listing::specs::Refusals::band_no))]
 pub fn band_number(b: Band) -> u16
     ensures { result ≡ band_no b }
 {
@@ -37,10 +38,11 @@ pub fn band_number(b: Band) -> u16
 }
 
 // The rank: one less than the number of ranks.
+#[tactic(auto, using(crate::proofs::Counts::counts), unfolding(crate::specs::Counts::rank_of))]
 pub fn rank(counts: &[Index]) -> Number
     ensures { result ≡ rank_of counts.now }
 {
-    if counts.len() == 0 {
+    if counts.is_empty() {
         return Number {
             no: refusal::NO_RANKS,
             value: 0,
@@ -53,10 +55,11 @@ pub fn rank(counts: &[Index]) -> Number
 }
 
 // The number of elements of a rank: 0 for a rank that is not there.
+#[tactic(auto, using(crate::proofs::Counts::counts), unfolding(crate::specs::Counts::el_count_of))]
 pub fn el_count(counts: &[Index], rank: usize) -> Number
     ensures { result ≡ el_count_of counts.now rank }
 {
-    if counts.len() == 0 {
+    if counts.is_empty() {
         return Number {
             no: refusal::NO_RANKS,
             value: 0,
@@ -69,6 +72,7 @@ pub fn el_count(counts: &[Index], rank: usize) -> Number
 }
 
 // The number of elements of rank 1.
+#[tactic(auto, unfolding(crate::specs::Counts::vertex_count_of))]
 pub fn vertex_count(counts: &[Index]) -> Number
     ensures { result ≡ vertex_count_of counts.now }
 {
@@ -89,23 +93,21 @@ fn fills(ends: &[Index], n: usize) -> bool
     ensures { result ≡ fills_to 0 ends.now n }
 {
     let mut from: Index = 0;
-    let mut k: usize = 0;
-    while k < ends.len() {
-        let x = ends[k];
+    for &x in ends {
         if x < from {
             return false;
         }
         from = x;
-        k += 1;
     }
     inner::wide(from) == n
 }
 
 // The shape tests in their order, 1 to 6.
+#[tactic(auto, using(crate::proofs::Shapes::shapes))]
 pub fn shape(counts: &[Index], ends: &[Index], inc: &[Index]) -> Answer
     ensures { result ≡ shape_test limits (held counts.entry ends.entry inc.entry) }
 {
-    if counts.len() == 0 {
+    if counts.is_empty() {
         return inner::plain(refusal::NO_RANKS);
     }
     if limit::RANKS < counts.len() {
