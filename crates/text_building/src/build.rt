@@ -43,7 +43,7 @@ fn put_element(
         ends.old inc.old ends.new inc.new result }
 {
     let k = inner::wide(many[e]);
-    copy(subs, p.from, k, &mut *inc, p.to);
+    copy(subs, p.from, k, inc, p.to);
     let end = p.to + k;
     let to = end + inner::wide(up[e]);
     ends[2 * e] = end as Index;
@@ -72,7 +72,7 @@ fn put_elements(
 {
     let mut p = FromTo { from: 0, to: 0 };
     for e in 0..n {
-        p = put_element(many, subs, up, &mut *ends, &mut *inc, e, p);
+        p = put_element(many, subs, up, ends, inc, e, p);
     }
 }
 
@@ -98,7 +98,7 @@ pub fn build(
         → StandsOver (written M (derived M)) (listing counts.old ends.old inc.old)
         (listing counts.new ends.new inc.new) }
 {
-    copy(noted, 0, ranks, &mut *counts, 0);
-    put_elements(many, subs, up, n, &mut *ends, &mut *inc);
-    sups::fill(&counts[..ranks], &ends[..2 * n], &mut *inc);
+    copy(noted, 0, ranks, counts, 0);
+    put_elements(many, subs, up, n, ends, inc);
+    sups::fill(&counts[..ranks], &ends[..2 * n], inc);
 }
