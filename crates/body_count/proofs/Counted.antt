@@ -13,7 +13,7 @@ use Rattle.order.specs.Sums.{sum_over}
 use Rattle.order.proofs.Sums.{sum_over_same}
 use Rattle.listing.specs.Listing.{Listing, limits, rank, count, before, subs}
 use Rattle.listing.specs.Shape.{Shaped}
-use Rattle.listing.proofs.Listing.{before_zero, before_next, before_le}
+use Rattle.listing.proofs.Listing.{before_zero, before_next, before_le, before_on}
 use Rattle.listing.proofs.Places.{few_before}
 use Rattle.valid_incidence.specs.Incidence.{Incident}
 use Rattle.body_theory.specs.InAll.{chains_to, flags_in_all}
@@ -36,6 +36,11 @@ begun_one = get_or-set_same cleared 0 1 0 (omega (arith, length-replicate {A = �
 begun_most : (k : ℕ) → Dec (k ≡ 0) → get_or (set cleared 0 1) k 0 ≤ most
 begun_most k (yes d) = rw (d, begun_one) (omega arith)
 begun_most k (no d) = rw (get_or-set_other {A = ℕ} cleared 0 k 1 0 d) (zeros_most limits.elements k)
+
+-- where a rank begins, from where the one below it begins
+pub rank_begins : (counts : List ℕ) (b n r : ℕ) → (b ≡ before counts (r - 1)) × (0 < r) × (r < length counts)
+    → n ≡ get_or counts (r - 1) 0 → b + n ≡ before counts r
+rank_begins counts b n r p e = before_on counts r b n p.1 p.0 e
 
 module _ (L : Listing) where
   abbrev place : ℕ → ℕ → ℕ
@@ -60,6 +65,18 @@ module _ (L : Listing) where
   pub place_fits : Shaped limits L → (r i : ℕ) → i < count L r → place r i < limits.elements
   place_fits S r i h =
       omega (arith, before_next L.counts r, few_before L S (r + 1))
+
+  -- The same, where the rank is known to begin at b.
+  pub number_inside : Shaped limits L → (r b i : ℕ) {x : ℕ} → b ≡ before L.counts r → i < count L r → x ≡ i
+      → b + x < limits.elements
+  number_inside S r b i e h d = rw (e, d) (place_fits S r i h)
+
+  -- So is that of the maximal element, past all ranks below it.
+  pub last_inside : Shaped limits L → count L (rank L) ≡ 1 → (r b : ℕ) → r ≡ length L.counts
+      → b ≡ before L.counts (r - 1) → b < limits.elements
+  last_inside S e r b p h =
+      let z : before L.counts (r - 1) ≡ before L.counts (rank L) = rw p in
+      omega (arith, h, z, place_fits S (rank L) 0 (omega arith))
 
   -- So is that of a sub of an element, in the rank below, which begins at b.
   pub sub_fits : Shaped limits L → Incident L → (r i b x : ℕ) → b ≡ before L.counts (r - 1) → i < count L r

@@ -20,11 +20,7 @@ fn plus(a: u16, b: u16) -> u16
     requires { (a ≤ most) × (b ≤ most) }
     ensures { result ≡ capped (a + b) }
 {
-    let n = a + b;
-    if MOST < n {
-        return MOST;
-    }
-    n
+    (a + b).min(MOST)
 }
 
 // The numbers of the elements in a list added up, at most MOST. Their rank begins at place b.
@@ -33,13 +29,11 @@ fn sum_of(numbers: &[u16; limit::ELEMENTS], b: usize, list: &[Index]) -> u16
     requires capped { Capped numbers.now }
     ensures { result ≡ capped (sum_over (number_at numbers.now b) list.now) }
 {
-    let mut n: u16 = 0;
-    let mut j: usize = 0;
-    while j < list.len() {
-        n = plus(n, numbers[b + inner::wide(list[j])]);
-        j += 1;
+    let mut sum: u16 = 0;
+    for &x in list {
+        sum = plus(sum, numbers[b + inner::wide(x)]);
     }
-    n
+    sum
 }
 
 // The numbers of the elements of rank r, from those of the rank below, which begins at place b.
@@ -59,12 +53,9 @@ fn count_rank(
         numbers.new }
 {
     let here = b + inner::wide(counts[r - 1]);
-    let n = counts[r];
-    let mut i: Index = 0;
-    while i < n {
+    for i in 0..counts[r] {
         let subs = inner::side_of(ends, inc, here, i, 0);
         numbers[here + inner::wide(i)] = sum_of(&*numbers, b, subs);
-        i += 1;
     }
 }
 
@@ -77,11 +68,9 @@ pub fn flags_in_all(counts: &[Index], ends: &[Index], inc: &[Index]) -> u16
     // One chain leads to the minimal element.
     numbers[0] = 1;
     let mut b: usize = 0;
-    let mut r: usize = 1;
-    while r < counts.len() {
+    for r in 1..counts.len() {
         count_rank(&mut numbers, counts, ends, inc, b, r);
         b += inner::wide(counts[r - 1]);
-        r += 1;
     }
     // The maximal element stands where its rank begins.
     numbers[b]

@@ -33,3 +33,8 @@ module _ (t : List ℕ) (i : ℕ) (h : i < length t) where
 pub first_none : (t : List ℕ) (i : ℕ) → length t ≤ i → first_of_two (drop i t) ≡ 0
 unfolding first_of_two
 first_none t i h = rw (drop_of_length-le t h)
+
+-- the laws of `ends_text` and of `first_of_two`
+pub ruleset ends = (ends_newline, ends_other)
+
+pub ruleset firsts = (first_stops, first_goes, first_none)

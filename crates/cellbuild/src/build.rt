@@ -1,9 +1,9 @@
 // From two texts to the text of a product. Each step lends what it has on to the next: a function with many arrays is
 // slow to check.
-use crate::kind::Kind;
 use crate::say;
 use listing::{Built, Index, inner, limit, refusal};
 use product::make;
+use product_places::Poles;
 use std::io;
 
 // More bytes than the text of any closed listing has, so that it is the limit that refuses one.
@@ -71,7 +71,7 @@ fn refused(
 // The product of two cells.
 fn product(
     rt: &impl Print,
-    k: Kind,
+    poles: Poles,
     pcounts: &[Index],
     pends: &[Index],
     pinc: &[Index],
@@ -83,8 +83,8 @@ fn product(
     let mut ends: [Index; limit::ENDS] = [0; limit::ENDS];
     let mut inc: [Index; limit::INCIDENCES] = [0; limit::INCIDENCES];
     let b = make::make(
-        k.min,
-        k.max,
+        poles.min,
+        poles.max,
         pcounts,
         pends,
         pinc,
@@ -105,7 +105,7 @@ fn product(
 // The product of a cell, and of what was read of the second text.
 fn with_second(
     rt: &impl Print,
-    k: Kind,
+    poles: Poles,
     pcounts: &[Index],
     pends: &[Index],
     pinc: &[Index],
@@ -116,7 +116,7 @@ fn with_second(
 ) -> io::Result<()> {
     product(
         rt,
-        k,
+        poles,
         pcounts,
         pends,
         pinc,
@@ -129,7 +129,7 @@ fn with_second(
 // The product of a cell, and of the one in the second text.
 fn second(
     rt: &impl Print,
-    k: Kind,
+    poles: Poles,
     pcounts: &[Index],
     pends: &[Index],
     pinc: &[Index],
@@ -142,14 +142,14 @@ fn second(
     if b.answer.no != 0 {
         say::of_text(rt, b" the second text: ", b.answer)
     } else {
-        with_second(rt, k, pcounts, pends, pinc, b, &counts, &ends, &inc)
+        with_second(rt, poles, pcounts, pends, pinc, b, &counts, &ends, &inc)
     }
 }
 
 // The product of what was read of the first text, and of the cell in the second.
 fn with_first(
     rt: &impl Print,
-    k: Kind,
+    poles: Poles,
     b: Built,
     counts: &[Index],
     ends: &[Index],
@@ -158,7 +158,7 @@ fn with_first(
 ) -> io::Result<()> {
     second(
         rt,
-        k,
+        poles,
         inner::front(counts, b.counts as usize),
         inner::front(ends, b.ends as usize),
         inner::front(inc, b.inc as usize),
@@ -167,7 +167,7 @@ fn with_first(
 }
 
 // The product of the cells in two texts.
-pub fn first(rt: &impl Print, k: Kind, said: &[u8], other: &[u8]) -> io::Result<()> {
+pub fn first(rt: &impl Print, poles: Poles, said: &[u8], other: &[u8]) -> io::Result<()> {
     let mut counts: [Index; limit::RANKS] = [0; limit::RANKS];
     let mut ends: [Index; limit::ENDS] = [0; limit::ENDS];
     let mut inc: [Index; limit::INCIDENCES] = [0; limit::INCIDENCES];
@@ -175,6 +175,6 @@ pub fn first(rt: &impl Print, k: Kind, said: &[u8], other: &[u8]) -> io::Result<
     if b.answer.no != 0 {
         say::of_text(rt, b" the first text: ", b.answer)
     } else {
-        with_first(rt, k, b, &counts, &ends, &inc, other)
+        with_first(rt, poles, b, &counts, &ends, &inc, other)
     }
 }

@@ -8,6 +8,7 @@ mod say;
 mod two;
 
 use listing::limit;
+use product_places::Poles;
 use std::env::Env;
 use std::io;
 
@@ -18,25 +19,23 @@ const ROOM: usize = 2 * (limit::TEXT + 1);
 const NAME: usize = 16;
 
 // The two texts, told apart, and the product of their cells.
-fn of_two(rt: &impl Print, k: kind::Kind, both: &[u8]) -> io::Result<()> {
+fn of_two(rt: &impl Print, poles: Poles, both: &[u8]) -> io::Result<()> {
     let at = two::first_of_two(both);
-    build::first(rt, k, &both[0..at], &both[at..])
+    build::first(rt, poles, &both[0..at], &both[at..])
 }
 
 // What standard input has.
-fn of_input(rt: &(impl Input + Print), k: kind::Kind) -> io::Result<()> {
+fn of_input(rt: &(impl Input + Print), poles: Poles) -> io::Result<()> {
     let mut room: [u8; ROOM] = [0; ROOM];
     let n = lent_input::read_full(&mut rt.reader(), &mut room);
-    of_two(rt, k, &room[..n])
+    of_two(rt, poles, &room[..n])
 }
 
 fn main(rt: HostRuntime) -> io::Result<()> {
     let mut name: [u8; NAME] = [0; NAME];
     let n = rt.arg(1, &mut name).unwrap_or(0);
-    let k = kind::named(&name[..n]);
-    if k.known {
-        of_input(&rt, k)
-    } else {
-        say::names(&rt)
+    match kind::named(&name[..n]) {
+        Some(poles) => of_input(&rt, poles),
+        None => say::names(&rt),
     }
 }

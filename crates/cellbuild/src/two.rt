@@ -5,26 +5,23 @@ ghost use Rattle.cellbuild.specs.Two.{ends_text, first_of_two};
 use text_lines::lines;
 
 // Whether the byte at a place ends a text before another: a newline after which one begins.
+#[tactic(auto, using(crate::proofs::Texts::ends))]
 fn ends_text(both: &[u8], i: usize) -> bool
     requires { i < length both.now }
     ensures { result ≡ ends_text (drop i both.now) }
 {
-    if both[i] == b'\n' {
-        return lines::has_key(both, i + 1, b"rank=");
-    }
-    false
+    both[i] == b'\n' && lines::has_key(both, i + 1, b"rank=")
 }
 
 // How many bytes belong to the first text.
+#[tactic(auto, using(crate::proofs::Texts::firsts))]
 pub fn first_of_two(both: &[u8]) -> usize
     ensures { (result ≡ first_of_two both.now) × (result ≤ length both.now) }
 {
-    let mut i: usize = 0;
-    while i < both.len() {
+    for i in 0..both.len() {
         if ends_text(both, i) {
             return i + 1;
         }
-        i += 1;
     }
-    i
+    both.len()
 }

@@ -22,15 +22,24 @@ module _ (ends inc : List ℕ) (here : ℕ) where
   unfolding turned_from
   turned_subs = ap (entries ends inc) (omega arith)
 
-  pub turned_both : sum (lengths (turned_from ends inc here)) 2
+  turned_both : sum (lengths (turned_from ends inc here)) 2
       ≡ length (entries ends inc (2 * here + 1)) + length (entries ends inc (2 * here))
   unfolding sum
   turned_both = omega (arith, ap length turned_sups, ap length turned_subs)
 
-  -- from the ith element on
-  pub turned_later : (i j : ℕ) → turned_from ends inc here (2 * i + j) ≡ turned_from ends inc (here + i) j
+  -- there are as many numbers in them as in the two lists
+  pub turned_sizes : (sups subs : List ℕ) → sups ≡ entries ends inc (2 * here + 1) → subs ≡ entries ends inc (2 * here)
+      → sum (lengths (turned_from ends inc here)) 2 ≡ length sups + length subs
+  turned_sizes sups subs u v = omega (arith, ap length u, ap length v, turned_both)
+
+  -- of the ith element (w is i, widened): the next ones behind those of the elements before it
+  pub turned_later : (i w j : ℕ) → w ≡ i → turned_from ends inc (here + w) j ≡ turned_from ends inc here (2 * i + j)
   unfolding turned_from
-  turned_later i j = ap (entries ends inc) (omega arith)
+  turned_later i w j e = ap (entries ends inc) (omega arith)
+
+-- the lists of the dual
+abbrev pub dual_list : Listing → ℕ → List ℕ
+dual_list L = nth (dual_layers L) (dual_over L)
 
 -- those of rank q of the listing are those of the opposite rank r of the dual
 pub turned_dual : (L : Listing) (r q j : ℕ) → r + q ≡ rank L → j < 2 * count L q

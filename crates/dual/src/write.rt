@@ -25,12 +25,8 @@ fn put_list(list: &[Index], ends: &mut [Index], inc: &mut [Index], p: Place) -> 
     ensures { ListsPut (λ j. list.now) 1 p ends.old inc.old
         ends.new inc.new result }
 {
-    let mut j: usize = 0;
-    while j < list.len() {
-        inc[p.inc + j] = list[j];
-        j += 1;
-    }
     let end = p.inc + list.len();
+    inc[p.inc..end].copy_from_slice(list);
     let at = p.ends;
     ends[at] = end as Index;
     Place {
@@ -79,11 +75,9 @@ fn put_rank(
         ends.old inc.old ends.new inc.new result }
 {
     let mut q = p;
-    let mut left = n;
-    while 0 < left {
-        let at = here + inner::wide(n - left);
+    for k in 0..n {
+        let at = here + inner::wide(k);
         q = put_element(pends, pinc, at, &mut *ends, &mut *inc, q);
-        left -= 1;
     }
     q
 }
@@ -105,11 +99,9 @@ pub fn put_lists(
 {
     let mut p = Place { ends: 0, inc: 0 };
     let mut here = pends.len() / 2;
-    let mut r = pcounts.len();
-    while 0 < r {
-        r -= 1;
-        here -= inner::wide(pcounts[r]);
-        p = put_rank(pends, pinc, here, pcounts[r], &mut *ends, &mut *inc, p);
+    for &n in pcounts.iter().rev() {
+        here -= inner::wide(n);
+        p = put_rank(pends, pinc, here, n, &mut *ends, &mut *inc, p);
     }
 }
 
@@ -118,9 +110,7 @@ pub fn put_counts(pcounts: &[Index], counts: &mut [Index])
     requires { length pcounts.now ≤ length counts.old }
     ensures { counts.new ≡ over (reversed pcounts.now) counts.old }
 {
-    let mut r: usize = 0;
-    while r < pcounts.len() {
-        counts[r] = pcounts[pcounts.len() - 1 - r];
-        r += 1;
+    for (place, &n) in pcounts.iter().rev().enumerate() {
+        counts[place] = n;
     }
 }

@@ -1,14 +1,15 @@
 -- The numbers that two lists share, and the first of them that is not a given one: found along one of them.
 -- Assumes nothing.
 use mathlib.Core.Path.{◌≡◌, refl, ap, ◌∙◌}
-use mathlib.Core.Bool.{Bool, true, false}
+use mathlib.Core.Bool.{Bool, true, false, not, ◌&&◌}
 use mathlib.Core.List.{List, [], ◌∷◌}
 use mathlib.Core.Logic.{◌↔◌, ◌⊎◌, inl, inr}
-use Prim.Native.Nat.{ℕ, ◌+◌, ◌≤◌, ◌<◌}
-use native.Mathlib.Numerals.{add-one}
+use Prim.Native.Nat.{ℕ}
 use borrow.Author.Tests.{eq-eqb, ne_eqb}
-use lib.ListN.{length, get_or, drop, drop_of_length-le}
-use lib.Seq.{drop-cons}
+use lib.Dec.{eqb}
+use Rattle.std.specs.List.{find}
+use Rattle.std.proofs.Common.{Option, None, Some}
+use Rattle.std.specs.Option.{option_map, unwrap_or}
 use Rattle.order.specs.Lists.{In, has, Ascending}
 use Rattle.order.proofs.Lists.{has_yes, has_no, ascending_same}
 use Rattle.flag_change.specs.Change.{common, other}
@@ -81,31 +82,21 @@ module _ (e x : ℕ) (l : List ℕ) where
 
 -- ---- along a list
 
-module _ (e : ℕ) (l m : List ℕ) (i : ℕ) where
-  -- the first that is left from place i on
-  abbrev pub left : ℕ
-  left = other e (common (drop i l) m)
+-- the first that another list holds too and that is not e, looked for in the list itself
+found_along : (e : ℕ) (l m : List ℕ) → unwrap_or (find (λ x. not (eqb x e) && has m x) l) 0 ≡ other e (common l m)
+unfolding other common
+found_along e [] m = refl
+found_along e (x ∷ l) m = go (found_along e l m) (has m x) refl (eqb x e) refl
+  where
+    go : unwrap_or (find (λ x. not (eqb x e) && has m x) l) 0 ≡ other e (common l m)
+        → (b : Bool) → has m x ≡ b → (d : Bool) → eqb x e ≡ d
+        → unwrap_or (find (λ x. not (eqb x e) && has m x) (x ∷ l)) 0 ≡ other e (common (x ∷ l) m)
+    go ih true k true h = rw (k, h) ih
+    go ih true k false h = rw (k, h)
+    go ih false k true h = rw (k, h) ih
+    go ih false k false h = rw (k, h) ih
 
-  module _ (h : i < length l) where
-    at_i : drop i l ≡ get_or l i 0 ∷ drop (i + 1) l
-    at_i = rw add-one (drop-cons l i 0 h)
-
-    shared : has m (get_or l i 0) ≡ true → common (drop i l) m ≡ get_or l i 0 ∷ common (drop (i + 1) l) m
-    shared k = rw at_i (common_take (get_or l i 0) (drop (i + 1) l) m k)
-
-    pub lacked_next : has m (get_or l i 0) ≡ false → left ≡ other e (common (drop (i + 1) l) m)
-    lacked_next k = ap (other e) (rw at_i (common_pass (get_or l i 0) (drop (i + 1) l) m k))
-
-    pub same_next : get_or l i 0 ≡ e → left ≡ other e (common (drop (i + 1) l) m)
-    same_next z = go (has m (get_or l i 0)) refl
-      where
-        go : (b : Bool) → has m (get_or l i 0) ≡ b → left ≡ other e (common (drop (i + 1) l) m)
-        go true k = ap (other e) (shared k) ∙ other_same e _ _ z
-        go false k = lacked_next k
-
-    pub held_found : has m (get_or l i 0) ≡ true → (get_or l i 0 ≡ e → ⊥) → left ≡ get_or l i 0
-    held_found k z = ap (other e) (shared k) ∙ other_found e _ _ z
-
-  pub none_left : length l ≤ i → left ≡ 0
-  unfolding other common
-  none_left h = rw (drop_of_length-le l h)
+pub found_is : (e : ℕ) (l m : List ℕ) (r : Option ℕ)
+    → option_map (λ x. x) r ≡ find (λ x. not (eqb x e) && has m x) l → unwrap_or r 0 ≡ other e (common l m)
+found_is e l m None h = ap (λ o. unwrap_or o 0) h ∙ found_along e l m
+found_is e l m (Some x) h = ap (λ o. unwrap_or o 0) h ∙ found_along e l m

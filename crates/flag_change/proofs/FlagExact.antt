@@ -83,3 +83,6 @@ module _ (L : Listing) (f : List ℕ) where
   -- The flag test is true exactly for the flags of the listing.
   pub flag_exact : flag_test L f ≡ true ↔ IsFlag L f
   flag_exact = (is_flag_by, flag_by)
+
+-- what the test answers at one rank, and on the way along the ranks
+pub ruleset flag_answers = (missing_at, lowest_at, higher_at, other_length, same_length)

@@ -19,6 +19,7 @@ pub struct Replaced {
 }
 
 // Whether an index that exists stands in the flag at rank r, which begins at place here, and over what stands below it.
+#[tactic(auto, using(crate::proofs::FlagExact::flag_answers))]
 fn stands_at(
     counts: &[Index],
     ends: &[Index],
@@ -44,6 +45,7 @@ fn stands_at(
 }
 
 // Whether the numbers are a flag: one existing index per rank, each a sub of the next.
+#[tactic(auto, using(crate::proofs::FlagExact::flag_answers))]
 pub fn is_flag(counts: &[Index], ends: &[Index], inc: &[Index], flag: &[Index]) -> bool
     requires { Shaped limits (held counts ends inc) }
     ensures { result ≡ flag_test (held counts.entry ends.entry inc.entry)
@@ -53,18 +55,17 @@ pub fn is_flag(counts: &[Index], ends: &[Index], inc: &[Index], flag: &[Index]) 
         return false;
     }
     let mut here: usize = 0;
-    let mut r: usize = 0;
-    while r < counts.len() {
+    for (r, &size) in counts.iter().enumerate() {
         if !stands_at(counts, ends, inc, flag, here, r) {
             return false;
         }
-        here += inner::wide(counts[r]);
-        r += 1;
+        here += inner::wide(size);
     }
     true
 }
 
 // What a change or a search asks before all else: the closed test, and that the numbers are a flag.
+#[tactic(auto, using(crate::proofs::StartExact::start_answers))]
 pub fn check_flag(counts: &[Index], ends: &[Index], inc: &[Index], flag: &[Index]) -> Answer
     ensures { result ≡ start_test limits (held counts.entry ends.entry inc.entry)
         flag.now }
@@ -80,22 +81,16 @@ pub fn check_flag(counts: &[Index], ends: &[Index], inc: &[Index], flag: &[Index
 }
 
 // The first number of one list that another, ascending one holds too and that is not e; 0 where there is none.
+
 fn other_among(short: &[Index], long: &[Index], e: Index) -> Index
     requires { Ascending long.now }
     ensures { result ≡ other e (common short.now long.now) }
 {
-    let mut i: usize = 0;
-    while i < short.len() {
-        let x = short[i];
-        if x == e {
-            i += 1;
-        } else if members::ascending_contains(long, x) {
-            return x;
-        } else {
-            i += 1;
-        }
-    }
-    0
+    short
+        .iter()
+        .copied()
+        .find(|&x| x != e && members::ascending_contains(long, x))
+        .unwrap_or(0)
 }
 
 // The first number that two ascending lists share and that is not e; 0 where there is none. The shorter list is walked:
@@ -142,10 +137,6 @@ pub fn pad(flag: &[Index]) -> [Index; limit::RANKS]
     ensures { result ≡ padded flag.now }
 {
     let mut a: [Index; limit::RANKS] = [0; limit::RANKS];
-    let mut k: usize = 0;
-    while k < flag.len() {
-        a[k] = flag[k];
-        k += 1;
-    }
+    a[..flag.len()].copy_from_slice(flag);
     a
 }

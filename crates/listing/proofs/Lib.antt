@@ -3,6 +3,7 @@ pub mod Told
 pub mod Listing
 pub mod Elements
 pub mod Places
+pub mod InCell
 pub mod Entries
 pub mod ShapeExact
 pub mod Sequences

@@ -12,19 +12,11 @@ use Rattle.order.specs.Sums.{sum}
 use Rattle.order.proofs.Sums.{sum_none}
 use Rattle.listing.specs.Listing.{Listing, count, before, start, subs_at}
 use Rattle.listing.specs.Layers.{derived}
-use Rattle.listing.proofs.Listing.{before_next, before_all, before_le, some_rank}
+use Rattle.listing.proofs.Listing.{before_next, before_le, some_rank}
 use Rattle.listing.proofs.Layers.{derived_length}
 use Rattle.listing_sups.specs.Sups.{layers_from, UpCounts, Raised}
 
--- where the elements of the next rank begin, and of the one after it, by the numbers of elements n and m
-pub next_ranks : (counts : List ℕ) (r from n m : ℕ) → from ≡ before counts r → n ≡ get_or counts r 0
-    → m ≡ get_or counts (r + 1) 0
-    → (from + n ≡ before counts (r + 1)) × (from + n + m ≡ before counts (r + 1 + 1))
-    × (before counts (r + 1 + 1) ≤ before counts (length counts))
-next_ranks counts r from n m ef en em =
-    omega (arith, before_next counts r, before_next counts (r + 1), before_all counts (r + 1 + 1))
-
--- the same with b elements before them all
+-- where the elements of the next rank begin, with b elements before them all
 pub here_is : (b from n k : ℕ) → from + n ≡ k → b + from + n ≡ b + k
 here_is b from n k e = omega arith
 

@@ -8,7 +8,7 @@ use native.Mathlib.Nat.{eq-or-lt_of_le}
 use native.Mathlib.Omega.{arith}
 use lib.ListN.{length, get_or, take, drop, replicate, length-take, length-drop, length-replicate, take-append-drop}
 use lib.ListN.{replicate-append-replicate}
-use lib.Seq.{ext_get_or, get_or-take, get_or-drop}
+use lib.Seq.{ext_get_or, get_or-take, get_or-drop, take_all}
 use Rattle.order.specs.Lists.{occurs}
 use Rattle.order.specs.Sums.{sum}
 use Rattle.order.proofs.Lists.{occurs_append, occurs_own}
@@ -26,6 +26,7 @@ occurs_part x l d =
 
 -- ---- the entries of one list
 
+-- the code goes through the entries from place lo up to hi, and has come to t
 module _ (from n lo hi k t : ℕ) (inc next inc' next' : List ℕ) (ht : (lo ≤ t) × (t < hi) × (hi ≤ length inc))
     (apart : Apart from n (λ x. occurs x (span inc lo hi)) lo next)
     (s : Strewn from n (λ y. replicate (occurs y (take (t - lo) (span inc lo hi))) k) next inc inc')
@@ -40,7 +41,7 @@ module _ (from n lo hi k t : ℕ) (inc next inc' next' : List ℕ) (ht : (lo ≤
   list_size = omega (arith, length-take (hi - lo) (drop lo inc), length-drop lo inc)
 
   -- the entry that is read is that of the list as it was
-  pub element_read : get_or inc' t 0 ≡ get_or l d 0
+  element_read : get_or inc' t 0 ≡ get_or l d 0
   element_read =
       let e : lo + d ≡ t = omega arith in
       s.rest t
@@ -50,25 +51,25 @@ module _ (from n lo hi k t : ℕ) (inc next inc' next' : List ℕ) (ht : (lo ≤
       ∙ get_or-drop lo inc d 0 ∙ ap (λ (p : ℕ). get_or inc p 0) e)
 
   -- there is room at its cursor
-  pub element_room : (x : ℕ) → x ≡ get_or l d 0 → x < n → get_or next' (from + x) 0 < lo
+  pub element_room : (x : ℕ) → x ≡ get_or inc' t 0 → x < n → get_or next' (from + x) 0 < lo
   element_room x e h =
       omega (
         arith,
         r.at x h,
         apart.below x h,
-        occurs_take x l d x (omega (arith, list_size)) e,
+        occurs_take x l d x (omega (arith, list_size)) (e ∙ element_read),
         occurs_part x l (d + 1),
         occurs_own x,
       )
 
   -- one entry more has been gone through
-  module _ (x : ℕ) (next'' inc'' : List ℕ) (ex : x ≡ get_or l d 0)
+  module _ (x : ℕ) (next'' inc'' : List ℕ) (ex : x ≡ get_or inc' t 0)
       (r' : Raised from n (λ y. occurs y (x ∷ [])) next' next'')
       (s' : Strewn from n (λ y. replicate (occurs y (x ∷ [])) k) next' inc' inc'') where
     more : (y : ℕ) → occurs y (take (t + 1 - lo) l) ≡ occurs y (take d l) + occurs y (x ∷ [])
     more y =
         let e : t + 1 - lo ≡ d + 1 = omega arith in
-        rw e (occurs_take y l d x (omega (arith, list_size)) ex)
+        rw e (occurs_take y l d x (omega (arith, list_size)) (ex ∙ element_read))
 
     pub element_raised : Raised from n (λ y. occurs y (take (t + 1 - lo) l)) next next''
     element_raised = raised_then from n _ _ _ next next' next'' r r' more
@@ -87,6 +88,11 @@ module _ (from n lo hi k t : ℕ) (inc next inc' next' : List ℕ) (ht : (lo ≤
         ))
         (λ y. ap (λ (m : ℕ). replicate m k) (more y)
         ∙ sym (replicate-append-replicate (occurs y (take d l)) (occurs y (x ∷ [])) k))
+
+-- all entries have been gone through
+pub span_whole : (lo hi : ℕ) (inc : List ℕ) → take (hi - lo) (span inc lo hi) ≡ span inc lo hi
+span_whole lo hi inc =
+    take_all (hi - lo) (span inc lo hi) (omega (arith, length-take (hi - lo) (drop lo inc)))
 
 -- ---- the lists of one rank
 

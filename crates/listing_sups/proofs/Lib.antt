@@ -2,6 +2,7 @@ pub mod Raising
 pub mod Counting
 pub mod Strewing
 pub mod Gathering
+pub mod Pairs
 pub mod SupsFilled
 pub mod Laying
 pub mod Whole

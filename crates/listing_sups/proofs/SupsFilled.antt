@@ -7,13 +7,15 @@ use native.Mathlib.Decide.{dec_lt}
 use native.Mathlib.Numerals.{add-one}
 use native.Mathlib.Omega.{arith}
 use lib.ListN.{length, get_or, get_or-eq_default}
-use Rattle.listing.specs.Listing.{Listing, count, before, start, entries, Ends, subs_at}
+use Rattle.std.specs.declared.slice.Windows.{Windows}
+use Rattle.listing.specs.Listing.{Listing, count, before, start, entries, subs_at}
 use Rattle.listing.specs.Shape.{elements}
 use Rattle.listing.specs.Layers.{layers, gather, derived}
 use Rattle.listing.proofs.Listing.{before_next, before_all, before_le, before_lt}
 use Rattle.listing.proofs.Layers.{gather_same}
 use Rattle.listing_sups.specs.Sups.{Strewn, Apart, sups_at, Fillable, SupsFilled}
 use Rattle.listing_sups.proofs.Gathering.{gather_none, span_same, start_le}
+use Rattle.listing_sups.proofs.Pairs.{rank_of, Pair}
 
 -- ---- where lists stand
 
@@ -55,12 +57,6 @@ module _ (L : Listing) (ready : Fillable L) where
       not_subs (before L.counts i + x) e p j (before_lt L.counts i x hx) h a b q
       (omega (arith, ready.room i x hx)))))
 
-  pub lists_stay : (r : ℕ) (inc' : List ℕ) → SupsFilled L r inc' → Ends L.ends inc'
-  lists_stay r inc' v = record {
-    rising = ready.lists.rising;
-    inside = λ k h. omega (arith, ready.lists.inside k h, v.same_length);
-  }
-
 -- ---- one rank more
 
 -- what the code has in hand when rank r has its turn: where its n elements begin, where the m over them do, and cursors
@@ -73,6 +69,22 @@ pub record Turn (L : Listing) (r from n here m : ℕ) (next inc' : List ℕ) : T
   pub here_is : here ≡ before L.counts (r + 1)
   pub m_is : m ≡ count L (r + 1)
   pub cursors : (e : ℕ) → before L.counts r ≤ e → e < elements L → get_or next e 0 ≡ get_or L.ends (2 * e) 0
+
+-- the turn of a pair of counts that was read
+pub turn : (L : Listing) (s t : Windows ℕ) (from n m : ℕ) (next inc' : List ℕ) → Fillable L
+    → from ≡ before L.counts (rank_of L.counts s)
+    → ((e : ℕ) → before L.counts (rank_of L.counts s) ≤ e → e < elements L → get_or next e 0 ≡ get_or L.ends (2 * e) 0)
+    → SupsFilled L (rank_of L.counts s) inc' → Pair L.counts s t from n m
+    → Turn L (rank_of L.counts s) from n (from + n) m next inc'
+turn L s t from n m next inc' ready from_is cursors filled p = record {
+  ready = ready;
+  filled = filled;
+  from_is = from_is;
+  n_is = p.n_is;
+  here_is = p.here_is;
+  m_is = p.m_is;
+  cursors = cursors;
+}
 
 module _ {L : Listing} {r from n here m : ℕ} {next inc' : List ℕ} (t : Turn L r from n here m next inc') where
   abbrev c : List ℕ
@@ -122,8 +134,8 @@ module _ {L : Listing} {r from n here m : ℕ} {next inc' : List ℕ} (t : Turn 
   }
 
 -- with its sups written
-module _ {L : Listing} {r from n here m : ℕ} {next inc' : List ℕ} (t : Turn L r from n here m next inc') (inc'' : List ℕ)
-    (s : Strewn from n (λ x. gather (subs_at L.ends inc' here) x m) next inc' inc'') where
+module _ {L : Listing} {r from n here m : ℕ} {next inc' : List ℕ} (t : Turn L r from n here m next inc')
+    (inc'' : List ℕ) (s : Strewn from n (λ x. gather (subs_at L.ends inc' here) x m) next inc' inc'') where
   -- what was filled in before stays
   earlier : (i x j : ℕ) → i < r → x < count L i → j < length (derived (layers L) i x)
       → get_or inc'' (sups_at L i x + j) 0 ≡ get_or inc' (sups_at L i x + j) 0

@@ -10,23 +10,6 @@ ghost use Rattle.listing_sups.specs.Sups.{Fillable, SupsFilled};
 
 use listing::{Index, inner, limit};
 
-// How many elements a rank has, and how many the rank above it.
-#[derive(Clone, Copy)]
-struct Two {
-    n: usize,
-    m: usize,
-}
-
-fn two_of(counts: &[Index], rank: usize) -> Two
-    requires { rank + 1 < length counts.now }
-    ensures { (result.n ≡ get_or counts.now rank 0) × (result.m ≡ get_or counts.now (rank + 1) 0)
-        × (result.m < width) }
-{
-    let n = inner::wide(counts[rank]);
-    let m = inner::wide(counts[rank + 1]);
-    Two { n, m }
-}
-
 // Counts one entry x for the element that it names, of n elements that are counted from place `from` on. An entry that
 // names none is passed over.
 fn tally_entry(up: &mut [Index], from: usize, n: usize, x: usize)
@@ -45,10 +28,8 @@ fn tally_list(up: &mut [Index], from: usize, n: usize, list: &[Index])
     requires by_index { (k : ℕ) → get_or up.old k 0 + length list.now < width }
     ensures { Raised from n (λ y. occurs y list.now) up.old up.new }
 {
-    let mut t: usize = 0;
-    while t < list.len() {
-        tally_entry(&mut *up, from, n, inner::wide(list[t]));
-        t += 1;
+    for &x in list {
+        tally_entry(&mut *up, from, n, inner::wide(x));
     }
 }
 
@@ -70,10 +51,8 @@ fn tally_rank(
         up.old up.new }
     ensures by_index_2 { (k : ℕ) → get_or up.new k 0 ≤ start ends.now (2 * (here + m)) }
 {
-    let mut a: usize = 0;
-    while a < m {
+    for a in 0..m {
         tally_list(&mut *up, from, n, inner::list_of(ends, inc, 2 * (here + a)));
-        a += 1;
     }
 }
 
@@ -87,12 +66,12 @@ pub fn tally(up: &mut [Index], counts: &[Index], ends: &[Index], inc: &[Index], 
     ensures { UpCounts base (listing counts.now ends.now inc.now) up.new }
 {
     let mut from: usize = 0;
-    let mut rank: usize = 0;
-    while rank + 1 < counts.len() {
-        let s = two_of(counts, rank);
-        tally_rank(&mut *up, from, s.n, ends, inc, base + from + s.n, s.m);
-        from += s.n;
-        rank += 1;
+    // the elements of a rank, and those of the rank above it
+    for pair in counts.windows(2) {
+        let n = inner::wide(pair[0]);
+        let m = inner::wide(pair[1]);
+        tally_rank(&mut *up, from, n, ends, inc, base + from + n, m);
+        from += n;
     }
 }
 
@@ -131,11 +110,9 @@ fn fill_element(
     ensures strewn { Strewn from n (λ y. replicate (occurs y (span inc.old lo hi)) k)
         next.old inc.old inc.new }
 {
-    let mut t = lo;
-    while t < hi {
+    for t in lo..hi {
         let x = inner::wide(inc[t]);
         fill_entry(&mut *inc, &mut *next, from, n, x, k);
-        t += 1;
     }
 }
 
@@ -160,13 +137,11 @@ fn fill_rank(
     ensures strewn { Strewn from n (λ y. gather (subs_at ends.now inc.old here) y m)
         next.old inc.old inc.new }
 {
-    let mut k: usize = 0;
-    while k < m {
+    for k in 0..m {
         let e = 2 * (here + k);
         let lo = inner::start_of(ends, e);
         let hi = inner::wide(ends[e]);
         fill_element(&mut *inc, &mut *next, from, n, lo, hi, k);
-        k += 1;
     }
 }
 
@@ -175,10 +150,8 @@ fn set_cursors(next: &mut [Index], ends: &[Index], n: usize)
     requires { (n ≤ length next.old) × (2 * n ≤ length ends.now) }
     ensures { Laid 0 (λ e. get_or ends.now (2 * e) 0) n next.old next.new }
 {
-    let mut e: usize = 0;
-    while e < n {
+    for e in 0..n {
         next[e] = ends[2 * e];
-        e += 1;
     }
 }
 
@@ -192,12 +165,12 @@ fn fill_ranks(counts: &[Index], ends: &[Index], inc: &mut [Index], next: &mut [I
         inc.new }
 {
     let mut from: usize = 0;
-    let mut rank: usize = 0;
-    while rank + 1 < counts.len() {
-        let s = two_of(counts, rank);
-        fill_rank(ends, &mut *inc, &mut *next, from, s.n, from + s.n, s.m);
-        from += s.n;
-        rank += 1;
+    // the elements of a rank, and those of the rank above it
+    for pair in counts.windows(2) {
+        let n = inner::wide(pair[0]);
+        let m = inner::wide(pair[1]);
+        fill_rank(ends, &mut *inc, &mut *next, from, n, from + n, m);
+        from += n;
     }
 }
 

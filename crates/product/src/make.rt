@@ -31,37 +31,24 @@ fn written(answer: Answer, s: Totals) -> Built
 fn either_is(p: usize, q: usize, n: usize) -> bool
     ensures { result ≡ (eqb p n || eqb q n) }
 {
-    if p == n {
-        return true;
-    }
-    q == n
+    p == n || q == n
 }
 
 // Whether the product is the nullitope: of a factor of rank 0, for all but the duopyramid.
+#[tactic(auto, unfolding(product_closure::specs::Result::null_case))]
 fn is_null(min: bool, max: bool, p: usize, q: usize) -> bool
     ensures { (A B : Listing) → rank A ≡ p → rank B ≡ q → result ≡ null_case min max A B }
 {
-    if min {
-        return either_is(p, q, 0);
-    }
-    if max {
-        return either_is(p, q, 0);
-    }
-    false
+    (min || max) && either_is(p, q, 0)
 }
 
 // Whether it is a duocomb with a factor of rank 1, where none has rank 0.
+#[tactic(auto, unfolding(product_closure::specs::Result::comb_case))]
 fn is_comb_of_point(min: bool, max: bool, p: usize, q: usize) -> bool
     ensures { (A B : Listing) → rank A ≡ p → rank B ≡ q → null_case min max A B ≡ false
         → result ≡ comb_case min max A B }
 {
-    if min {
-        if max {
-            return either_is(p, q, 1);
-        }
-        return false;
-    }
-    false
+    min && max && either_is(p, q, 1)
 }
 
 // The nullitope, written out.

@@ -19,15 +19,14 @@ fn put_sizes(counts: &mut [Index], at: usize, p: &[Index], q: &[Index], n: usize
     ensures laid { Laid at (λ k. pairs_in p.now q.now k (suc k)) n
         counts.old counts.new }
 {
-    let mut k: usize = 0;
-    while k < n {
+    for k in 0..n {
         counts[at + k] = block::pairs_in(p, q, k, k + 1) as Index;
-        k += 1;
     }
-    at + k
+    at + n
 }
 
 // Writes how many elements the product has of each rank. Returns the number of ranks.
+#[tactic(auto, using(crate::proofs::CountsLaid::counts_length), unfolding(product_element::specs::Pairs::size_of))]
 fn put_counts(poles: Poles, p: &[Index], q: &[Index], counts: &mut [Index]) -> usize
     requires p_nonzero { (0 < length p.now) × (length p.now ≤ limits.ranks) × (0 < length q.now)
         × (length q.now ≤ limits.ranks) }
@@ -58,7 +57,8 @@ pub fn build(
 )
     requires plan { Plan poles.min poles.max (held p pends pinc) (held q qends qinc) (length ends.old)
         (length inc.old) }
-    requires qinc_in_bounds { length (product_listing poles (held p pends pinc) (held q qends qinc)).counts ≤ length counts.old }
+    requires qinc_in_bounds { length (product_listing poles (held p pends pinc) (held q qends qinc)).counts
+        ≤ length counts.old }
     ensures counts_after { counts.new ≡ over (product_listing poles (held p.entry pends.entry pinc.entry)
         (held q.entry qends.entry qinc.entry)).counts counts.old }
     ensures ends_after { ends.new ≡ over (product_listing poles (held p.entry pends.entry pinc.entry)
@@ -66,7 +66,7 @@ pub fn build(
     ensures inc_after { inc.new ≡ over (product_listing poles (held p.entry pends.entry pinc.entry)
         (held q.entry qends.entry qinc.entry)).inc inc.old }
 {
-    let base = block::bit_of(poles.min);
+    let base = usize::from(poles.min);
     let mut psups: [Index; limit::ELEMENTS] = [0; limit::ELEMENTS];
     sups::tally(&mut psups, p, pends, pinc, base);
     let mut qsups: [Index; limit::ELEMENTS] = [0; limit::ELEMENTS];

@@ -24,9 +24,10 @@ fn subs_in_use<'a>(ends: &[Index], inc: &'a [Index], e: usize, i: usize) -> &'a 
     ensures { result.now ≡ cond (eqb i 0) [] (entries ends.now inc.now (2 * e + 0)) }
 {
     if i == 0 {
-        return &inc[0..0];
+        &[]
+    } else {
+        inner::list_of(ends, inc, 2 * e)
     }
-    inner::list_of(ends, inc, 2 * e)
 }
 
 // The number of a pair of a block among all elements.
@@ -122,16 +123,13 @@ pub fn put_pairs_of(
         ends.old inc.old ends.new inc.new }
 {
     let left = subs_in_use(pends, pinc, block.base + block.pbefore + a, block.i);
-    let n = block.qcount;
     let mut to = at;
-    let mut b: usize = 0;
-    while b < n {
+    for b in 0..block.qcount {
         let pair = Pair { a, b };
         to = put_pair(
             poles, p, pends, pinc, q, qends, qinc, psups, qsups, &mut *ends, &mut *inc, block,
             left, pair, to,
         );
-        b += 1;
     }
     to
 }

@@ -8,6 +8,7 @@ use Prim.Native.Nat.{ℕ, suc, ◌+◌, ◌-◌, ◌*◌, ◌≤◌, ◌<◌}
 use native.Mathlib.Nat.{mul-le-mul, mul-le-mul_right}
 use native.Mathlib.Omega.{arith}
 use lib.ListN.{length, get_or}
+use mir.Val.{bool_byte}
 use Rattle.order.proofs.Sums.{sum_none, sum_next, sum_le, sum_lt}
 use Rattle.listing.specs.Listing.{width}
 use Rattle.listing.proofs.Listing.{some_rank}
@@ -17,6 +18,11 @@ use Rattle.product_places.specs.Places.{pairs_in, offset_in, pairs_to, first_at,
 pub bit_le : (b : Bool) → bit b ≤ 1
 bit_le true = omega arith
 bit_le false = omega arith
+
+-- a flag as a number, as the code makes it
+pub bit_is : (b : Bool) → bool_byte b ≡ bit b
+bit_is true = refl
+bit_is false = refl
 
 pub product_le : (x y : ℕ) → x < width → y < width → x * y ≤ width * width
 product_le x y h k =
@@ -44,6 +50,13 @@ pairs_next p q R =
 pub pairs_le : (p q : List ℕ) (R n : ℕ) → R ≤ n → pairs_to p q R ≤ pairs_to p q n
 unfolding pairs_to
 pairs_le p q R n h = sum_le (λ r. pairs_in p q r (suc r)) R n h
+
+-- with the pairs of a rank below n there are still no more than of all ranks below n
+pub pairs_room : (p q : List ℕ) (R n : ℕ) → R < n → pairs_to p q R + pairs_in p q R (R + 1) ≤ pairs_to p q n
+pairs_room p q R n h = omega (arith, pairs_next p q R, pairs_le p q (R + 1) n (omega arith))
+
+-- where a loop over the ranks begins, and a turn of it
+pub ruleset pairs_steps = (pairs_none, pairs_next)
 
 module _ (min : Bool) (p q : List ℕ) where
   pub number_at : (i a j b : ℕ) → pair_number min p q i a j b ≡ first_at min p q (i + j) i + a * get_or q j 0 + b

@@ -1,5 +1,5 @@
 // Where pairs stand: how many come before them, and what all pairs of two ranks have in common.
-ghost use Rattle.std.specs.Prelude.{◌≡◌, cond, ◌&&◌, pred, ◌+◌, ◌*◌, ◌≤◌, ◌<◌, eqb, length};
+ghost use Rattle.std.specs.Prelude.{◌≡◌, cond, ◌&&◌, ◌+◌, ◌*◌, ◌≤◌, ◌<◌, eqb, length};
 ghost use Rattle.listing.specs.Listing.{width, limits};
 ghost use Rattle.product_pairs.specs.Trimmed.{bit};
 ghost use Rattle.product_places.specs.Places.{pairs_in, offset_in, pairs_to};
@@ -33,52 +33,34 @@ pub struct Block {
     pub qbelow: usize,
 }
 
-// A flag as a number.
-pub fn bit_of(b: bool) -> usize
-    ensures { result ≡ bit b }
-{
-    if b { 1 } else { 0 }
-}
-
-// One less; 0 stays.
-pub fn less(i: usize) -> usize
-    ensures { result ≡ pred i }
-{
-    if i == 0 {
-        return 0;
-    }
-    i - 1
-}
-
 // The number of pairs of a rank with a first member of a rank below i.
+#[tactic(auto, using(order::proofs::Sums::sum_none, order::proofs::Sums::sum_next))]
 pub fn pairs_in(p: &[Index], q: &[Index], rank: usize, i: usize) -> usize
     requires { (i ≤ rank + 1) × (rank ≤ 2 * limits.ranks) }
     ensures { result ≡ pairs_in p.now q.now rank i }
 {
     let mut n: usize = 0;
-    let mut k: usize = 0;
-    while k < i {
+    for k in 0..i {
         n += inner::wide(inner::count_at(p, k)) * inner::wide(inner::count_at(q, rank - k));
-        k += 1;
     }
     n
 }
 
 // The number of pairs of all ranks below a rank.
+#[tactic(auto, using(crate::proofs::Numbers::pairs_steps))]
 pub fn pairs_to(p: &[Index], q: &[Index], rank: usize) -> usize
     requires { (rank ≤ 2 * limits.ranks) × (pairs_to p.now q.now rank ≤ width) }
     ensures { result ≡ pairs_to p.now q.now rank }
 {
     let mut n: usize = 0;
-    let mut k: usize = 0;
-    while k < rank {
+    for k in 0..rank {
         n += pairs_in(p, q, k, k + 1);
-        k += 1;
     }
     n
 }
 
 // The number of pairs of the same rank that come before those of the ranks i and j.
+#[tactic(auto, unfolding(crate::specs::Places::offset_in))]
 pub fn offset(p: &[Index], q: &[Index], i: usize, j: usize) -> usize
     requires { i + j ≤ 2 * limits.ranks }
     ensures { result ≡ offset_in p.now q.now i j }
@@ -91,10 +73,7 @@ fn is_low(min: bool, i: usize, j: usize) -> bool
     requires { i + j ≤ 2 * limits.ranks }
     ensures { result ≡ (min && eqb (i + j) 0) }
 {
-    if min {
-        return i + j == 0;
-    }
-    false
+    min && i + j == 0
 }
 
 // How many added maximal elements lie over the pairs of the ranks i and j.
@@ -102,46 +81,30 @@ fn cap_of(max: bool, p: &[Index], q: &[Index], i: usize, j: usize) -> usize
     requires { (i + j ≤ 2 * limits.ranks) × (length p.now ≤ limits.ranks) × (length q.now ≤ limits.ranks) }
     ensures { result ≡ cond (max && eqb (i + j + 2) (length p.now + length q.now)) 1 0 }
 {
-    if max {
-        if i + j + 2 == p.len() + q.len() {
-            return 1;
-        }
-        return 0;
-    }
-    0
+    usize::from(max && i + j + 2 == p.len() + q.len())
 }
 
 // What the pairs of the ranks i and j have in common. Their rank begins at the element `start`.
+#[tactic(auto, using(crate::proofs::Numbers::bit_is), unfolding(crate::specs::Places::offset_in))]
 pub fn block_of(poles: Poles, p: &[Index], q: &[Index], start: usize, i: usize, j: usize) -> Block
     requires j_bound { (i + j ≤ 2 * limits.ranks) × (length p.now ≤ limits.ranks) × (length q.now ≤ limits.ranks) }
     requires start_value { start ≡ bit poles.min + pairs_to p.now q.now (i + j) }
     requires i_bound { start + pairs_in p.now q.now (i + j) i ≤ width }
     ensures { BlockOf poles p.now q.now i j result }
 {
-    let base = bit_of(poles.min);
-    let from = start + offset(p, q, i, j);
-    let low = is_low(poles.min, i, j);
-    let cap = cap_of(poles.max, p, q, i, j);
-    let pbefore = inner::elements_before(p, i);
-    let qbefore = inner::elements_before(q, j);
-    let h = less(i);
-    let left = offset(p, q, h, j);
-    let k = less(j);
-    let right = offset(p, q, i, k);
-    let qcount = inner::wide(inner::count_at(q, j));
-    let qbelow = inner::wide(inner::count_at(q, k));
+    let below = j.saturating_sub(1);
     Block {
         i,
         j,
-        base,
-        from,
-        low,
-        cap,
-        pbefore,
-        qbefore,
-        left,
-        right,
-        qcount,
-        qbelow,
+        base: usize::from(poles.min),
+        from: start + offset(p, q, i, j),
+        low: is_low(poles.min, i, j),
+        cap: cap_of(poles.max, p, q, i, j),
+        pbefore: inner::elements_before(p, i),
+        qbefore: inner::elements_before(q, j),
+        left: offset(p, q, i.saturating_sub(1), j),
+        right: offset(p, q, i, below),
+        qcount: inner::wide(inner::count_at(q, j)),
+        qbelow: inner::wide(inner::count_at(q, below)),
     }
 }

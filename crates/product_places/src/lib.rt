@@ -5,8 +5,8 @@
 pub mod block;
 pub mod put;
 
-// Which product it is: where min is set the minimal elements are left out of the pairs and one is added again, and where
-// max is set the maximal ones.
+// Which product it is: where min is set the minimal elements are left out of the pairs and one is added again, and
+// where max is set the maximal ones.
 #[derive(Clone, Copy)]
 pub struct Poles {
     pub min: bool,

@@ -33,9 +33,10 @@ pub fn put_if(d: &mut [Index], at: usize, asked: bool, x: Index) -> usize
 {
     if asked {
         d[at] = x;
-        return at + 1;
+        at + 1
+    } else {
+        at
     }
-    at
 }
 
 // Writes off + x * scale for each x of a list, from place `at` on. Returns the place after the last.
@@ -46,12 +47,10 @@ pub fn put_scaled(d: &mut [Index], at: usize, list: &[Index], off: usize, scale:
     ensures laid { Laid at (λ j. off + get_or list.now j 0 * scale) (length list.now)
         d.old d.new }
 {
-    let mut j: usize = 0;
-    while j < list.len() {
-        d[at + j] = (off + inner::wide(list[j]) * scale) as Index;
-        j += 1;
+    for (j, &x) in list.iter().enumerate() {
+        d[at + j] = (off + inner::wide(x) * scale) as Index;
     }
-    at + j
+    at + list.len()
 }
 
 // Writes 0, 1, .. n - 1 from place `at` on. Returns the place after the last.
@@ -60,12 +59,10 @@ pub fn put_up_to(d: &mut [Index], at: usize, n: usize) -> usize
     ensures value { result ≡ at + n }
     ensures laid { Laid at (λ j. j) n d.old d.new }
 {
-    let mut j: usize = 0;
-    while j < n {
+    for j in 0..n {
         d[at + j] = j as Index;
-        j += 1;
     }
-    at + j
+    at + n
 }
 
 // Writes the added minimal element where it is asked for: nothing under it, and room for its sups. Returns the place
@@ -78,9 +75,10 @@ pub fn put_min(ends: &mut [Index], min: bool, sups: usize) -> usize
     if min {
         ends[0] = 0;
         ends[1] = sups as Index;
-        return sups;
+        sups
+    } else {
+        0
     }
-    0
 }
 
 // Writes the added maximal element where it is asked for: the n elements under it, and nothing over it. Returns the
@@ -98,13 +96,15 @@ pub fn put_max(ends: &mut [Index], inc: &mut [Index], max: bool, spot: Spot, n: 
         let e = spot.e;
         ends[2 * e] = to as Index;
         ends[2 * e + 1] = to as Index;
-        return to;
+        to
+    } else {
+        spot.at
     }
-    spot.at
 }
 
 // Writes one element: what it has under it, by the subs `left` and `right` of its members, and its two ends, with room
 // left for its sups. Returns the place after those.
+#[tactic(auto, using(crate::proofs::Parts::subs_length))]
 pub fn put_element(
     ends: &mut [Index],
     inc: &mut [Index],

@@ -36,6 +36,8 @@ module _ (m : Limits) (t : Totals) (o : Room) where
       unfolding totals_test ◌or_else◌
       room_decides h3 = rw (le-ltb _ _ h1, le-ltb _ _ h2, le-ltb _ _ h3)
 
+pub ruleset totals_tests = (over_ranks, over_elements, over_incidences, room_decides)
+
 -- the test of a listing is that of its three numbers
 pub listing_tested : (m : Limits) (R : Listing) (t : Totals) (o : Room) → Measures R t
     → totals_test m t o ≡ size_test m R o.counts o.ends o.inc

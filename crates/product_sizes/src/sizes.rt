@@ -4,12 +4,13 @@ ghost use Rattle.order.specs.Sums.{sum};
 ghost use Rattle.listing.specs.Listing.{held, limits, Ends, entries};
 ghost use Rattle.listing.specs.Layers.{layers};
 ghost use Rattle.product_pairs.specs.Trimmed.{bit, trimmed};
-ghost use Rattle.product_sizes.specs.Sizing.{need_of_totals, Usable, counts_in_use, extent_of, Little, totals_of, totals_test};
+ghost use Rattle.product_sizes.specs.Sizing.{Usable, counts_in_use, extent_of, Little};
+ghost use Rattle.product_sizes.specs.Sizing.{totals_of, need_of_totals, totals_test};
 
 use listing::{Answer, Index, inner, limit, refusal};
 use listing_outputs::outputs;
 use listing_outputs::outputs::Room;
-use product_places::{Poles, block};
+use product_places::Poles;
 
 // How large the part of a factor is that a product uses: its ranks, elements and subs, and the elements of its lowest
 // and of its highest rank.
@@ -31,13 +32,12 @@ pub struct Totals {
 }
 
 // The counts of the ranks in use: without the lowest where min is set, without the highest where max is.
+#[tactic(auto, using(product_places::proofs::Numbers::bit_is), unfolding(crate::specs::Sizing::counts_in_use))]
 pub fn range<'a>(poles: Poles, counts: &'a [Index]) -> &'a [Index]
     requires { bit poles.min + bit poles.max ≤ length counts.now }
     ensures { result.now ≡ counts_in_use poles.min poles.max counts.now }
 {
-    let from = block::bit_of(poles.min);
-    let to = counts.len() - block::bit_of(poles.max);
-    &counts[from..to]
+    &counts[usize::from(poles.min)..counts.len() - usize::from(poles.max)]
 }
 
 // How many subs the elements from one number up to another list.
@@ -50,10 +50,8 @@ fn subs_listed(ends: &[Index], inc: &[Index], from: usize, to: usize) -> usize
     ensures upper_bound { result ≤ limits.incidences * (to - from) }
 {
     let mut n: usize = 0;
-    let mut e = from;
-    while e < to {
+    for e in from..to {
         n += inner::list_of(ends, inc, 2 * e).len();
-        e += 1;
     }
     n
 }
@@ -66,7 +64,7 @@ pub fn extent_of(poles: Poles, counts: &[Index], ends: &[Index], inc: &[Index]) 
         (layers (held counts.entry ends.entry inc.entry))) }
 {
     let p = range(poles, counts);
-    let base = block::bit_of(poles.min);
+    let base = usize::from(poles.min);
     let elements = inner::elements_before(p, p.len());
     let lowest = inner::wide(p[0]);
     let highest = inner::wide(p[p.len() - 1]);
@@ -92,10 +90,7 @@ fn times(x: usize, y: usize) -> usize
 fn where_asked(asked: bool, n: usize) -> usize
     ensures { (result ≡ bit asked * n) × (result ≤ n) }
 {
-    if asked {
-        return n;
-    }
-    0
+    if asked { n } else { 0 }
 }
 
 // How large the product is of two factors that have these extents in use.
@@ -103,8 +98,8 @@ pub fn product_sizes(poles: Poles, p: Extent, q: Extent) -> Totals
     requires { Little p × Little q }
     ensures { result ≡ totals_of poles p q }
 {
-    let low = block::bit_of(poles.min);
-    let high = block::bit_of(poles.max);
+    let low = usize::from(poles.min);
+    let high = usize::from(poles.max);
     let pairs = times(p.elements, q.elements);
     let subs = times(p.subs, q.elements) + times(q.subs, p.elements);
     let lowest = where_asked(poles.min, times(p.lowest, q.lowest));
@@ -129,6 +124,7 @@ pub fn need_of(s: Totals) -> Room
 }
 
 // Whether a product of these sizes is within the limits, and then whether there is room for it.
+#[tactic(auto, using(crate::proofs::Tested::totals_tests))]
 pub fn check_sizes(s: Totals, room: Room) -> Answer
     ensures { result ≡ totals_test limits s room }
 {

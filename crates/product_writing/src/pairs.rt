@@ -42,15 +42,12 @@ fn put_block(
     if block.qcount == 0 {
         return at;
     }
-    let n = inner::wide(inner::count_at(p, block.i));
     let mut to = at;
-    let mut a: usize = 0;
-    while a < n {
+    for a in 0..inner::wide(inner::count_at(p, block.i)) {
         to = pair::put_pairs_of(
             poles, p, pends, pinc, q, qends, qinc, psups, qsups, &mut *ends, &mut *inc, block, a,
             to,
         );
-        a += 1;
     }
     to
 }
@@ -84,13 +81,11 @@ fn put_rank(
         ends.old inc.old ends.new inc.new }
 {
     let mut to = at;
-    let mut i: usize = 0;
-    while i <= rank {
+    for i in 0..rank + 1 {
         let block = block::block_of(poles, p, q, start, i, rank - i);
         to = put_block(
             poles, p, pends, pinc, q, qends, qinc, psups, qsups, &mut *ends, &mut *inc, block, to,
         );
-        i += 1;
     }
     to
 }
@@ -121,22 +116,21 @@ fn put_ranks(
         ends.old inc.old ends.new inc.new }
 {
     let ranks = p.len() + q.len() - 1;
-    let mut start = block::bit_of(poles.min);
+    let mut start = usize::from(poles.min);
     let mut to = at;
-    let mut rank: usize = 0;
-    while rank < ranks {
+    for rank in 0..ranks {
         to = put_rank(
             poles, p, pends, pinc, q, qends, qinc, psups, qsups, &mut *ends, &mut *inc, start,
             rank, to,
         );
         start += block::pairs_in(p, q, rank, rank + 1);
-        rank += 1;
     }
     to
 }
 
 // All elements: the added minimal one, the pairs, the added maximal one, as they are asked for. Returns how many they
 // are.
+#[tactic(auto, using(product_places::proofs::Numbers::bit_is), unfolding(product_element::specs::Pairs::size_of))]
 pub fn put_elements(
     poles: Poles,
     p: &[Index],
@@ -163,9 +157,9 @@ pub fn put_elements(
         poles, p, pends, pinc, q, qends, qinc, psups, qsups, &mut *ends, &mut *inc, at,
     );
     let ranks = p.len() + q.len() - 1;
-    let e = block::bit_of(poles.min) + block::pairs_to(p, q, ranks);
+    let e = usize::from(poles.min) + block::pairs_to(p, q, ranks);
     let highest = block::pairs_in(p, q, ranks - 1, ranks);
     let spot = Spot { e, at: to };
     put::put_max(&mut *ends, &mut *inc, poles.max, spot, highest);
-    e + block::bit_of(poles.max)
+    e + usize::from(poles.max)
 }

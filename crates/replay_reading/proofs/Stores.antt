@@ -1,20 +1,24 @@
--- Numbers stored from a place on: past the end nothing is, two runs are one, and where they end counts a start of the
--- slice; a run that is stored part by part; and what is read out of a run.
+-- Numbers stored from a place on: past the end nothing is, a run of one number fills a part, two runs are one, and where
+-- they end counts a start of the slice; a run that is stored part by part; and what is read out of a run.
 -- Assumes nothing.
 use mathlib.Core.Path.{◌≡◌, refl, sym, ap, ◌∙◌}
 use mathlib.Core.Bool.{Bool, true, false}
-use mathlib.Core.List.{List, [], ◌∷◌, ◌++◌, append-nil}
-use Prim.Native.Nat.{ℕ, zero, suc, ◌+◌, ◌-◌, ◌≤◌, ◌<◌, min}
+use mathlib.Core.List.{List, [], ◌∷◌, ◌++◌, append-nil, append_assoc}
+use Prim.Native.Nat.{ℕ, suc, ◌+◌, ◌-◌, ◌≤◌, ◌<◌, min}
 use native.Mathlib.Nat.{add-zero, add-suc, suc-add}
-use native.Mathlib.Numerals.{add-one}
 use native.Mathlib.Omega.{arith}
 use borrow.Author.Tests.{leb-true, leb-false}
 use lib.Dec.{leb}
 use lib.ListN.{length, get_or, set, replicate, length-append, length-replicate, length-take}
-use lib.ListN.{get_or-replicate, get_or-append}
+use lib.ListN.{get_or-replicate, get_or-append, get_or-eq_default, take, drop}
+use borrow.Rule.Slice.PartMut.{put_mid}
+use Rattle.std.proofs.lemmas.List.{replicate-append-replicate}
+use Rattle.std.proofs.lemmas.List.Edits.{paste_all, sets-eq}
+use Rattle.std.proofs.lemmas.Slice.{put_mid-paste}
 use lib.Seq.{sets, set_out, length-sets, get_or-append-add}
 use Rattle.lent_input.specs.Counts.{IsPrefixLen}
-use Rattle.replay_reading.specs.Text.{Stored}
+use Rattle.replay_reading.specs.declared.text.Item.{Item}
+use Rattle.replay_reading.specs.Text.{Stored, pending}
 
 pub sets_out : (l : List ℕ) (i : ℕ) (vs : List ℕ) → length l ≤ i → sets l i vs ≡ l
 sets_out l i [] h = refl
@@ -24,13 +28,44 @@ sets_append : (l : List ℕ) (i : ℕ) (a b : List ℕ) → sets l i (a ++ b) �
 sets_append l i [] b = rw add-zero
 sets_append l i (v ∷ a) b = sets_append (set l i v) (suc i) a b ∙ rw (suc-add, add-suc)
 
--- a run of one number, its first stored
-pub sets_first : (l : List ℕ) (i n v : ℕ) → (n ≡ 0 → ⊥)
-    → sets l i (replicate n v) ≡ sets (set l i v) (i + 1) (replicate (n - 1) v)
-sets_first l i zero v h = absurd (h refl)
-sets_first l i (suc n) v h =
-    let e : suc n - 1 ≡ n = omega arith in
-    rw (e, add-one)
+-- a run of one number, as much of it as there is room for
+sets_filled : (l : List ℕ) (i n m v : ℕ) → i ≤ length l → m ≡ min n (length l - i)
+    → sets l i (replicate m v) ≡ sets l i (replicate n v)
+sets_filled l i n m v h e = go (leb n m) refl
+  where
+    go : (q : Bool) → leb n m ≡ q → sets l i (replicate m v) ≡ sets l i (replicate n v)
+    go true t =
+        let k : n ≤ m = leb-true n m t in
+        let s : m ≡ n = omega arith in
+        ap (λ (j : ℕ). sets l i (replicate j v)) s
+    go false t =
+        let k : m < n = leb-false n m t in
+        let whole : replicate m v ++ replicate (n - m) v ≡ replicate n v =
+        replicate-append-replicate m (n - m) v ∙ ap (λ (j : ℕ). replicate j v) (omega arith) in
+        let past : length (sets l i (replicate m v)) ≤ i + length (replicate m v) =
+        omega (arith, length-sets l i (replicate m v), length-replicate m v) in
+        sym (
+        sym (ap (sets l i) whole)
+        ∙ sets_append l i (replicate m v) (replicate (n - m) v)
+        ∙ sets_out (sets l i (replicate m v)) (i + length (replicate m v)) (replicate (n - m) v) past
+        )
+
+pub filled : (l held : List ℕ) (i n m k v : ℕ) → i ≤ length l → m ≡ min n (length l - i) → k ≡ m
+    → held ≡ replicate m v → Stored (replicate n v) i l (put_mid i k l held) (i + m)
+filled l held i n m k v h e f g =
+    let run : List ℕ = replicate m v in
+    let long : length run ≡ m = length-replicate m v in
+    let room : i + length run ≤ length l = omega arith in
+    record {
+      up_to = omega (arith, length-replicate n v);
+      holds =
+          put_mid-paste i k l held run m g (sym f) (sym long)
+          ∙ paste_all l i run m (sym long)
+          ∙ ap (λ (j : ℕ). take i l ++ (run ++ drop (i + j) l)) (sym long)
+          ∙ sym (append_assoc (take i l) run (drop (i + length run) l))
+          ∙ sym (sets-eq run l i room)
+          ∙ sets_filled l i n m v h e;
+    }
 
 -- a second run goes on where the first came to, or stores nothing
 pub sets_on : (l : List ℕ) (i : ℕ) (a b : List ℕ)
@@ -106,3 +141,14 @@ module _ (n v : ℕ) (l : List ℕ) (k : ℕ) where
   run_past h =
       let e : k ≡ length (replicate n v) + (k - n) = omega (arith, length-replicate n v) in
       ap (λ (j : ℕ). get_or (replicate n v ++ l) j 0) e ∙ get_or-append-add (replicate n v) l (k - n) 0
+
+-- a number of the last run
+module _ (m : ℕ) (s : Item) (k : ℕ) where
+  pub pending_in : k < s.times → get_or (pending m s) k 0 ≡ min s.value m
+  pending_in h = get_or-replicate s.times k (min s.value m) 0 h
+
+  pub pending_past : s.times ≤ k → get_or (pending m s) k 0 ≡ 0
+  pending_past h = get_or-eq_default (pending m s) 0 (omega (arith, length-replicate s.times (min s.value m)))
+
+-- the laws of numbers that are read out of runs
+pub ruleset runs = (run_in, run_past, pending_in, pending_past)

@@ -106,3 +106,12 @@ spaced_is from to t o e =
     let n = length (until 32 (drop from t)) in
     ap (λ (k : ℕ). drop k t) e ∙ sym (drop-drop n from t)
     ∙ ap (λ (s : List ℕ). drop (length (until 32 s)) s) o
+
+-- the laws of one loop each: `find`, `opening`, `tail`, and what reads numbers
+pub ruleset untils = (until_stop, until_on, until_end)
+
+pub ruleset openings = (opened_here, opened_past, opened_on, opened_end)
+
+pub ruleset closings = (closing_past, closing_on, closing_end)
+
+pub ruleset reads = (read_on, read_off, read_end)

@@ -8,10 +8,8 @@ ghost use Rattle.replay_reading.specs.Text.{largest, with_digit, goes_on, with_b
 
 use listing::Index;
 
-// The largest numbers of 32 and 8 bits: any above them is taken for them, as in a listing any above its largest.
-const LARGEST: u32 = 4294967295;
-
-const LARGEST_BYTE: u8 = 255;
+// The largest number of 32 bits: any above it is taken for it, as in a listing any above its largest.
+const LARGEST: u32 = u32::MAX;
 
 // A number that is being read: its value, how often it stands, and whether a star has come, after which the digits say
 // how often.
@@ -33,128 +31,102 @@ const GAP: Item = Item {
 pub fn letter(line: &[u8], at: usize) -> u8
     ensures { result ≡ get_or line.now at 0 }
 {
-    if at < line.len() { line[at] } else { 0 }
+    line.get(at).copied().unwrap_or(0)
 }
 
 // A number of 16 bits.
 pub fn narrow(v: u32) -> Index
     ensures { result ≡ min v (width - 1) }
 {
-    if v < listing::LARGEST as u32 {
-        v as Index
-    } else {
-        listing::LARGEST
-    }
+    Index::try_from(v).unwrap_or(listing::LARGEST)
 }
 
 // A byte.
 pub fn byte(v: u32) -> u8
     ensures { result ≡ min v 255 }
 {
-    if v < LARGEST_BYTE as u32 {
-        v as u8
-    } else {
-        LARGEST_BYTE
-    }
+    u8::try_from(v).unwrap_or(u8::MAX)
 }
 
 // Where a byte stands first from a place on, or the end of the text.
+#[tactic(auto, using(crate::proofs::Texts::untils))]
 pub fn find(text: &[u8], from: usize, b: u8) -> usize
     requires { from ≤ length text.now }
     ensures value { result ≡ from + length (until b (drop from text.now)) }
     ensures lower_bound { (from ≤ result) × (result ≤ length text.now) }
 {
-    let mut i = from;
-    while i < text.len() {
+    for i in from..text.len() {
         if text[i] == b {
             return i;
         }
-        i += 1;
     }
-    i
+    text.len()
 }
 
 // The place after the opening bracket of a list, the first being 0.
+#[tactic(auto, using(crate::proofs::Texts::openings))]
 fn opening(line: &[u8], k: usize) -> usize
     ensures { (result ≤ length line.now) × (drop result line.now ≡ opened k line.now) }
 {
     let mut left = k;
-    let mut i = 0;
-    while i < line.len() {
-        if line[i] == b'[' {
+    for (i, &b) in line.iter().enumerate() {
+        if b == b'[' {
             if left == 0 {
                 return i + 1;
             }
             left -= 1;
-            i += 1;
-        } else {
-            i += 1;
         }
     }
-    i
+    line.len()
 }
 
 // Whether a byte closes a list, or what stands in quotes.
+#[tactic(auto, unfolding(crate::specs::Text::closes))]
 fn closes(b: u8) -> bool
     ensures { result ≡ closes b }
 {
-    if b == b']' {
-        return true;
-    }
-    b == b'"'
+    b == b']' || b == b'"'
 }
 
 // The place after the last byte that closes something.
+#[tactic(auto, using(crate::proofs::Texts::closings))]
 fn tail(line: &[u8]) -> usize
     ensures { (result ≤ length line.now) × (drop result line.now
         ≡ after_closing line.now line.now) }
 {
     let mut at = 0;
-    let mut i = 0;
-    while i < line.len() {
-        if closes(line[i]) {
-            i += 1;
-            at = i;
-        } else {
-            i += 1;
+    for (i, &b) in line.iter().enumerate() {
+        if closes(b) {
+            at = i + 1;
         }
     }
     at
 }
 
 // Whether a number goes on with a byte: a digit or a star.
+#[tactic(auto, unfolding(crate::specs::Text::goes_on))]
 fn goes_on(b: u8) -> bool
     ensures { result ≡ goes_on b }
 {
-    if b == b'*' {
-        return true;
-    }
-    if b < b'0' {
-        return false;
-    }
-    b <= b'9'
+    b == b'*' || b.is_ascii_digit()
 }
 
 // The value of a digit.
 fn digit(b: u8) -> u64
     ensures { result ≡ b - 48 }
 {
-    if b < b'0' { 0 } else { (b - b'0') as u64 }
+    u64::from(b.saturating_sub(b'0'))
 }
 
 // A number with one digit more.
 fn with_digit(v: u32, b: u8) -> u32
     ensures { result ≡ with_digit v b }
 {
-    let w = v as u64 * 10 + digit(b);
-    if w < LARGEST as u64 {
-        w as u32
-    } else {
-        LARGEST
-    }
+    u32::try_from(u64::from(v) * 10 + digit(b)).unwrap_or(LARGEST)
 }
 
 // The number that is being read, with one byte more.
+#[tactic(auto, unfolding(crate::specs::Text::with_byte))]
 fn with_byte(s: Item, b: u8) -> Item
     ensures { result ≡ with_byte s b }
 {
@@ -180,45 +152,36 @@ fn with_byte(s: Item, b: u8) -> Item
 }
 
 // Writes a number as often as asked from a place on, as far as there is room, and says where it stopped.
+#[tactic(auto, using(crate::proofs::Stores::filled))]
 fn put(out: &mut [Index], from: usize, v: Index, times: u32) -> usize
     requires { from ≤ length out.old }
     ensures { Stored (replicate times v) from out.old out.new result }
 {
-    let mut left = times;
-    let mut n = from;
-    while n < out.len() {
-        if left == 0 {
-            return n;
-        }
-        out[n] = v;
-        n += 1;
-        left -= 1;
-    }
-    n
+    let to = from + (times as usize).min(out.len() - from);
+    out[from..to].fill(v);
+    to
 }
 
 // The numbers of a text, into the start of a slice; says how many there are.
+#[tactic(auto, using(crate::proofs::Texts::reads, crate::proofs::Stores::storing_last))]
 fn fill(text: &[u8], out: &mut [Index]) -> usize
     ensures { Stored (numbers_in (width - 1) text.now) 0 out.old out.new result }
 {
     let mut s = GAP;
     let mut n = 0;
-    let mut i = 0;
-    while i < text.len() {
-        let b = text[i];
+    for &b in text {
         if goes_on(b) {
             s = with_byte(s, b);
-            i += 1;
         } else {
             n = put(&mut *out, n, narrow(s.value), s.times);
             s = GAP;
-            i += 1;
         }
     }
     put(&mut *out, n, narrow(s.value), s.times)
 }
 
 // A list of the line, the first being 0, into the start of a slice; says how many numbers it has.
+#[tactic(auto, using(crate::proofs::Texts::bracketed_is, crate::proofs::Stores::stored_counts))]
 pub fn list(line: &[u8], k: usize, out: &mut [Index]) -> usize
     ensures stored { Stored (numbers_in (width - 1) (bracketed k line.now)) 0 out.old
         out.new result }
@@ -230,17 +193,15 @@ pub fn list(line: &[u8], k: usize, out: &mut [Index]) -> usize
 }
 
 // A number of a text, the first being 0; 0 where there is none.
+#[tactic(auto, using(crate::proofs::Texts::reads, crate::proofs::Stores::runs))]
 pub fn number_at(text: &[u8], k: usize) -> u32
     ensures { result ≡ get_or (numbers_in largest text.now) k 0 }
 {
     let mut s = GAP;
     let mut left = k;
-    let mut i = 0;
-    while i < text.len() {
-        let b = text[i];
+    for &b in text {
         if goes_on(b) {
             s = with_byte(s, b);
-            i += 1;
         } else {
             let times = s.times as usize;
             if left < times {
@@ -248,13 +209,13 @@ pub fn number_at(text: &[u8], k: usize) -> u32
             }
             left -= times;
             s = GAP;
-            i += 1;
         }
     }
     if left < s.times as usize { s.value } else { 0 }
 }
 
 // A number of the line outside of lists, the first being 0.
+#[tactic(auto, using(crate::proofs::Texts::take_rest, crate::proofs::Texts::spaced_is))]
 pub fn plain(line: &[u8], k: usize) -> u32
     ensures { result ≡ get_or (numbers_in largest (spaced line.now)) k 0 }
 {

@@ -32,6 +32,7 @@ const TEXT: usize = limit::TEXT + SPARE;
 pub const WRITTEN: usize = 2 * limit::TEXT;
 
 // Room for counts, or for a flag.
+#[tactic(auto, using(crate::proofs::Counting::repeated))]
 pub fn few() -> [Index; FEW]
     ensures value { result ≡ replicate (limits.ranks + spare) (width - 1) }
     ensures spare_value { limits.ranks + spare ≡ length result }
@@ -40,6 +41,7 @@ pub fn few() -> [Index; FEW]
 }
 
 // Room for ends.
+#[tactic(auto, using(crate::proofs::Counting::repeated))]
 pub fn some() -> [Index; SOME]
     ensures value { result ≡ replicate (2 * limits.elements + spare) (width - 1) }
     ensures spare_value { 2 * limits.elements + spare ≡ length result }
@@ -48,6 +50,7 @@ pub fn some() -> [Index; SOME]
 }
 
 // Room for incidences.
+#[tactic(auto, using(crate::proofs::Counting::repeated))]
 pub fn many() -> [Index; MANY]
     ensures value { result ≡ replicate (limits.incidences + spare) (width - 1) }
     ensures spare_value { limits.incidences + spare ≡ length result }
@@ -56,6 +59,7 @@ pub fn many() -> [Index; MANY]
 }
 
 // Room for flags.
+#[tactic(auto, using(crate::proofs::Counting::repeated))]
 pub fn table() -> [Index; TABLE]
     ensures value { result ≡ replicate (limits.ranks * (limits.flags + spare)) (width - 1) }
     ensures spare_value { limits.ranks * (limits.flags + spare) ≡ length result }
@@ -64,6 +68,7 @@ pub fn table() -> [Index; TABLE]
 }
 
 // Room for orientations.
+#[tactic(auto, using(crate::proofs::Counting::repeated))]
 pub fn orientations() -> [u8; BYTES]
     ensures value { result ≡ replicate (limits.flags + spare) 255 }
     ensures spare_value { limits.flags + spare ≡ length result }
@@ -72,6 +77,7 @@ pub fn orientations() -> [u8; BYTES]
 }
 
 // Room for a text.
+#[tactic(auto, using(crate::proofs::Counting::repeated))]
 pub fn text() -> [u8; TEXT]
     ensures value { result ≡ replicate (limits.text + spare) 255 }
     ensures spare_value { limits.text + spare ≡ length result }
@@ -80,6 +86,7 @@ pub fn text() -> [u8; TEXT]
 }
 
 // Room for a text to be written.
+#[tactic(auto, using(crate::proofs::Counting::repeated))]
 pub fn written() -> [u8; WRITTEN]
     ensures value { result ≡ replicate (2 * limits.text) 255 }
     ensures text_value { 2 * limits.text ≡ length result }
@@ -92,8 +99,7 @@ pub fn words(n: u64, out: &[Index]) -> usize
     ensures value { result ≡ min n (length out.now) }
     ensures prefix_len { IsPrefixLen result out.now }
 {
-    let n = n as usize;
-    if n < out.len() { n } else { out.len() }
+    out.len().min(n as usize)
 }
 
 // So many bytes of a slice, or all if it has fewer.
@@ -101,6 +107,5 @@ pub fn bytes(n: u64, out: &[u8]) -> usize
     ensures value { result ≡ min n (length out.now) }
     ensures prefix_len { IsPrefixLen result out.now }
 {
-    let n = n as usize;
-    if n < out.len() { n } else { out.len() }
+    out.len().min(n as usize)
 }

@@ -47,35 +47,23 @@ pub fn count(rt: &impl Print, n: Number) -> io::Result<()> {
 // A sign.
 pub fn sign(rt: &impl Print, x: f64) -> io::Result<()> {
     if x == 1.0 {
-        return rt.write_all(b" 1");
+        rt.write_all(b" 1")
+    } else {
+        rt.write_all(b" -1")
     }
-    rt.write_all(b" -1")
-}
-
-// A number of 16 bits as a wider one.
-fn wide(x: u16) -> u64
-    ensures { result < width }
-{
-    x as u64
-}
-
-// A byte as a number of 16 bits.
-fn wide_byte(x: u8) -> u16 {
-    x as u16
 }
 
 // One number more in a check number.
 fn mixed(c: u64, x: Index) -> u64 {
-    ((c % MODULUS) * FACTOR + wide(x) + 1) % MODULUS
+    ((c % MODULUS) * FACTOR + u64::from(x) + 1) % MODULUS
 }
 
 // A long list: length, sum and check number.
 fn digest(rt: &impl Print, list: &[Index]) -> io::Result<()> {
     let mut sum = 0u64;
     let mut check = 0u64;
-    for i in 0..list.len() {
-        let x = list[i];
-        sum = std::num::wrapping_add_u64(sum, wide(x));
+    for &x in list {
+        sum = sum.wrapping_add(u64::from(x));
         check = mixed(check, x);
     }
     rt.write_all(b" {")?;
@@ -85,12 +73,10 @@ fn digest(rt: &impl Print, list: &[Index]) -> io::Result<()> {
     rt.write_all(b"}")
 }
 
-// The numbers of a list from a place on, each after a space.
-fn rest(rt: &impl Print, list: &[Index], from: usize) -> io::Result<()> {
-    let mut i = from;
-    while i < list.len() {
-        number(rt, wide(list[i]))?;
-        i += 1;
+// The numbers of a list, each after a space.
+fn each(rt: &impl Print, list: &[Index]) -> io::Result<()> {
+    for &x in list {
+        number(rt, u64::from(x))?;
     }
     Ok(())
 }
@@ -98,9 +84,9 @@ fn rest(rt: &impl Print, list: &[Index], from: usize) -> io::Result<()> {
 // The numbers of a list, one after another.
 fn whole(rt: &impl Print, list: &[Index]) -> io::Result<()> {
     rt.write_all(b" [")?;
-    if 0 < list.len() {
-        rt.print(wide(list[0]))?;
-        rest(rt, list, 1)?;
+    if let [first, rest @ ..] = list {
+        rt.print(*first)?;
+        each(rt, rest)?;
     }
     rt.write_all(b"]")
 }
@@ -124,18 +110,14 @@ pub fn lists(rt: &impl Print, counts: &[Index], ends: &[Index], inc: &[Index]) -
 fn widen(list: &[u8], out: &mut [Index]) -> usize
     ensures { IsPrefixLen result out.new }
 {
-    let mut i = 0;
-    while i < out.len() {
-        if list.len() <= i {
-            break;
-        }
-        out[i] = wide_byte(list[i]);
-        i += 1;
+    for (place, &b) in out.iter_mut().zip(list) {
+        *place = Index::from(b);
     }
-    i
+    list.len().min(out.len())
 }
 
 // Room for the bytes of a list as wider numbers: of a list as long as the longest that is lent.
+#[tactic(auto, using(crate::proofs::Counting::repeated))]
 fn room() -> [Index; WRITTEN]
     ensures { 2 * limits.text ≡ length result }
 {
@@ -150,32 +132,26 @@ pub fn bytes(rt: &impl Print, bytes: &[u8]) -> io::Result<()> {
 }
 
 // The byte at a place of a list, 0 past its end.
-fn byte_at(list: &[u8], i: usize) -> u64 {
-    if i < list.len() {
-        wide(wide_byte(list[i]))
-    } else {
-        0
-    }
+fn byte_at(list: &[u8], i: usize) -> u8 {
+    list.get(i).copied().unwrap_or(0)
 }
 
 // The numbers of flag i of a table, where each flag has w numbers, one for each rank; none where the table has no such
 // flag.
+#[tactic(auto, using(crate::proofs::Counting::placed))]
 fn row<'a>(table: &'a [Index], i: u16, w: usize) -> &'a [Index] {
     if limit::RANKS < w {
-        return &table[0..0];
+        return &[];
     }
-    let from = (i as usize) * w;
-    if table.len() < from + w {
-        return &table[0..0];
-    }
-    &table[from..from + w]
+    let from = usize::from(i) * w;
+    table.get(from..from + w).unwrap_or(&[])
 }
 
 // A flag of a table, its orientation first, where each flag has w numbers.
 pub fn flag(rt: &impl Print, table: &[Index], odd: &[u8], i: u16, w: usize) -> io::Result<()> {
     rt.write_all(b" [")?;
-    rt.print(byte_at(odd, i as usize))?;
-    rest(rt, row(table, i, w), 0)?;
+    rt.print(byte_at(odd, usize::from(i)))?;
+    each(rt, row(table, i, w))?;
     rt.write_all(b"]")
 }
 

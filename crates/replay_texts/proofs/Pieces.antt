@@ -3,13 +3,14 @@
 use mathlib.Core.Path.{◌≡◌, refl, sym, ap, ◌∙◌}
 use mathlib.Core.Bool.{Bool, true, false, cond}
 use mathlib.Core.List.{List, [], ◌∷◌, ◌++◌}
-use Prim.Native.Nat.{ℕ, zero, suc, ◌+◌, ◌-◌, ◌≤◌, ◌<◌}
+use Prim.Native.Nat.{ℕ, suc, ◌+◌, ◌-◌, ◌≤◌, ◌<◌}
 use native.Mathlib.Numerals.{add-one}
 use native.Mathlib.Omega.{arith}
 use borrow.Author.Tests.{eq-eqb, ne_eqb}
 use lib.Dec.{eqb}
 use lib.ListN.{length, get_or, drop, length-drop, drop_of_length-le}
 use lib.Seq.{drop-cons, drop-drop}
+use Rattle.replay_reading.proofs.Texts.{take_rest}
 use Rattle.replay_reading.specs.Text.{until, largest, numbers_in}
 use Rattle.replay_texts.specs.Quoted.{onto, parts, unescaped, times_said, copies, pieces, quoted_in}
 
@@ -90,17 +91,19 @@ module _ (t : List ℕ) (from quote : ℕ) (o : quote ≡ from + length (until 3
         ∙ ap pieces (parts_past 34 t (quote + 1) end e l)
         ∙ ap (λ s. pieces (p ∷ s)) (parts_up 34 t (end + 1) next x)
 
--- a piece as often as asked
-pub copies_none : (n : ℕ) (l : List ℕ) → n ≡ 0 → copies n l ≡ []
-unfolding copies
-copies_none n l e = rw e
+-- a piece as often as asked: so often as is left, or not at all
+module _ (n k : ℕ) (l : List ℕ) where
+  pub copies_next : k < n → copies (n - k) l ≡ l ++ copies (n - (k + 1)) l
+  unfolding copies
+  copies_next h =
+      let e : n - k ≡ suc (n - (k + 1)) = omega arith in
+      rw e
 
-pub copies_first : (n : ℕ) (l : List ℕ) → (n ≡ 0 → ⊥) → copies n l ≡ l ++ copies (n - 1) l
-unfolding copies
-copies_first zero l h = absurd (h refl)
-copies_first (suc n) l h =
-    let e : suc n - 1 ≡ n = omega arith in
-    rw e
+  pub copies_done : n ≤ k → copies (n - k) l ≡ []
+  unfolding copies
+  copies_done h =
+      let e : n - k ≡ 0 = omega arith in
+      rw e
 
 -- a piece from place i on
 unescaped_first : (x : ℕ) (t : List ℕ)
@@ -142,3 +145,6 @@ module _ (t : List ℕ) (h : 0 < length t) where
   pub times_once : (get_or t 0 0 ≡ 42 → ⊥) → times_said t ≡ 1
   unfolding times_said
   times_once e = ap times_said (drop-cons t 0 0 h) ∙ rw (ne_eqb _ _ e)
+
+-- the laws of `times_of`
+pub ruleset times = (times_none, times_star, times_once, take_rest)

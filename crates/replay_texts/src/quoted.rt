@@ -12,6 +12,7 @@ const QUOTE: u8 = b'"';
 const ESCAPE: u8 = b'\\';
 
 // Writes a byte at a place, if that is inside, and says where it stopped.
+#[tactic(auto, using(replay_reading::proofs::Stores::sets_out))]
 fn put_byte(out: &mut [u8], at: usize, b: u8) -> usize
     requires { at ≤ length out.old }
     ensures { Stored (b ∷ []) at out.old out.new result }
@@ -48,26 +49,22 @@ fn put_times(piece: &[u8], times: u32, out: &mut [u8], from: usize) -> usize
     requires { from ≤ length out.old }
     ensures { Stored (copies times (unescaped piece.now)) from out.old out.new result }
 {
-    let mut left = times;
     let mut n = from;
-    while left != 0 {
+    for _ in 0..times {
         n = put_once(piece, &mut *out, n);
-        left -= 1;
     }
     n
 }
 
 // How often a piece stands there, by what follows it.
+#[tactic(auto, using(crate::proofs::Pieces::times))]
 fn times_of(rest: &[u8]) -> u32
     ensures { result ≡ times_said rest.now }
 {
-    if rest.len() == 0 {
-        return 1;
+    match rest {
+        [b'*', said @ ..] => reading::number_at(said, 0),
+        _ => 1,
     }
-    if rest[0] == b'*' {
-        return reading::number_at(&rest[1..], 0);
-    }
-    1
 }
 
 // The text in the quotes of a line, into the start of a slice, as far as there is room; says how many bytes it wrote.

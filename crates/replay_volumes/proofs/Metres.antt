@@ -1,7 +1,10 @@
 -- The coordinate of a code, case by case, and the integer that it is; coordinates written one after another.
 -- Assumes nothing.
-use Rattle.std.proofs.Common.{◌≡◌, ℕ, suc, ◌+◌, ◌-◌, ◌^◌, ◌<◌, ◌≤◌, Bool, true, false, cond, ltb, List, [], ◌∷◌, map, length, get_or, drop, set, pos, negsuc, ◌-ℤ◌, refl, add-one, arith, drop_of_length-le, length-take, drop-cons, w64, SFits, to_z, of_z, ne_eqb, le-leb}
-use borrow.Author.Tests.{lt-leb}
+use Rattle.std.proofs.Common.{◌≡◌, ℕ, suc, ◌+◌, ◌-◌, ◌^◌, ◌<◌, ◌≤◌, Bool, true, false, cond, ltb, min}
+use Rattle.std.proofs.Common.{List, [], ◌∷◌, map, length, get_or, drop, set, pos, negsuc, ◌-ℤ◌, refl, add-one, arith}
+use Rattle.std.proofs.Common.{drop_of_length-le, length-take, drop-cons, w64, SFits, to_z, of_z, ne_eqb, le-leb}
+use borrow.Author.Tests.{lt-leb, leb-true, leb-false}
+use lib.Dec.{leb}
 use mir.ValLaws.{to_z_pos, to_z-of_z}
 use lib.Signed.{mag}
 use lib.Seq.{sets, set_out}
@@ -55,11 +58,17 @@ module _ (codes : List ℕ) (l : List Float) (n : ℕ) where
   write_next h = rw (add-one, drop-cons codes n 0 h)
 
   -- no code is left, or no room
-  pub write_none : length codes ≤ n → sets l n (map metres_for (drop n codes)) ≡ l
-  write_none h = rw (drop_of_length-le codes h)
-
-  pub write_past : length l ≤ n → sets l n (map metres_for (drop n codes)) ≡ l
-  write_past h = sets_past l n (map metres_for (drop n codes)) h
+  pub write_end : min (length codes) (length l) ≤ n → sets l n (map metres_for (drop n codes)) ≡ l
+  write_end h = go (leb (length codes) (length l)) refl
+    where
+      go : (q : Bool) → leb (length codes) (length l) ≡ q → sets l n (map metres_for (drop n codes)) ≡ l
+      go true e =
+          let few : length codes ≤ length l = leb-true (length codes) (length l) e in
+          let none : length codes ≤ n = omega arith in
+          rw (drop_of_length-le codes none)
+      go false e =
+          let short : length l < length codes = leb-false (length codes) (length l) e in
+          sets_past l n (map metres_for (drop n codes)) (omega arith)
 
 pub begins : (n : ℕ) (l : List Float) → n ≤ length l → Lendable n l
 begins n l h = (h, simp length-take (omega arith))

@@ -26,13 +26,9 @@ pub fn put_metres(codes: &[Index], out: &mut [f64]) -> usize
     ensures metres_stored { MetresStored codes.now out.old out.new result }
     ensures lendable { Lendable result out.new }
 {
-    let mut n = 0;
-    while n < out.len() {
-        if codes.len() <= n {
-            break;
-        }
-        out[n] = metres_of(codes[n]);
-        n += 1;
+    let n = codes.len().min(out.len());
+    for i in 0..n {
+        out[i] = metres_of(codes[i]);
     }
     n
 }

@@ -22,12 +22,10 @@ const TOO_LARGE: f64 = 18446744073709551616.0;
 
 // The digits of a whole number; a question mark for any number that is not whole, or negative, or too large.
 fn digits(rt: &impl Print, x: f64) -> io::Result<()> {
-    if x > -1.0 {
-        if x < TOO_LARGE {
-            let n = std::num::truncating_f64_to_u64(x);
-            if std::num::nearest_u64_to_f64(n) == x {
-                return rt.print(n);
-            }
+    if x > -1.0 && x < TOO_LARGE {
+        let n = std::num::truncating_f64_to_u64(x);
+        if std::num::nearest_u64_to_f64(n) == x {
+            return rt.print(n);
         }
     }
     rt.write_all(b"?")
@@ -35,10 +33,7 @@ fn digits(rt: &impl Print, x: f64) -> io::Result<()> {
 
 // Whether a number has a minus sign, which -0.0 has too.
 fn is_minus(x: f64) -> bool {
-    if x < 0.0 {
-        return true;
-    }
-    1.0 / x < 0.0
+    x < 0.0 || 1.0 / x < 0.0
 }
 
 // A whole number with its sign, after a space.

@@ -32,56 +32,49 @@ pub struct Cursor {
 pub fn is_marked(count: u16, place: u16) -> bool
     ensures { result ≡ marked count place }
 {
-    if 1 <= place {
-        return place <= count;
-    }
-    false
+    1 <= place && place <= count
 }
 
 // The event at a place of the row.
+#[tactic(auto, unfolding(crate::specs::Events::event_at))]
 pub fn event_at(at: u32, count: u16, place: u16) -> Event
     ensures { result ≡ event_at at count place }
 {
-    let n = count as u32;
-    let p = place as u32;
-    if is_marked(count, place) {
-        if at < p {
-            return Event::Flag(at as u16);
-        }
-        if at == p {
-            return Event::NonOrientable;
-        }
-        if at <= n {
-            return Event::Flag((at - 1) as u16);
-        }
-        return Event::Nothing;
+    let told = is_marked(count, place);
+    if told && at == u32::from(place) {
+        return Event::NonOrientable;
     }
-    if at < n {
-        return Event::Flag(at as u16);
+    // Past NonOrientable the flags stand one place further on.
+    let flag = if told && u32::from(place) < at {
+        at - 1
+    } else {
+        at
+    };
+    if flag < u32::from(count) {
+        Event::Flag(flag as u16)
+    } else {
+        Event::Nothing
     }
-    Event::Nothing
 }
 
 // How many events there are.
+#[tactic(auto, unfolding(crate::specs::Events::events))]
 pub fn events_in(count: u16, place: u16) -> u32
     ensures { result ≡ events count place }
 {
-    let n = count as u32;
-    if is_marked(count, place) {
-        return n + 1;
-    }
-    n
+    u32::from(count) + u32::from(is_marked(count, place))
 }
 
 // The place after a place: the same past the last event.
+#[tactic(auto, unfolding(crate::specs::Events::next_at))]
 pub fn next_at(at: u32, count: u16, place: u16) -> u32
     ensures { result ≡ next_at at count place }
 {
-    let n = events_in(count, place);
-    if at < n {
-        return at + 1;
+    if at < events_in(count, place) {
+        at + 1
+    } else {
+        at
     }
-    at
 }
 
 // The next event; the cursor goes on to the place after it, and stays past the last.
@@ -94,6 +87,7 @@ pub fn next_event(c: &mut Cursor, count: u16, place: u16) -> Event
 }
 
 // An event as numbers, for callers that have no enum.
+#[tactic(auto, unfolding(crate::specs::Events::said_of))]
 pub fn numbers(e: Event) -> Said
     ensures { result ≡ said_of e }
 {

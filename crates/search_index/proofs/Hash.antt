@@ -99,5 +99,6 @@ module _ (f : List ℕ) (i y : ℕ) (h : i < length f) where
   pub hash_changed : (sum_from 0 f + y * weight i - get_or f i 0 * weight i) % hashes ≡ hash_of (set f i y)
   unfolding hash_of
   hash_changed =
-      let z : sum_from 0 f + y * weight i - get_or f i 0 * weight i ≡ sum_from 0 (set f i y) = omega (arith, sum_changed) in
+      let z : sum_from 0 f + y * weight i - get_or f i 0 * weight i ≡ sum_from 0 (set f i y) =
+      omega (arith, sum_changed) in
       rw z

@@ -99,7 +99,8 @@ module _ (w n : ℕ) (table heads next flag : List ℕ) (x : Indexed w n table h
         → get_or (set next n (get_or heads h 0)) k 0 ≡ latest hash_of (row_of w T) (hash_of (row_of w T k)) k
     chain_more k b = go (ℕ_discrete k n)
       where
-        go : Dec (k ≡ n) → get_or (set next n (get_or heads h 0)) k 0 ≡ latest hash_of (row_of w T) (hash_of (row_of w T k)) k
+        go : Dec (k ≡ n)
+            → get_or (set next n (get_or heads h 0)) k 0 ≡ latest hash_of (row_of w T) (hash_of (row_of w T k)) k
         go (yes q) =
             rw (q, last) (get_or-set_same next n (get_or heads h 0) 0 (omega (arith, x.all_next))
             ∙ x.head h i ∙ alike h n (omega arith))
@@ -109,7 +110,9 @@ module _ (w n : ℕ) (table heads next flag : List ℕ) (x : Indexed w n table h
             ∙ rw (row_stays k l) (alike (hash_of (row_of w table k)) k (omega arith))
 
     missing : n ≤ index_in same_list (rows w table n) (take w flag) → ¬ Memᴰ (take w flag) (rows w table n)
-    missing l m = omega (arith, index_in_lem same_list same_decides (rows w table n) (take w flag) m, rows_length w table n)
+    missing l m =
+        let i = index_in_lem same_list same_decides (rows w table n) (take w flag) m in
+        omega (arith, i, rows_length w table n)
 
     pub index_more : n ≤ index_in same_list (rows w table n) (take w flag)
         → Indexed w (n + 1) T (set heads h (n + 1)) (set next n (get_or heads h 0))

@@ -1,21 +1,21 @@
 -- Flags in a table: whether two are the same, the rows one after another, and one more row.
 -- Assumes nothing.
 use mathlib.Core.Path.{◌≡◌, refl, sym, ap, ap₂, ◌∙◌}
-use mathlib.Core.Bool.{Bool, true, false, true≢false}
+use mathlib.Core.Bool.{Bool, true, false, true≢false, ◌&&◌}
 use mathlib.Core.List.{List, [], ◌∷◌, ◌++◌, append_assoc, append-nil}
-use Prim.Native.Nat.{ℕ, zero, suc, ◌+◌, ◌*◌, ◌≤◌, ◌<◌}
+use Prim.Native.Nat.{ℕ, zero, suc, ◌+◌, ◌-◌, ◌*◌, ◌≤◌, ◌<◌}
 use native.Mathlib.Nat.{mul-le-mul_right, suc-mul, zero-mul}
 use native.Mathlib.Numerals.{add-one}
 use native.Mathlib.Omega.{arith}
-use borrow.Author.Tests.{eq-eqb, ne_eqb, eqb-true, eqb-false}
+use borrow.Author.Tests.{eq-eqb, eqb-true, eqb-false}
 use lib.Dec.{eqb}
-use lib.ListN.{length, get_or, take, drop, set, length-drop, drop_of_length-le, get_or-append}
-use lib.Seq.{length-take-le, take_all, drop-cons, take_at, get_or_at, get_or-take, get_or-drop, take-add}
+use lib.ListN.{length, get_or, take, drop, length-drop, get_or-append}
+use lib.Seq.{length-take-le, take_at, get_or_at, get_or-take, get_or-drop, take-add}
 use lib.Seq.{take-append-le, drop-append-le, drop_at, ext_get_or, paste, length_paste_head, length-paste}
-use lib.Seq.{drop-paste, paste-suc}
+use lib.Seq.{drop-paste}
+use Rattle.std.specs.Cmp.Lexicographic.{pointwise}
 use Rattle.order.specs.Lists.{over}
 use Rattle.order.proofs.Tests.{and_true}
-use Rattle.order.proofs.Over.{over_next}
 use Rattle.search_theory.specs.Search.{Decides}
 use Rattle.search_theory.proofs.Once.{length_snoc}
 use Rattle.search_index.specs.Rows.{row_of, rows, same_list, flatten}
@@ -39,6 +39,14 @@ same_eq (x ∷ l) (y ∷ m) e =
 pub same_decides : Decides same_list
 same_decides l m = (same_eq l m, λ e. rw e (same_refl m))
 
+-- what `==` on slices answers
+pub pointwise_same : (l m : List ℕ) → pointwise eqb l m ≡ same_list l m
+unfolding same_list
+pointwise_same [] [] = refl
+pointwise_same [] (y ∷ m) = refl
+pointwise_same (x ∷ l) [] = refl
+pointwise_same (x ∷ l) (y ∷ m) = ap (λ q. eqb x y && q) (pointwise_same l m)
+
 -- ---- one row
 
 pub row_end : (k n w : ℕ) → k < n → k * w + w ≤ n * w
@@ -53,35 +61,17 @@ module _ (w : ℕ) (table : List ℕ) (k : ℕ) where
   unfolding row_of
   row_at j h = get_or-take w (drop (k * w) table) j 0 h ∙ get_or-drop (k * w) table j 0
 
--- a row is compared with a flag, number by number: the answer to the whole is the answer to what is left
-abbrev pub left : ℕ → List ℕ → ℕ → List ℕ → ℕ → Bool
-left w table k flag j = same_list (drop j (row_of w table k)) (drop j (take w flag))
+-- the numbers of the table from where row k begins to where it ends
+pub row_between : (w : ℕ) (table : List ℕ) (k : ℕ) → take (k * w + w - k * w) (drop (k * w) table) ≡ row_of w table k
+unfolding row_of
+row_between w table k =
+    let z : k * w + w - k * w ≡ w = omega arith in
+    rw z
 
-module _ (w : ℕ) (table : List ℕ) (k : ℕ) (flag : List ℕ) (h : k * w + w ≤ length table) (g : w ≤ length flag) where
-  module _ (W : Bool) (j : ℕ) (e : W ≡ left w table k flag j) where
-    split_row : j < w → drop j (row_of w table k) ≡ get_or table (k * w + j) 0 ∷ drop (suc j) (row_of w table k)
-    split_row i =
-        drop-cons (row_of w table k) j 0 (omega (arith, row_length w table k h))
-        ∙ ap (λ x. x ∷ drop (suc j) (row_of w table k)) (row_at w table k j i)
-
-    split_flag : j < w → drop j (take w flag) ≡ get_or flag j 0 ∷ drop (suc j) (take w flag)
-    split_flag i =
-        drop-cons (take w flag) j 0 (omega (arith, length-take-le w flag g))
-        ∙ ap (λ x. x ∷ drop (suc j) (take w flag)) (get_or-take w flag j 0 i)
-
-    pub same_next : j < w → get_or table (k * w + j) 0 ≡ get_or flag j 0 → W ≡ left w table k flag (j + 1)
-    unfolding same_list
-    same_next i q = e ∙ rw (add-one, split_row i, split_flag i, eq-eqb _ _ q)
-
-    pub same_stop : j < w → (get_or table (k * w + j) 0 ≡ get_or flag j 0 → ⊥) → W ≡ false
-    unfolding same_list
-    same_stop i q = e ∙ rw (split_row i, split_flag i, ne_eqb (get_or table (k * w + j) 0) (get_or flag j 0) q)
-
-    pub same_end : w ≤ j → W ≡ true
-    unfolding same_list
-    same_end i =
-        e ∙ rw (drop_of_length-le (row_of w table k) {i = j} (omega (arith, row_length w table k h)))
-        (rw (drop_of_length-le (take w flag) {i = j} (omega (arith, length-take-le w flag g))))
+-- a row that is copied to the beginning of an array is written over it
+pub row_over : (w : ℕ) (table old : List ℕ) (k : ℕ) → k * w + w ≤ length table
+    → row_of w table k ++ drop w old ≡ over (row_of w table k) old
+row_over w table old k h = rw (row_length w table k h)
 
 -- a row is as the first numbers of the table are
 row_kept : (w : ℕ) (t u : List ℕ) (k n : ℕ) → k < n → n * w ≤ length t → n * w ≤ length u
@@ -99,18 +89,6 @@ row_kept w t u k n h p q e =
         let b : k * w + j < n * w = omega (arith, row_end k n w h) in
         row_at w u k j l ∙ sym (get_or-take (n * w) u (k * w + j) 0 b) ∙ ap (λ l. get_or l (k * w + j) 0) e
         ∙ get_or-take (n * w) t (k * w + j) 0 b ∙ sym (row_at w t k j l)
-
--- a row is copied to the beginning of an array, number by number
-module _ (w : ℕ) (table : List ℕ) (k : ℕ) (h : k * w + w ≤ length table) (old flag : List ℕ) (j : ℕ)
-    (e : flag ≡ over (take j (row_of w table k)) old) where
-  pub copy_next : j < length old → j < w
-      → set flag j (get_or table (k * w + j) 0) ≡ over (take (j + 1) (row_of w table k)) old
-  copy_next i l =
-      rw (e, ← row_at w table k j l)
-      (over_next (row_of w table k) old j (omega (arith, row_length w table k h)) i)
-
-  pub copy_end : w ≤ j → flag ≡ over (row_of w table k) old
-  copy_end i = e ∙ ap (λ l. over l old) (take_all j (row_of w table k) (omega (arith, row_length w table k h)))
 
 -- ---- the first rows
 
@@ -160,11 +138,6 @@ rows_kept w t u (suc m) n h p q e =
     ap₂ (λ l f. l ++ (f ∷ [])) (rows_kept w t u m n (omega arith) p q e) (row_kept w t u m n h p q e)
 
 -- ---- one more row
-
--- a row is written, number by number
-pub put_next : (t : List ℕ) (at : ℕ) (f : List ℕ) (j : ℕ) (u : List ℕ) → u ≡ paste t at f j → at + j < length t
-    → j < length f → set u (at + j) (get_or f j 0) ≡ paste t at f (j + 1)
-put_next t at f j u e h g = rw (e, add-one) (paste-suc t at f j 0 h g)
 
 module _ (w : ℕ) (t : List ℕ) (n : ℕ) (f : List ℕ) (h : n * w + w ≤ length t) (g : w ≤ length f) where
   -- the table with f in row n

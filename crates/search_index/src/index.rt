@@ -15,14 +15,13 @@ use listing::{Index, inner, limit};
 pub const HASHES: usize = 16381;
 
 // The weights of the ranks.
+#[tactic(auto, using(crate::proofs::Hash::weight_small))]
 pub fn weights() -> [usize; limit::RANKS]
     ensures { Weights result }
 {
     let mut a = [1usize; limit::RANKS];
-    let mut r: usize = 1;
-    while r < limit::RANKS {
+    for r in 1..limit::RANKS {
         a[r] = a[r - 1] * 5741 % HASHES;
-        r += 1;
     }
     a
 }
@@ -32,16 +31,15 @@ pub fn sum_of(flag: &[Index; limit::RANKS], w: usize, weights: &[usize; limit::R
     requires { (w ≤ limits.ranks) × (length flag.now ≡ limits.ranks) × Weights weights.now }
     ensures { (result ≡ sum_from 0 (take w flag.now)) × (result ≤ w * (width * hashes)) }
 {
-    let mut s: usize = 0;
-    let mut r: usize = 0;
-    while r < w {
-        s += inner::wide(flag[r]) * weights[r];
-        r += 1;
+    let mut sum: usize = 0;
+    for (&x, &weight) in flag[..w].iter().zip(weights) {
+        sum += inner::wide(x) * weight;
     }
-    s
+    sum
 }
 
 // The hash of a flag after a number in it changes: the sum was that of the whole flag, and the weight is the number's.
+#[tactic(auto, using(crate::proofs::Hash::times_small))]
 pub fn hash_changed(sum: usize, weight: usize, old: u16, new: u16) -> usize
     requires { (sum ≤ limits.ranks * (width * hashes)) × (weight < hashes) × (old * weight ≤ sum + new * weight) }
     ensures { result ≡ (sum + new * weight - old * weight) % hashes }
@@ -50,6 +48,7 @@ pub fn hash_changed(sum: usize, weight: usize, old: u16, new: u16) -> usize
 }
 
 // The row of the flag at hand among the first n, n where it stands in none. Its hash is h.
+#[tactic(auto, using(crate::proofs::Hash::hash_small, crate::proofs::Rows::row_end))]
 pub fn find(
     table: &[Index],
     heads: &[u16; HASHES],

@@ -7,51 +7,32 @@ ghost use Rattle.search_index.specs.Rows.{same_list, row_of};
 
 use listing::{Index, limit};
 
-// The lesser of two numbers.
-fn least(a: usize, b: usize) -> usize
-    ensures { result ≡ min a b }
-{
-    if b < a {
-        return b;
-    }
-    a
-}
-
 // How many flags there is room for: the whole rows of w numbers in a table, the bytes, and the limit.
 pub fn room_of(table: usize, bytes: usize, w: usize) -> usize
     requires { 0 < w }
     ensures { result ≡ min (min (table / w) bytes) limits.flags }
 {
-    least(least(table / w, bytes), limit::FLAGS)
+    (table / w).min(bytes).min(limit::FLAGS)
 }
 
 // Whether the flag at hand stands in row k.
+#[tactic(auto, using(crate::proofs::Rows::pointwise_same, crate::proofs::Rows::row_between))]
 pub fn same_row(table: &[Index], k: usize, w: usize, flag: &[Index; limit::RANKS]) -> bool
     requires { (w ≤ limits.ranks) × (k * w + w ≤ length table.now) × (length flag.now ≡ limits.ranks) }
     ensures { result ≡ same_list (row_of w table.now k) (take w flag.now) }
 {
     let at = k * w;
-    let mut j: usize = 0;
-    while j < w {
-        if table[at + j] != flag[j] {
-            return false;
-        }
-        j += 1;
-    }
-    true
+    table[at..at + w] == flag[..w]
 }
 
 // Row k becomes the flag at hand; past it the array stays.
+#[tactic(auto, using(crate::proofs::Rows::row_over, crate::proofs::Rows::row_between))]
 pub fn get_row(table: &[Index], k: usize, w: usize, flag: &mut [Index; limit::RANKS])
     requires { (w ≤ limits.ranks) × (k * w + w ≤ length table.now) × (length flag.old ≡ limits.ranks) }
     ensures { flag.new ≡ over (row_of w table.now k) flag.old }
 {
     let at = k * w;
-    let mut j: usize = 0;
-    while j < w {
-        flag[j] = table[at + j];
-        j += 1;
-    }
+    flag[..w].copy_from_slice(&table[at..at + w]);
 }
 
 // The flag at hand is written into row k.
@@ -60,9 +41,5 @@ pub fn put_row(table: &mut [Index], k: usize, w: usize, flag: &[Index; limit::RA
     ensures { table.new ≡ paste table.old (k * w) flag.now w }
 {
     let at = k * w;
-    let mut j: usize = 0;
-    while j < w {
-        table[at + j] = flag[j];
-        j += 1;
-    }
+    table[at..at + w].copy_from_slice(&flag[..w]);
 }

@@ -3,25 +3,19 @@
 use mathlib.Core.Path.{◌≡◌, refl, sym, ◌∙◌}
 use mathlib.Core.Bool.{Bool, true, false, cond, ◌&&◌}
 use mathlib.Core.Logic.{◌↔◌}
-use Prim.Native.Nat.{ℕ, ◌+◌, ◌-◌, ◌^◌, ◌≤◌, ◌<◌}
+use Prim.Native.Nat.{ℕ, ◌^◌, ◌<◌}
 use native.Mathlib.Omega.{arith}
-use borrow.Author.Tests.{eqb-true, leb-true, ltb-true, lt-ltb}
-use lib.Dec.{eqb, leb, ltb}
+use borrow.Author.Tests.{eqb-true, ltb-true, lt-ltb}
+use lib.Dec.{eqb, ltb}
 use Rattle.order.specs.Tests.{every}
 use Rattle.order.proofs.Tests.{and_true, every_each}
 use Rattle.listing.specs.Listing.{width, limits}
 use Rattle.search_masks.specs.Masks.{bit_at, InMask, every_rank}
 
--- a power of two that a mask can hold, and one that the two lowest bits can be taken from
+-- a power of two that a mask can hold
 pub power_fits : (r : ℕ) → r < limits.ranks → 2 ^ r < width
 unfolding every
 power_fits r h = ltb-true _ _ (every_each (λ k. ltb (2 ^ k) width) limits.ranks refl r h)
-
-pub power_two : (r : ℕ) → 0 < r → r < limits.ranks → 2 ≤ 2 ^ r
-unfolding every
-power_two r p h =
-    let e : r ≡ 1 + (r - 1) = omega arith in
-    rw e (leb-true _ _ (every_each (λ k. leb 2 (2 ^ (1 + k))) limits.ranks refl (r - 1) (omega arith)))
 
 -- bit r of the mask, by looking
 bit_every : (n r : ℕ) → n < limits.ranks → r < limits.ranks

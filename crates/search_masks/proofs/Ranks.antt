@@ -10,6 +10,8 @@ use native.Mathlib.Omega.{arith}
 use borrow.Author.Tests.{eq-eqb, ne_eqb, eqb-true, ltb-true, lt-ltb}
 use lib.Dec.{eqb, ltb}
 use lib.Count.{count_trailing_zeros, under}
+use Rattle.std.proofs.Math.Bool.{and_assoc, and-true}
+use Rattle.std.specs.List.{list_all, range_with_len}
 use Rattle.order.specs.Lists.{In, Ascending}
 use Rattle.order.proofs.Tests.{and_true}
 use Rattle.order.specs.Tests.{every}
@@ -27,7 +29,7 @@ bit_zero n = ap (λ x. x % 2) (div-one n)
 bit_suc : (n i : ℕ) → bit_at n (suc i) ≡ bit_at (n / 2) i
 bit_suc n i = ap (λ x. n / x % 2) (pow-succ' 2 i) ∙ ap (λ x. x % 2) (sym (div-div-eq-div-mul n 2 (2 ^ i)))
 
-bit_unset : (n i : ℕ) → (bit_at n i ≡ 1 → ⊥) → bit_at n i ≡ 0
+pub bit_unset : (n i : ℕ) → (bit_at n i ≡ 1 → ⊥) → bit_at n i ≡ 0
 bit_unset n i h = omega (arith, mod-lt (n / 2 ^ i) {m = 2} (omega arith))
 
 module _ (k b n : ℕ) where
@@ -113,6 +115,20 @@ bits_ascend (suc k) b n = go (eqb (n % 2) 1) (bits_ascend k (b + 1) (n / 2))
 pub ranks_ascend : (mask : ℕ) → Ascending (ranks_of mask)
 ranks_ascend mask = bits_ascend limits.ranks 0 mask
 
+-- ---- the test of one rank after another is the test of all ranks
+
+all_from : (t : ℕ → Bool) (a n : ℕ)
+    → list_all t (range_with_len a (suc n)) ≡ list_all t (range_with_len a n) && t (a + n)
+all_from t a zero = let z : a + 0 ≡ a = omega arith in rw z (and-true (t a))
+all_from t a (suc n) =
+    let z : a + 1 + n ≡ a + suc n = omega arith in
+    ap (λ q. t a && q) (rw z at (all_from t (a + 1) n)) ∙ sym (and_assoc (t a) _ _)
+
+pub all_every : (t : ℕ → Bool) (n : ℕ) → list_all t (range_with_len 0 n) ≡ every t n
+unfolding every
+all_every t zero = refl
+all_every t (suc n) = let z : 0 + n ≡ n = omega arith in rw (all_from t 0 n, z, all_every t n)
+
 -- ---- the mask fits exactly if it asks for inner ranks only
 
 module _ (rank mask : ℕ) where
@@ -125,11 +141,11 @@ module _ (rank mask : ℕ) where
       (ltb-true _ _ p.0, ltb-true _ _ p.1)
 
   -- the test at a rank that is not asked for, and at one that is
-  pub unset_test : (r : ℕ) → eqb (bit_at mask r) 1 ≡ false → test r ≡ true
+  unset_test : (r : ℕ) → eqb (bit_at mask r) 1 ≡ false → test r ≡ true
   unset_test r e = rw (eq-eqb (bit_at mask r) 0
       (bit_unset mask r (λ s. true≢false (sym (eq-eqb (bit_at mask r) 1 s) ∙ e))))
 
-  pub set_is : (r : ℕ) → eqb (bit_at mask r) 1 ≡ true → test r ≡ (ltb 0 r && ltb r rank)
+  set_is : (r : ℕ) → eqb (bit_at mask r) 1 ≡ true → test r ≡ (ltb 0 r && ltb r rank)
   set_is r e =
       let s = eqb-true (bit_at mask r) 1 e in
       rw (ne_eqb (bit_at mask r) 0 (λ z. omega arith))

@@ -18,49 +18,36 @@ fn in_mask(mask: u16, r: u16) -> bool
 }
 
 // Whether rank r is not to be changed, or can be: from 1 to rank - 1.
+#[tactic(auto, using(crate::proofs::Ranks::bit_unset))]
 fn allowed(mask: u16, rank: usize, r: u16) -> bool
     requires { r < limits.ranks }
     ensures { result ≡ (eqb (bit_at mask r) 0 || (ltb 0 r && ltb r rank)) }
 {
-    if !in_mask(mask, r) {
-        return true;
-    }
-    if r == 0 {
-        return false;
-    }
-    inner::wide(r) < rank
+    !in_mask(mask, r) || (0 < r && inner::wide(r) < rank)
 }
 
 // Whether the mask asks for ranks from 1 to rank - 1 only.
 pub fn fits(mask: u16, rank: usize) -> bool
     ensures { result ≡ mask_fits rank mask }
 {
-    let mut r: u16 = 0;
-    while r < BITS {
-        if !allowed(mask, rank, r) {
-            return false;
-        }
-        r += 1;
-    }
-    true
+    (0..BITS).all(|r| allowed(mask, rank, r))
 }
 
 // The mask that asks for every change of a cell of that rank: at 1 to rank - 1.
+#[tactic(auto, using(crate::proofs::Every::power_fits))]
 pub fn every(rank: usize) -> u16
     requires { rank < limits.ranks }
     ensures { result ≡ every_rank rank }
 {
-    if rank == 0 {
-        return 0;
-    }
-    (1u16 << rank) - 2
+    // One bit less 2: all bits below it but the lowest. For rank 0 that would fall below 0, and there is no change.
+    (1u16 << rank).saturating_sub(2)
 }
 
 // Whether any change is left.
 pub fn any_left(left: u16) -> bool
     ensures { result ≡ ltb 0 left }
 {
-    u16::count_ones(left) != 0
+    left != 0
 }
 
 // The rank of the next change.
@@ -68,7 +55,7 @@ pub fn lowest(left: u16) -> u16
     requires { 0 < left }
     ensures { (result ≡ count_trailing_zeros limits.ranks left) × (result < limits.ranks) }
 {
-    u16::trailing_zeros(left) as u16
+    left.trailing_zeros() as u16
 }
 
 // The changes that are left after that at rank r.

@@ -48,19 +48,20 @@ module _ (w room : ℕ) (table bytes : List ℕ) (s : Progress) (o : s.overflow 
     stored : get_or (take s.count bytes) k 0 ≡ get_or bytes k 0
     stored = get_or-take s.count bytes k 0 h
 
-    pub known_same : get_or bytes k 0 ≡ b → state_of w table bytes s ≡ meet same_list room b (state_of w table bytes s) y
+    pub known_same : get_or bytes k 0 ≡ b
+        → state_of w table bytes s ≡ meet same_list room b (state_of w table bytes s) y
     unfolding state_of
     known_same q =
         sym (known
         ∙ again_is (state_of w table bytes s) b k s.place (place_same b (state_of w table bytes s) k (stored ∙ q)))
 
     pub known_first : s.place ≡ 0 → (get_or bytes k 0 ≡ b → ⊥)
-        → state_of w table bytes (record { count = s.count; place = s.count; overflow = false })
+        → state_of w table bytes (record { count = s.count; place = s.count; overflow = s.overflow })
         ≡ meet same_list room b (state_of w table bytes s) y
     unfolding state_of
     known_first z n =
-        rw (← o) (sym (known ∙ again_is (state_of w table bytes s) b k s.count
-        (place_first b (state_of w table bytes s) k z (λ q. n (sym stored ∙ q)) ∙ rows_length w table s.count)))
+        sym (known ∙ again_is (state_of w table bytes s) b k s.count
+        (place_first b (state_of w table bytes s) k z (λ q. n (sym stored ∙ q)) ∙ rows_length w table s.count))
 
   -- ---- it is new
 
@@ -79,11 +80,11 @@ module _ (w room : ℕ) (table bytes : List ℕ) (s : Progress) (o : s.overflow 
 
     new_added : (table' bytes' : List ℕ) → rows w table' (s.count + 1) ≡ rows w table s.count ++ (y ∷ [])
         → take (s.count + 1) bytes' ≡ take s.count bytes ++ (b ∷ []) → s.count < room
-        → state_of w table' bytes' (record { count = s.count + 1; place = s.place; overflow = false })
+        → state_of w table' bytes' (record { count = s.count + 1; place = s.place; overflow = s.overflow })
         ≡ meet same_list room b (state_of w table bytes s) y
     unfolding state_of
     new_added table' bytes' p q r =
-        rw (p, q, ← o)
+        rw (p, q)
         (sym (meet_new same_list room b (state_of w table bytes s) y o unknown
         (omega (arith, rows_length w table s.count))))
 
@@ -141,7 +142,7 @@ module _ (w room : ℕ) (table bytes heads next : List ℕ) (s : Progress)
       bytes_past = drop-set-lt (n + 1) bytes n b (omega arith);
     }
 
-    added_state : state_of w table' (set bytes n b) (record { count = n + 1; place = s.place; overflow = false })
+    added_state : state_of w table' (set bytes n b) (record { count = n + 1; place = s.place; overflow = s.overflow })
         ≡ meet same_list room b (state_of w table bytes s) (take w flag)
     added_state =
         new_added w room table bytes s o b (take w flag) _ refl i table' (set bytes n b)
@@ -149,6 +150,6 @@ module _ (w room : ℕ) (table bytes heads next : List ℕ) (s : Progress)
         (rw add-one (take-suc-set bytes n b (omega (arith, H.room_bytes)))) r
 
     pub moved_added : Moved w room table bytes s (paste table (n * w) flag w) (set bytes n b) (set heads h (n + 1))
-        (set next n (get_or heads h 0)) (record { count = n + 1; place = s.place; overflow = false })
+        (set next n (get_or heads h 0)) (record { count = n + 1; place = s.place; overflow = s.overflow })
         (meet same_list room b (state_of w table bytes s) (take w flag))
     moved_added = record { state = added_state; held = added_held; more = omega arith; rest = added_rest }

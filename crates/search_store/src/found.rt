@@ -20,6 +20,7 @@ pub struct Progress {
 }
 
 // The flag at hand, whose hash is h, goes into row n, with a byte.
+#[tactic(auto, using(search_index::proofs::Hash::hash_small))]
 fn add(
     table: &mut [Index],
     bytes: &mut [u8],
@@ -45,6 +46,7 @@ fn add(
 }
 
 // The flag at hand is met, and should have the byte.
+#[tactic(auto, using(crate::proofs::Meets::row_fits))]
 pub fn meet(
     table: &mut [Index],
     bytes: &mut [u8],
@@ -68,29 +70,17 @@ pub fn meet(
     let n = s.count;
     let k = index::find(&*table, heads, next, flag, w, h, n);
     if k < n {
-        if s.place != 0 {
+        if s.place != 0 || bytes[inner::wide(k)] == byte {
             return s;
         }
-        if bytes[inner::wide(k)] == byte {
-            return s;
-        }
-        return Progress {
-            count: n,
-            place: n,
-            overflow: false,
-        };
+        return Progress { place: n, ..s };
     }
     if inner::wide(n) < room {
         add(table, bytes, heads, next, flag, w, h, byte, n);
-        return Progress {
-            count: n + 1,
-            place: s.place,
-            overflow: false,
-        };
+        return Progress { count: n + 1, ..s };
     }
     Progress {
-        count: n,
-        place: s.place,
         overflow: true,
+        ..s
     }
 }

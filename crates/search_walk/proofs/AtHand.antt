@@ -9,14 +9,17 @@ use lib.ListN.{length, get_or, take, set, replicate, length-replicate}
 use lib.Seq.{length-take-le, get_or-take, take-set-lt, set-set, set-get_or}
 use Rattle.order.specs.Lists.{over}
 use Rattle.order.proofs.Over.{over_length, over_first}
-use Rattle.listing.specs.Listing.{Listing, limits, rank, subs, sups}
+use Rattle.listing.specs.Listing.{width, Listing, limits, rank, subs, sups}
 use Rattle.valid.specs.Closed.{Closed}
+use Rattle.flag_change.specs.Flags.{IsFlag}
 use Rattle.flag_change.specs.declared.chain.Replaced.{Replaced}
-use Rattle.flag_change.specs.Change.{common, other, between, replaced_at, change_at, Flanked}
+use Rattle.flag_change.specs.Change.{common, other, between, replaced_at, change_at}
 use Rattle.flag_change.proofs.Replaced.{taken_is}
-use Rattle.search_index.specs.Hash.{hashes, weight, hash_of}
+use Rattle.search_index.specs.Rows.{row_of}
+use Rattle.search_index.proofs.Rows.{row_end, row_length}
+use Rattle.search_index.specs.Hash.{hashes, weight, sum_from, hash_of}
 use Rattle.search_index.proofs.Hash.{old_inside, hash_changed}
-use Rattle.search_walk.specs.Ready.{AtHand}
+use Rattle.search_walk.specs.Ready.{AtHand, Ready, Walks}
 
 -- a row at the beginning of the array
 module _ (w : ℕ) (row : List ℕ) (e : length row ≡ w) (h : w ≤ limits.ranks) where
@@ -27,6 +30,29 @@ module _ (w : ℕ) (row : List ℕ) (e : length row ≡ w) (h : w ≤ limits.ran
 
   pub array_first : take w (over row (replicate limits.ranks 0)) ≡ row
   array_first = over_first row (replicate limits.ranks 0) w e
+
+-- row k of a table whose rows are walked
+pub walked_row : {L : Listing} {places weights table bytes heads next : List ℕ} {mask room n k : ℕ}
+    → Walks L places weights mask room table bytes heads next n → k < n
+    → k * length L.counts + length L.counts ≤ length table
+walked_row {L} {n = n} {k = k} W h = omega (arith, row_end k n (length L.counts) h, W.rows.indexed.fits)
+
+module _ (L : Listing) (table : List ℕ) (k : ℕ) {flag : List ℕ} (few : length L.counts ≤ limits.ranks)
+    (h : k * length L.counts + length L.counts ≤ length table)
+    (e : flag ≡ over (row_of (length L.counts) table k) (replicate limits.ranks 0)) where
+  pub row_long : length flag ≡ limits.ranks
+  row_long = rw e (array_long _ _ (row_length _ table k h) few)
+
+  pub row_first : take (length L.counts) flag ≡ row_of (length L.counts) table k
+  row_first = rw e (array_first _ _ (row_length _ table k h) few)
+
+  pub row_at_hand : {sum : ℕ} → IsFlag L (row_of (length L.counts) table k)
+      → sum ≡ sum_from 0 (take (length L.counts) flag) → sum ≤ length L.counts * (width * hashes) → AtHand L flag sum
+  row_at_hand F s b = record { long = row_long; is_flag = rw row_first F; sum_is = s; small = b }
+
+pub weighs_at : {L : Listing} {places weights : List ℕ} {r : ℕ} → Ready L places weights → r < rank L
+    → get_or weights r 0 ≡ weight r
+weighs_at R h = R.weighs.each _ (omega (arith, h, R.closed.shaped.few_ranks))
 
 module _ {L : Listing} (C : Closed limits L) {flag : List ℕ} {sum : ℕ} (H : AtHand L flag sum) (r : ℕ) (h : 0 < r)
     (k : r < rank L) where
@@ -45,14 +71,6 @@ module _ {L : Listing} (C : Closed limits L) {flag : List ℕ} {sum : ℕ} (H : 
 
   at_w : (q : ℕ) → q < w → get_or f q 0 ≡ get_or flag q 0
   at_w q l = get_or-take w flag q 0 l
-
-  pub hand_neighbours : Flanked L flag r
-  hand_neighbours = record {
-    over_lowest = h;
-    under_highest = omega (arith, short);
-    lower = rw (← at_w (r - 1) (omega arith)) (H.is_flag.exists (r - 1) (omega (arith, f_long)));
-    upper = rw (← at_w (r + 1) (omega arith)) (H.is_flag.exists (r + 1) (omega (arith, f_long)));
-  }
 
   between_same : between L r flag ≡ between L r f
   unfolding between

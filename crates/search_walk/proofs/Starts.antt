@@ -55,6 +55,11 @@ pub take_padded : (f : List ℕ) (w : ℕ) → length f ≡ w → take w (padded
 unfolding padded
 take_padded f w e = take_at f _ w e
 
+pub first_moved : {w room : ℕ} {t b t' b' h x flag : List ℕ} {s : Progress} (f : List ℕ) → flag ≡ padded f
+    → length f ≡ w → Moved w room t b none t' b' h x s (meet same_list room 0 (state_of w t b none) (take w flag))
+    → Moved w room t b none t' b' h x s (meet same_list room 0 (state_of w t b none) f)
+first_moved {w} f p e M = rw (p, take_padded f w e) at M
+
 -- ---- the first flag is met
 
 module _ (L : Listing) (room mask : ℕ) (t b f : List ℕ) {t' b' h x : List ℕ} {s : Progress}

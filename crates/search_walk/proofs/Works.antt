@@ -1,12 +1,14 @@
 -- The changes of one flag are met, from the lowest rank upward.
 -- Assumes nothing.
 use mathlib.Core.Path.{◌≡◌, refl, sym, ap, ◌∙◌}
-use mathlib.Core.Bool.{true}
+use mathlib.Core.Bool.{Bool, true}
 use mathlib.Core.Logic.{inl, inr}
 use mathlib.Core.List.{List, ◌∷◌, map}
 use Prim.Native.Nat.{ℕ, ◌+◌, ◌-◌, ◌*◌, ◌^◌, ◌≤◌, ◌<◌}
 use native.Mathlib.Nat.{mul-le-mul_right}
 use native.Mathlib.Omega.{arith}
+use borrow.Author.Tests.{ltb-true}
+use lib.Dec.{ltb}
 use lib.Count.{count_trailing_zeros}
 use lib.ListN.{length, drop}
 use lib.Seq.{drop-drop}
@@ -69,6 +71,10 @@ pub working_start : (L : Listing) (room byte : ℕ) (f : List ℕ) {t b h x : Li
     (meet_all same_list room byte (state_of (length L.counts) t b s) (mask_changes L mask f)) t b h x mask s
 working_start L room byte f {s = s} mask H m w =
     record { moved = moved_none _ _ _ _ _ _ s H s refl refl; small = m; inner = w; whole = refl }
+
+-- a change is left
+pub some_left : {left : ℕ} {any : Bool} → any ≡ ltb 0 left → any ≡ true → 0 < left
+some_left e h = ltb-true 0 _ (sym e ∙ h)
 
 -- the lowest rank that is left, and those after it
 module _ (left : ℕ) (m : left < width) (p : 0 < left) (r : ℕ) (e : r ≡ count_trailing_zeros limits.ranks left) where

@@ -25,15 +25,13 @@ fn places_of(counts: &[Index]) -> [usize; limit::RANKS]
     requires { length counts.now ≤ limits.ranks }
     ensures { Places counts.now result }
 {
-    let mut a = [0usize; limit::RANKS];
+    let mut places = [0usize; limit::RANKS];
     let mut here: usize = 0;
-    let mut r: usize = 0;
-    while r < counts.len() {
-        a[r] = here;
-        here += inner::wide(counts[r]);
-        r += 1;
+    for (r, &count) in counts.iter().enumerate() {
+        places[r] = here;
+        here += inner::wide(count);
     }
-    a
+    places
 }
 
 // The change at rank r of the flag at hand, of which sum is the sum, is met; then the flag at hand is as it was.
@@ -156,6 +154,7 @@ fn run(
 {
     let mut s = start;
     let mut k: u16 = 0;
+    // No `for` over a range: the flags that are found on the way are worked too, so the end moves as the loop goes on.
     while k < s.count {
         if s.overflow {
             return s;

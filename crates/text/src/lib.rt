@@ -58,9 +58,9 @@ pub fn read_text(text: &[u8], counts: &mut [Index], ends: &mut [Index], inc: &mu
         &up,
         s.need.counts,
         s.need.ends / 2,
-        &mut *counts,
-        &mut *ends,
-        &mut *inc,
+        counts,
+        ends,
+        inc,
     );
     outputs::written(t, s.need)
 }
@@ -118,7 +118,7 @@ pub fn write_text(counts: &[Index], ends: &[Index], inc: &[Index], text: &mut [u
     if t.no != 0 {
         return unwritten(t);
     }
-    write::put_text(counts, ends, inc, &mut *text);
+    write::put_text(counts, ends, inc, text);
     Written {
         answer: t,
         length: n,

@@ -2,9 +2,10 @@
 -- Assumes nothing.
 use mathlib.Core.Path.{◌≡◌, sym, ◌∙◌}
 use mathlib.Core.List.{List}
-use Prim.Native.Nat.{ℕ, suc, ◌+◌, ◌<◌}
+use Prim.Native.Nat.{ℕ, suc, ◌+◌, ◌*◌, ◌≤◌, ◌<◌}
 use native.Mathlib.Omega.{arith}
 use lib.ListN.{length, get_or}
+use Rattle.listing.specs.Listing.{limits}
 use Rattle.listing.specs.Layers.{Layers, derived}
 use Rattle.listing.specs.Laid.{Laid, LaidList}
 use Rattle.listing.specs.Written.{tabulated, written}
@@ -13,7 +14,7 @@ use Rattle.listing.proofs.Written.{tabulated_length, tabulated_at, written_count
 use Rattle.listing_sups.specs.Filling.{ElementsLaid}
 use Rattle.listing_sups.proofs.Unfilled.{Unfilled}
 use Rattle.text_theory.specs.Notes.{Noted}
-use Rattle.text_building.specs.Building.{Source}
+use Rattle.text_building.specs.Building.{Source, Flat}
 use Rattle.text_building.proofs.Flat.{lists, few_ranks, few_elements, room_counts, flat}
 
 counts_laid : (M : Layers) (noted many subs : List ℕ) (ranks : ℕ) → Noted M noted many subs → ranks ≡ suc M.top
@@ -49,3 +50,27 @@ module _ {M : Layers} {noted many subs up counts₀ ends₀ inc₀ : List ℕ} {
         room_ends = f.room_ends;
         room_inc = f.room_inc;
       }
+
+-- what the copy of the counts and the elements leave, whatever layers the notes are of
+module _ {noted many subs up counts₀ ends₀ inc₀ counts₁ ends₁ inc₁ : List ℕ} {ranks n : ℕ}
+    (r : (M : Layers) × Source M noted many subs up ranks n (length counts₀) (length ends₀) (length inc₀))
+    (l : Laid 0 (λ j. get_or noted (0 + j) 0) ranks counts₀ counts₁)
+    (d : (lists : ℕ → List ℕ) → Flat lists many subs up n (length ends₀) (length inc₀)
+    → ElementsLaid lists n ends₀ inc₀ ends₁ inc₁) where
+  pub unfilled : Unfilled r.0 counts₀ ends₀ inc₀ counts₁ ends₁ inc₁ ranks n
+  unfilled = unfilled_of r.1 counts₁ ends₁ inc₁ l (d (lists r.0) (flat r.1))
+
+  pub ranks_inside : ranks ≤ length counts₁
+  ranks_inside =
+      let w = unfilled in
+      omega (arith, w.k_is, w.counts.same_length, w.room_counts)
+
+  pub elements_few : n ≤ limits.elements
+  elements_few =
+      let w = unfilled in
+      omega (arith, w.n_is, w.few_elements)
+
+  pub ends_inside : 2 * n ≤ length ends₁
+  ends_inside =
+      let w = unfilled in
+      omega (arith, w.n_is, w.elements.ends_length, w.room_ends)

@@ -22,11 +22,7 @@ fn copy(source: &[Index], at: usize, n: usize, out: &mut [Index], to: usize)
     requires { (at + n ≤ length source.now) × (to + n ≤ length out.old) }
     ensures { Laid to (λ j. get_or source.now (at + j) 0) n out.old out.new }
 {
-    let mut j: usize = 0;
-    while j < n {
-        out[to + j] = source[at + j];
-        j += 1;
-    }
+    out[to..to + n].copy_from_slice(&source[at..at + n]);
 }
 
 // Writes element e: its subs, and its two ends, with room left for its sups. Returns the places of the next one.
@@ -47,7 +43,7 @@ fn put_element(
         ends.old inc.old ends.new inc.new result }
 {
     let k = inner::wide(many[e]);
-    copy(subs, p.from, k, &mut *inc, p.to);
+    copy(subs, p.from, k, inc, p.to);
     let end = p.to + k;
     let to = end + inner::wide(up[e]);
     ends[2 * e] = end as Index;
@@ -75,10 +71,8 @@ fn put_elements(
         → ElementsLaid lists n ends.old inc.old ends.new inc.new }
 {
     let mut p = FromTo { from: 0, to: 0 };
-    let mut e: usize = 0;
-    while e < n {
-        p = put_element(many, subs, up, &mut *ends, &mut *inc, e, p);
-        e += 1;
+    for e in 0..n {
+        p = put_element(many, subs, up, ends, inc, e, p);
     }
 }
 
@@ -104,7 +98,7 @@ pub fn build(
         → StandsOver (written M (derived M)) (listing counts.old ends.old inc.old)
         (listing counts.new ends.new inc.new) }
 {
-    copy(noted, 0, ranks, &mut *counts, 0);
-    put_elements(many, subs, up, n, &mut *ends, &mut *inc);
-    sups::fill(&counts[..ranks], &ends[..2 * n], &mut *inc);
+    copy(noted, 0, ranks, counts, 0);
+    put_elements(many, subs, up, n, ends, inc);
+    sups::fill(&counts[..ranks], &ends[..2 * n], inc);
 }

@@ -66,29 +66,29 @@ module _ (t key : List ℕ) (at : ℕ) where
       after = λ z. e ∙ sym (after_key (line key numbers) here q k);
     }
 
+    pub single_wrong : good_row (values_from 0 (drop (at + length key) t)) (drop (at + length key) t) ≡ false
+        → good_row (value row ∷ []) row ≡ false
+    single_wrong e =
+        let b = rw row_is at e in
+        unless _ (λ g. true≢false (sym (one_row row g).1 ∙ b))
+
     module _ {i : Term} (r : TermRead t (at + length key) i) where
-      pub single_wrong : i.good ≡ false → good_row (value row ∷ []) row ≡ false
-      single_wrong e =
-          let b = rw row_is at (r.bad e) in
-          unless _ (λ g. true≢false (sym (one_row row g).1 ∙ b))
+      pub single_more : i.more ≡ true → good_row (value row ∷ []) row ≡ false
+      single_more e =
+          let m = ap length (rw row_is at (r.more e).0) in
+          unless _ (λ g. omega (arith, m, ap length (one_row row g).0, from_some 0 (drop i.next t)))
 
-      module _ (good : i.good ≡ true) where
-        pub single_more : i.more ≡ true → good_row (value row ∷ []) row ≡ false
-        single_more e =
-            let m = ap length (rw row_is at (r.more good e).0) in
-            unless _ (λ g. omega (arith, m, ap length (one_row row g).0, from_some 0 (drop i.next t)))
+      module _ (e : i.more ≡ false) where
+        last : values_from 0 row ≡ i.value ∷ []
+        last = rw row_is at (r.last e).0
 
-        module _ (e : i.more ≡ false) where
-          last : values_from 0 row ≡ i.value ∷ []
-          last = rw row_is at (r.last good e).0
+        pub single_value : i.value ≡ value row
+        single_value = sym (ap (λ (l : List ℕ). get_or l 0 0) last)
 
-          pub single_value : i.value ≡ value row
-          single_value = sym (ap (λ (l : List ℕ). get_or l 0 0) last)
+        pub single_good : good_row (value row ∷ []) row ≡ true
+        single_good =
+            let w = ap (λ (n : ℕ). n ∷ []) (sym single_value) ∙ sym last in
+            ap (λ (l : List ℕ). good_row l row) w ∙ rw row_is at (r.last e).1
 
-          pub single_good : good_row (value row ∷ []) row ≡ true
-          single_good =
-              let w = ap (λ (n : ℕ). n ∷ []) (sym single_value) ∙ sym last in
-              ap (λ (l : List ℕ). good_row l row) w ∙ rw row_is at (r.last good e).1
-
-          pub single_after : drop i.next t ≡ after_line row
-          single_after = sym (rw row_is at (r.last good e).2)
+        pub single_after : drop i.next t ≡ after_line row
+        single_after = sym (rw row_is at (r.last e).2)

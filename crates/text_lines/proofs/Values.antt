@@ -13,7 +13,8 @@ use lib.Dec.{eqb}
 use lib.ListN.{length, get_or, drop}
 use lib.Seq.{get_or-drop}
 use Rattle.listing.specs.Listing.{width}
-use Rattle.text_theory.specs.Digits.{digits_in, valued, Numeral}
+use Rattle.text_theory.specs.Digits.{is_digit, digits_in, valued, Numeral}
+use Rattle.text_theory.proofs.Digits.{digits_step, digits_stop, digits_end}
 use Rattle.text_theory.proofs.Numerals.{numeral_exact}
 
 off : {P : Type 0} → ¬ P → (false ≡ true) ↔ P
@@ -81,3 +82,41 @@ module _ {t : List ℕ} {at end v : ℕ} (h : Told t at end v) where
           (omega (arith, h.ends), omega (arith, h.tells), λ m q. z (sym front ∙ q)),
       λ n. refl,
     )
+
+-- ---- one digit after another
+
+-- one digit more
+told : (v : ℕ) {d d' : List ℕ} {n : ℕ} → d ≡ d' → valued v d' ≡ n → min (valued v d) width ≡ min n width
+told v e q = ap (λ (l : List ℕ). min (valued v l) width) e ∙ ap (λ (n : ℕ). min n width) q
+
+-- the digits up to i tell v, and those from i on, after v, are what is left
+pub record Reading (t : List ℕ) (at v i : ℕ) : Type 0 where
+  pub small : v ≤ width
+  pub left : i + length (digits_in (drop i t)) ≡ at + length (digits_in (drop at t))
+  pub value : min (valued v (digits_in (drop i t))) width ≡ min (valued 0 (digits_in (drop at t))) width
+
+module _ (t : List ℕ) (at v i : ℕ) (h : Reading t at v i) where
+  reading_ended : digits_in (drop i t) ≡ [] → Told t at i v
+  reading_ended e =
+      let n = told v e (valued_none v) in record {
+        ends = omega (arith, ap length e, h.left);
+        tells = omega (arith, n, h.small, h.value);
+      }
+
+  pub reading_end : length t ≤ i → Told t at i v
+  reading_end l = reading_ended (digits_end t i l)
+
+  module _ (l : i < length t) where
+    pub reading_stop : is_digit (get_or t i 0) ≡ false → Told t at i v
+    reading_stop e = reading_ended (digits_stop t i l e)
+
+    pub reading_next : (w : ℕ) → is_digit (get_or t i 0) ≡ true → w ≡ min (10 * v + (get_or t i 0 - 48)) width
+        → Reading t at w (i + 1)
+    reading_next w d q =
+        let e = digits_step t i l d in
+        let u = digits_in (drop (i + 1) t) in
+        let a = 10 * v + (get_or t i 0 - 48) in record {
+          small = omega arith;
+          left = omega (arith, ap length e, h.left);
+          value = rw q (valued_most width a u (omega arith) ∙ sym (told v e (valued_step v _ u)) ∙ h.value);
+        }

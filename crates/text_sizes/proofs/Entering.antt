@@ -27,12 +27,9 @@ use Rattle.text_sizes.specs.Measure.{left_test, Raising, SubsNoted, Arrived, Ent
 use Rattle.text_sizes.proofs.Noting.{subs_to_rank, subs_to_next, elements_next}
 
 -- a reading that ends with the text's number comes to no rank
-pub stopped_so : {m : Limits} {t : List ℕ} {no : ℕ} {X : Type 0} (s : Headway) (up many subs : List ℕ) → (no ≡ 0 → ⊥)
-    → s.no ≡ no → text_test m t ≡ plain no → Comes m t s up many subs × (s.no ≡ 0 → X)
-stopped_so s up many subs h e o = (
-  record { go = λ z. absurd (h (sym e ∙ z)); stop = λ z. o ∙ ap plain (sym e) },
-  λ z. absurd (h (sym e ∙ z)),
-)
+pub stopped_so : {m : Limits} {t : List ℕ} {no : ℕ} (s : Headway) (up many subs : List ℕ) → (no ≡ 0 → ⊥)
+    → s.no ≡ no → text_test m t ≡ plain no → Comes m t s up many subs
+stopped_so s up many subs h e o = record { go = λ z. absurd (h (sym e ∙ z)); stop = λ z. o ∙ ap plain (sym e) }
 
 -- how often y stands in what lies under the first i elements of rank r
 abbrev pub met_to : List ℕ → ℕ → ℕ → ℕ → ℕ

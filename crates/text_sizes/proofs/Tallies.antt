@@ -7,18 +7,16 @@ use mathlib.Core.List.{List, [], ◌∷◌}
 use Prim.Native.Nat.{ℕ, suc, ◌+◌, ◌-◌, ◌*◌, ◌≤◌, ◌<◌}
 use native.Mathlib.Omega.{arith}
 use lib.Dec.{ltb}
-use lib.ListN.{length, get_or, set, drop, length-drop}
+use lib.ListN.{length, get_or, set, drop}
 use lib.Seq.{get_or-drop, drop-drop}
 use Rattle.order.specs.Lists.{occurs}
 use Rattle.order.proofs.Lists.{occurs_le, occurs_append}
-use Rattle.listing.specs.Refusals.{bad_line}
 use Rattle.listing.specs.Laid.{Laid}
 use Rattle.listing.proofs.Laying.{laid_none, laid_next}
 use Rattle.listing_sups.specs.Sups.{Raised}
 use Rattle.listing_sups.proofs.Raising.{raised_none, raised_then, raised_most}
 use Rattle.text_theory.specs.Said.{after_line, values_from, below_in}
 use Rattle.text_theory.specs.Digits.{good_row}
-use Rattle.text_theory.proofs.Reading.{numbers_nil}
 use Rattle.text_lines.specs.declared.lines.Term.{Term}
 use Rattle.text_lines.specs.Lines.{TermRead}
 use Rattle.text_sizes.specs.declared.rows.Row.{Row}
@@ -64,12 +62,14 @@ row_begun t at from n to up subs h f = record {
   laid = laid_none to _ subs;
 }
 
+-- a row that is counted
+module _ {t : List ℕ} {at from n to : ℕ} {up up' subs subs' ns : List ℕ} (c : Row) where
+  row_tallied : c.no ≡ 0 → good_row ns (drop at t) ≡ true → RowCounted t at ns from n to up up' subs subs' c
+      → RowTallied t at ns from n to up up' subs subs' c
+  row_tallied e g r = record { test = rw (e, g) refl; counted = λ z. r }
+
 module _ {t : List ℕ} {at from n to : ℕ} {up₀ up subs₀ subs : List ℕ} {i count named : ℕ}
     (h : RowRun t at from n to up₀ up subs₀ subs i count named) where
-  -- past the end of the text the row is not good
-  pub row_end : length t ≤ i → good_row (values_from 0 (drop at t)) (drop at t) ≡ false
-  row_end l = h.good ∙ numbers_nil (drop i t) (omega (arith, length-drop i t))
-
   -- the number that comes next
   next_is : (v : ℕ) (l : List ℕ) → values_from 0 (drop i t) ≡ v ∷ l → v ≡ get_or (values_from 0 (drop at t)) count 0
   next_is v l e =
@@ -78,15 +78,17 @@ module _ {t : List ℕ} {at from n to : ℕ} {up₀ up subs₀ subs : List ℕ} 
       ap (λ (s : List ℕ). get_or s 0 0) (sym e ∙ h.rest) ∙ get_or-drop count row 0 0 ∙ ap (λ (k : ℕ). get_or row k 0) z
 
   module _ {w : Term} (r : TermRead t i w) where
-    pub row_bad : w.good ≡ false → good_row (values_from 0 (drop at t)) (drop at t) ≡ false
-    row_bad e = h.good ∙ r.bad e
+    module _ (up' : List ℕ) (u : Raised from n (λ y. occurs y (w.value ∷ [])) up up')
+        (k : ℕ) (v : (k ≡ below_in n (w.value ∷ [])) × (k ≤ 1)) (short : length t ≤ 2 * length subs₀)
+        (half : 2 * to ≤ at) where
+      -- there is room for it
+      room : to + count < length subs₀
+      room = omega (arith, h.later, r.later, r.inside)
 
-    module _ (g : w.good ≡ true) (up' : List ℕ) (u : Raised from n (λ y. occurs y (w.value ∷ [])) up up')
-        (k : ℕ) (q : k ≡ below_in n (w.value ∷ [])) (q1 : k ≤ 1) (room : to + count < length subs₀) where
       -- with one number more no count passes the place after it
       few_more : (j : ℕ) → get_or up' j 0 < w.next
       few_more j =
-          omega (arith, raised_most from n 1 _ up up' u (λ x. occurs_le x (w.value ∷ [])) j, h.few j, r.later g)
+          omega (arith, raised_most from n 1 _ up up' u (λ x. occurs_le x (w.value ∷ [])) j, h.few j, r.later)
 
       -- the number and what is left after it
       step : (l : List ℕ) → values_from 0 (drop i t) ≡ w.value ∷ l → (y : ℕ)
@@ -101,11 +103,11 @@ module _ {t : List ℕ} {at from n to : ℕ} {up₀ up subs₀ subs : List ℕ} 
       pub row_more : w.more ≡ true → RowRun t at from n to up₀ up' subs₀ (set subs (to + count) w.value) w.next
           (count + 1) (named + k)
       row_more m =
-          let e = r.more g m in
+          let e = r.more m in
           let b = ap (below_in n) e.0 ∙ below_first n w.value _ in
           record {
-            later = omega (arith, h.later, r.later g);
-            inside = r.inside g;
+            later = omega (arith, h.later, r.later);
+            inside = r.inside;
             good = h.good ∙ e.1;
             after = h.after ∙ e.2;
             rest = ap (drop 1) (sym e.0 ∙ h.rest) ∙ drop-drop 1 count _;
@@ -120,23 +122,23 @@ module _ {t : List ℕ} {at from n to : ℕ} {up₀ up subs₀ subs : List ℕ} 
           }
 
       module _ (m : w.more ≡ false) where
-        pub row_good : good_row (values_from 0 (drop at t)) (drop at t) ≡ true
-        row_good = h.good ∙ (r.last g m).1
+        row_good : good_row (values_from 0 (drop at t)) (drop at t) ≡ true
+        row_good = h.good ∙ (r.last m).1
 
         counted_all : count + 1 ≡ length (values_from 0 (drop at t))
-        counted_all = omega (arith, h.counted, ap length (r.last g m).0)
+        counted_all = omega (arith, h.counted, ap length (r.last m).0)
 
-        pub row_last : (c : Row) → c ≡ record { no = 0; count = count + 1; known = named + k; next = w.next }
+        row_counted : (c : Row) → c ≡ record { no = 0; count = count + 1; known = named + k; next = w.next }
             → RowCounted t at (values_from 0 (drop at t)) from n to up₀ up' subs₀ (set subs (to + count) w.value) c
-        row_last c z =
-            let e = r.last g m in
+        row_counted c z =
+            let e = r.last m in
             rw z (record {
-              later = omega (arith, h.later, r.later g);
-              inside = r.inside g;
+              later = omega (arith, h.later, r.later);
+              inside = r.inside;
               after = sym (h.after ∙ e.2);
               count = counted_all;
               known = omega (arith, h.known, ap (below_in n) e.0);
-              small = (omega (arith, h.later, r.later g), omega (arith, h.small));
+              small = (omega (arith, h.later, r.later), omega (arith, h.small));
               raised =
                   raised_then from n _ _ _ up₀ up up' h.raised u
                   (λ y. omega (arith, ap (occurs y) e.0, h.left y));
@@ -144,14 +146,6 @@ module _ {t : List ℕ} {at from n to : ℕ} {up₀ up subs₀ subs : List ℕ} 
               laid = rw (← counted_all) (laid_more _ e.0);
             })
 
--- a row that is refused, and one that is counted
-module _ {t : List ℕ} {at from n to : ℕ} {up up' subs subs' ns : List ℕ} (c : Row) where
-  pub row_refused : c.no ≡ bad_line → good_row ns (drop at t) ≡ false → RowTallied t at ns from n to up up' subs subs' c
-  row_refused e g = record {
-    test = rw (e, g) refl;
-    counted = λ z. absurd (omega arith);
-  }
-
-  pub row_tallied : c.no ≡ 0 → good_row ns (drop at t) ≡ true → RowCounted t at ns from n to up up' subs subs' c
-      → RowTallied t at ns from n to up up' subs subs' c
-  row_tallied e g r = record { test = rw (e, g) refl; counted = λ z. r }
+        pub row_last : (c : Row) → c ≡ record { no = 0; count = count + 1; known = named + k; next = w.next }
+            → RowTallied t at (values_from 0 (drop at t)) from n to up₀ up' subs₀ (set subs (to + count) w.value) c
+        row_last c z = row_tallied c (rw z refl) row_good (row_counted c z)

@@ -62,9 +62,8 @@ fn measure_elements(
     let mut at = s.at;
     let mut incidences = s.incidences;
     let mut to = s.subs;
-    let mut i: usize = 0;
-    while i < n {
-        let r = rows::tally_subs(text, at, &mut *up, s.from, s.below, &mut *subs, to);
+    for i in 0..n {
+        let r = rows::tally_subs(text, at, up, s.from, s.below, subs, to);
         if r.no != 0 {
             return stopped(r.no);
         }
@@ -75,7 +74,6 @@ fn measure_elements(
         many[first + i] = r.count as Index;
         to += r.count;
         at = r.next;
-        i += 1;
     }
     Headway {
         no: 0,
@@ -110,18 +108,13 @@ fn measure_rank(
     if limit::ELEMENTS < s.from + s.below + c.value {
         return stopped(refusal::OVER_ELEMENTS);
     }
-    let rank = s.rank;
-    noted[rank] = c.value as Index;
+    noted[s.rank] = c.value as Index;
     let past = Headway {
         no: 0,
         at: c.next,
-        rank,
-        from: s.from,
-        below: s.below,
-        incidences: s.incidences,
-        subs: s.subs,
+        ..s
     };
-    measure_elements(text, &mut *up, &mut *many, &mut *subs, past, c.value)
+    measure_elements(text, up, many, subs, past, c.value)
 }
 
 // Reads the lines of all ranks up to the top.
@@ -142,8 +135,8 @@ fn measure_ranks(
         × CountsNoted limits (said text.now) result.rank noted.new }
 {
     let mut s = first;
-    while s.rank <= top {
-        s = measure_rank(text, &mut *up, &mut *noted, &mut *many, &mut *subs, s);
+    for _ in s.rank..=top {
+        s = measure_rank(text, up, noted, many, subs, s);
         if s.no != 0 {
             return s;
         }
@@ -198,15 +191,7 @@ pub fn measure(
         incidences: 0,
         subs: 0,
     };
-    let s = measure_ranks(
-        text,
-        &mut *up,
-        &mut *noted,
-        &mut *many,
-        &mut *subs,
-        first,
-        c.value,
-    );
+    let s = measure_ranks(text, up, noted, many, subs, first, c.value);
     if s.no != 0 {
         return refused(s.no);
     }

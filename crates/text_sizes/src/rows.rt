@@ -69,24 +69,19 @@ fn tally_row(
     let mut count: usize = 0;
     let mut named: usize = 0;
     let mut i = at;
-    while i < text.len() {
-        let w = lines::term_at(text, i);
-        if w.good {
-            subs[to + count] = w.value as Index;
-            named += count_known(&mut *up, from, n, w.value);
-            count += 1;
-            if w.more {
-                i = w.next;
-            } else {
-                return Row {
-                    no: 0,
-                    count,
-                    known: named,
-                    next: w.next,
-                };
-            }
+    while let Some(w) = lines::term_at(text, i) {
+        subs[to + count] = w.value as Index;
+        named += count_known(up, from, n, w.value);
+        count += 1;
+        if w.more {
+            i = w.next;
         } else {
-            return refused(refusal::BAD_LINE);
+            return Row {
+                no: 0,
+                count,
+                known: named,
+                next: w.next,
+            };
         }
     }
     refused(refusal::BAD_LINE)
@@ -108,20 +103,20 @@ pub fn tally_subs(
     ensures { SubsTallied text.now at from n to up.old up.new
         subs.old subs.new result }
 {
-    if lines::has_key(text, at, b"subs=") {
-        let row = at + b"subs=".len();
-        if row < text.len() {
-            if text[row] == b'\n' {
-                return Row {
-                    no: 0,
-                    count: 0,
-                    known: 0,
-                    next: row + 1,
-                };
-            }
-            return tally_row(text, row, &mut *up, from, n, &mut *subs, to);
-        }
-        return refused(refusal::BAD_LINE);
+    if !lines::has_key(text, at, b"subs=") {
+        return refused(refusal::WRONG_KEY);
     }
-    refused(refusal::WRONG_KEY)
+    let row = at + b"subs=".len();
+    let Some(&first) = text.get(row) else {
+        return refused(refusal::BAD_LINE);
+    };
+    if first == b'\n' {
+        return Row {
+            no: 0,
+            count: 0,
+            known: 0,
+            next: row + 1,
+        };
+    }
+    tally_row(text, row, up, from, n, subs, to)
 }

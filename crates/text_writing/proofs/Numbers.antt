@@ -3,12 +3,13 @@
 use mathlib.Core.Path.{◌≡◌, sym, ap, ◌∙◌}
 use mathlib.Core.List.{List, [], ◌∷◌, ◌++◌, append_assoc, append-nil}
 use Prim.Native.Nat.{ℕ, ◌+◌, ◌-◌, ◌/◌, ◌%◌, ◌≤◌, ◌<◌}
+use native.Mathlib.Decide.{dec_lt}
 use native.Mathlib.Omega.{arith}
 use lib.ListN.{length, get_or, set, length-append}
 use Rattle.listing.specs.Laid.{LaidList}
 use Rattle.listing.proofs.Laying.{laid_none, list_before}
 use Rattle.text_theory.specs.Text.{digit, numeral}
-use Rattle.text_theory.proofs.Numerals.{numeral_short, numeral_long}
+use Rattle.text_theory.proofs.Numerals.{numeral_some, numeral_short, numeral_long}
 use Rattle.text_writing.specs.Writing.{PutAt}
 
 -- ---- how many digits
@@ -32,6 +33,21 @@ four_digits n l h = omega (arith, digit_more n (omega arith), three_digits (n / 
 pub five_digits : (n : ℕ) → 10000 ≤ n → n < 100000 → 5 ≡ length (numeral n)
 five_digits n l h = omega (arith, digit_more n (omega arith), four_digits (n / 10) (omega arith) (omega arith))
 
+-- the same the other way round
+more_digits : (n : ℕ) → 1 < length (numeral n) → 10 ≤ n
+more_digits n h = go (dec_lt n 10)
+  where
+    go : Dec (n < 10) → 10 ≤ n
+    go (yes l) = absurd (omega (arith, one_digit n l))
+    go (no l) = omega arith
+
+few_digits : (n : ℕ) → length (numeral n) ≤ 1 → n < 10
+few_digits n h = go (dec_lt n 10)
+  where
+    go : Dec (n < 10) → n < 10
+    go (yes l) = l
+    go (no l) = absurd (omega (arith, digit_more n (omega arith), numeral_some (n / 10)))
+
 -- ---- from the last digit to the first
 
 -- of the number x, to be written at a place, all but v stands there, from place p on
@@ -52,12 +68,13 @@ module _ (x at : ℕ) (d : List ℕ) where
 
   module _ (room : at + length (numeral x) ≤ length d) (d' : List ℕ) (p v : ℕ) (s : Spelling x at d d' p v) where
     -- what is left of it lies inside
-    pub spelling_fits : p ≤ length d
+    spelling_fits : p ≤ length d
     spelling_fits =
         omega (arith, room, s.place, ap length s.whole, length-append (numeral v) s.tail)
 
-    pub spelling_next : 10 ≤ v → Spelling x at d (set d' (p - 1) (digit (v % 10))) (p - 1) (v / 10)
-    spelling_next h =
+    pub spelling_next : at + 1 < p → Spelling x at d (set d' (p - 1) (digit (v % 10))) (p - 1) (v / 10)
+    spelling_next b =
+        let h = more_digits v (omega (arith, s.place)) in
         let n = digit_more v h in
         let e : p ≡ p - 1 + 1 = omega (arith, s.place) in
         let one = digit (v % 10) ∷ [] in record {
@@ -69,9 +86,16 @@ module _ (x at : ℕ) (d : List ℕ) where
               (rw e at s.laid);
         }
 
-    pub spelling_done : v < 10 → (r : ℕ) → r ≡ at + length (numeral x)
+    -- its first digit is left, and there is room for it
+    pub spelling_first : p ≤ at + 1 → (v < 10) × (at < length d')
+    spelling_first b =
+        let h = few_digits v (omega (arith, s.place)) in
+        (h, omega (arith, spelling_fits, s.place, one_digit v h, s.laid.same_length))
+
+    pub spelling_done : p ≤ at + 1 → (r : ℕ) → r ≡ at + length (numeral x)
         → PutAt (numeral x) at d (set d' at (digit v)) r
-    spelling_done h r e =
+    spelling_done b r e =
+        let h = (spelling_first b).0 in
         let q : p ≡ at + 1 = omega (arith, s.place, one_digit v h) in
         let w = s.whole ∙ ap (λ (l : List ℕ). l ++ s.tail) (numeral_short v h) in
         let l = list_before at d d' s.tail (digit v) (omega (arith, spelling_fits)) (rw q at s.laid) in

@@ -3,7 +3,7 @@
 -- Assumes nothing.
 use mathlib.Core.Path.{◌≡◌, refl, sym, ap, ◌∙◌}
 use mathlib.Core.List.{List, [], ◌∷◌, ◌++◌}
-use Prim.Native.Nat.{ℕ, ◌+◌, ◌-◌, ◌*◌, ◌<◌}
+use Prim.Native.Nat.{ℕ, ◌+◌, ◌-◌, ◌*◌, ◌≤◌, ◌<◌}
 use native.Mathlib.Omega.{arith}
 use lib.ListN.{length, take, drop, length-append}
 use lib.Seq.{drop-cons}
@@ -54,6 +54,12 @@ module _ (L : Listing) (r : ℕ) where
         rank_lines (layers L) r
         ∙ ap (λ (s : List ℕ). count_bytes L r ++ s)
         (sym (joined_same _ (subs_bytes L r) (count L r) (λ i h. subs_bytes_lem i _ refl)))
+
+    -- there is room for the line of its count and for the lines of its elements
+    pub rank_room : (at room : ℕ) → at + length (rank_bytes (layers L) r) ≤ room
+        → at + (length (count_bytes L r) + length (lines_from L.ends L.inc here (count L r))) ≤ room
+    rank_room at room h =
+        omega (arith, ap length rank_put, length-append (count_bytes L r) (lines_from L.ends L.inc here (count L r)))
 
 -- a list has fewer numbers than there are values
 pub list_narrow : (L : Listing) → Shaped limits L → (k : ℕ) (list : List ℕ) → list ≡ entries L.ends L.inc k

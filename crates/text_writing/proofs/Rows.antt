@@ -5,7 +5,7 @@ use mathlib.Core.List.{List, [], ◌∷◌, ◌++◌, append_assoc, append-nil}
 use Prim.Native.Nat.{ℕ, ◌+◌, ◌-◌, ◌≤◌, ◌<◌}
 use native.Mathlib.Numerals.{add-one}
 use native.Mathlib.Omega.{arith}
-use lib.ListN.{length, get_or, take, drop, set, length-append, length-drop, take-append-drop}
+use lib.ListN.{length, get_or, take, drop, set, length-append, take-append-drop}
 use lib.Seq.{take_all, take-suc}
 use Rattle.text_theory.specs.Text.{comma, numeral, parted, commas}
 use Rattle.text_writing.specs.Writing.{PutAt}
@@ -21,23 +21,23 @@ parted_append (x ∷ s) t =
     (ap (λ (l : List ℕ). numeral x ++ l) (parted_append s t) ∙ sym (append_assoc (numeral x) (parted s) (parted t)))
 
 -- a number, and those behind it
-pub commas_some : (l : List ℕ) → 0 < length l → commas l ≡ numeral (get_or l 0 0) ++ parted (drop 1 l)
+pub commas_some : (l : List ℕ) (x : ℕ) (more : List ℕ) → l ≡ x ∷ more → commas l ≡ numeral x ++ parted more
 unfolding commas
-commas_some [] h = absurd (omega arith)
-commas_some (x ∷ l) h = refl
+commas_some l x more e = rw e
 
--- as a part of a slice
-pub rest_part : (l : List ℕ) → take (length l - 1) (drop 1 l) ≡ drop 1 l
-rest_part l = take_all (length l - 1) (drop 1 l) (omega (arith, length-drop 1 l))
+-- how long they are then
+pub commas_both : (l : List ℕ) (x : ℕ) (more : List ℕ) → l ≡ x ∷ more
+    → length (commas l) ≡ length (numeral x) + length (parted more)
+commas_both l x more e = ap length (commas_some l x more e) ∙ length-append (numeral x) (parted more)
 
 pub commas_none : (l : List ℕ) → length l ≡ 0 → commas l ≡ []
 unfolding commas
 commas_none [] e = refl
 commas_none (x ∷ l) e = absurd (omega arith)
 
-pub parted_none : (l : List ℕ) → parted (take 0 l) ≡ []
+pub parted_none : parted [] ≡ []
 unfolding parted
-parted_none l = refl
+parted_none = refl
 
 pub parted_all : (l : List ℕ) (j : ℕ) → length l ≤ j → parted (take j l) ≡ parted l
 parted_all l j h = ap parted (take_all j l h)
@@ -73,7 +73,7 @@ commas_length (x ∷ l) = omega arith
 
 -- ---- as they are written
 
-module _ (l : List ℕ) (at : ℕ) (d : List ℕ) (j : ℕ) (d' : List ℕ) (p : ℕ) (s : PutAt (parted (take j l)) at d d' p)
+module _ (l : List ℕ) {at : ℕ} {d : List ℕ} (j : ℕ) {d' : List ℕ} {p : ℕ} (s : PutAt (parted (take j l)) at d d' p)
     (h : j < length l) where
   -- there is room for a comma and the next number
   pub row_room : at + length (parted l) ≤ length d → p + 1 + length (numeral (get_or l j 0)) ≤ length d'
@@ -85,3 +85,6 @@ module _ (l : List ℕ) (at : ℕ) (d : List ℕ) (j : ℕ) (d' : List ℕ) (p :
   row_next k d'' q b =
       let t = put_then _ _ p d' _ d'' _ q (put_byte comma p d' k) b in
       put_as (sym (parted_next l j h)) (put_then _ _ at d d' d'' p q s t)
+
+-- how long numbers are, one after another
+pub ruleset row_lengths = (parted_none, parted_all, parted_longer, commas_length)

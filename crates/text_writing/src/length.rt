@@ -28,17 +28,16 @@ pub fn digits(x: Index) -> usize
 }
 
 // How long numbers are, parted by commas: each with its comma, less the first comma.
+#[tactic(auto, using(crate::proofs::Rows::row_lengths))]
 fn row_length(list: &[Index]) -> usize
     requires { length list.now < width }
     ensures { (result ≡ length (commas list.now)) × (result < 6 * width) }
 {
     let mut n: usize = 0;
-    let mut j: usize = 0;
-    while j < list.len() {
-        n += 1 + digits(list[j]);
-        j += 1;
+    for &x in list {
+        n += 1 + digits(x);
     }
-    if n == 0 { 0 } else { n - 1 }
+    n.saturating_sub(1)
 }
 
 // How long a line is.
@@ -56,12 +55,9 @@ fn rank_length(counts: &[Index], ends: &[Index], inc: &[Index], here: usize, r: 
     ensures { (result ≡ length (rank_bytes (layers (held counts.entry ends.entry inc.entry)) r))
         × (result ≤ width * (8 * width)) }
 {
-    let count = counts[r];
     let mut n = line_length(b"count=", &counts[r..r + 1]);
-    let mut i: Index = 0;
-    while i < count {
+    for i in 0..counts[r] {
         n += line_length(b"subs=", inner::side_of(ends, inc, here, i, 0));
-        i += 1;
     }
     n
 }
@@ -71,14 +67,12 @@ pub fn text_length(counts: &[Index], ends: &[Index], inc: &[Index]) -> usize
     requires { Shaped limits (held counts ends inc) }
     ensures { result ≡ length (text_of (layers (held counts.entry ends.entry inc.entry))) }
 {
-    let rank: [Index; 1] = [(counts.len() - 1) as Index; 1];
+    let rank = [(counts.len() - 1) as Index];
     let mut n = line_length(b"rank=", &rank);
     let mut here: usize = 0;
-    let mut r: usize = 0;
-    while r < counts.len() {
+    for (r, &count) in counts.iter().enumerate() {
         n += rank_length(counts, ends, inc, here, r);
-        here += inner::wide(counts[r]);
-        r += 1;
+        here += inner::wide(count);
     }
     n
 }

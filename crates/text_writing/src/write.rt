@@ -17,12 +17,9 @@ fn put_key(key: &[u8], text: &mut [u8], at: usize) -> usize
     requires { at + size key.now ≤ size text.old }
     ensures { PutAt key.now at text.old text.new result }
 {
-    let mut k: usize = 0;
-    while k < key.len() {
-        text[at + k] = key[k];
-        k += 1;
-    }
-    at + key.len()
+    let end = at + key.len();
+    text[at..end].copy_from_slice(key);
+    end
 }
 
 // Writes a number in decimal, from its last digit to its first.
@@ -31,12 +28,10 @@ fn put_number(x: Index, text: &mut [u8], at: usize) -> usize
     ensures { PutAt (numeral x) at text.old text.new result }
 {
     let end = at + length::digits(x);
-    let mut p = end;
     let mut v = x;
-    while 10 <= v {
-        p -= 1;
+    for p in (at + 1..end).rev() {
         text[p] = b'0' + (v % 10) as u8;
-        v = v / 10;
+        v /= 10;
     }
     text[at] = b'0' + v as u8;
     end
@@ -48,11 +43,9 @@ fn put_more(list: &[Index], text: &mut [u8], at: usize) -> usize
     ensures { PutAt (parted list.now) at text.old text.new result }
 {
     let mut p = at;
-    let mut j: usize = 0;
-    while j < list.len() {
+    for &x in list {
         text[p] = b',';
-        p = put_number(list[j], &mut *text, p + 1);
-        j += 1;
+        p = put_number(x, text, p + 1);
     }
     p
 }
@@ -62,11 +55,11 @@ fn put_row(list: &[Index], text: &mut [u8], at: usize) -> usize
     requires { at + size (commas list.now) ≤ size text.old }
     ensures { PutAt (commas list.now) at text.old text.new result }
 {
-    if list.len() == 0 {
+    let Some((&first, more)) = list.split_first() else {
         return at;
-    }
-    let p = put_number(list[0], &mut *text, at);
-    put_more(&list[1..], &mut *text, p)
+    };
+    let p = put_number(first, text, at);
+    put_more(more, text, p)
 }
 
 // Writes a line.
@@ -75,8 +68,8 @@ fn put_line(key: &[u8], list: &[Index], text: &mut [u8], at: usize) -> usize
     ensures { PutAt (line_bytes (line key.now list.now)) at
         text.old text.new result }
 {
-    let from = put_key(key, &mut *text, at);
-    let end = put_row(list, &mut *text, from);
+    let from = put_key(key, text, at);
+    let end = put_row(list, text, from);
     text[end] = b'\n';
     end + 1
 }
@@ -96,11 +89,9 @@ fn put_elements(
         text.old text.new result }
 {
     let mut p = at;
-    let mut i: Index = 0;
-    while i < n {
+    for i in 0..n {
         let subs = inner::side_of(ends, inc, here, i, 0);
-        p = put_line(b"subs=", subs, &mut *text, p);
-        i += 1;
+        p = put_line(b"subs=", subs, text, p);
     }
     p
 }
@@ -121,8 +112,8 @@ fn put_rank(
     ensures { PutAt (rank_bytes (layers (held counts.entry ends.entry inc.entry)) r) at
         text.old text.new result }
 {
-    let p = put_line(b"count=", &counts[r..r + 1], &mut *text, at);
-    put_elements(ends, inc, here, counts[r], &mut *text, p)
+    let p = put_line(b"count=", &counts[r..r + 1], text, at);
+    put_elements(ends, inc, here, counts[r], text, p)
 }
 
 // Writes the lines of all ranks.
@@ -136,11 +127,9 @@ fn put_ranks(counts: &[Index], ends: &[Index], inc: &[Index], text: &mut [u8], a
 {
     let mut p = at;
     let mut here: usize = 0;
-    let mut r: usize = 0;
-    while r < counts.len() {
-        p = put_rank(counts, ends, inc, here, r, &mut *text, p);
-        here += inner::wide(counts[r]);
-        r += 1;
+    for (r, &count) in counts.iter().enumerate() {
+        p = put_rank(counts, ends, inc, here, r, text, p);
+        here += inner::wide(count);
     }
     p
 }
@@ -152,7 +141,7 @@ pub fn put_text(counts: &[Index], ends: &[Index], inc: &[Index], text: &mut [u8]
     ensures { text.new
         ≡ over (text_of (layers (held counts.entry ends.entry inc.entry))) text.old }
 {
-    let rank: [Index; 1] = [(counts.len() - 1) as Index; 1];
-    let p = put_line(b"rank=", &rank, &mut *text, 0);
-    put_ranks(counts, ends, inc, &mut *text, p);
+    let rank = [(counts.len() - 1) as Index];
+    let p = put_line(b"rank=", &rank, text, 0);
+    put_ranks(counts, ends, inc, text, p);
 }

@@ -3,7 +3,6 @@
 -- Assumes nothing.
 use mathlib.Core.Path.{◌≡◌, refl, sym, ap, ◌∙◌}
 use mathlib.Core.Logic.{◌⊎◌, inl, inr}
-use mathlib.Core.Bool.{true, false, true≢false}
 use mathlib.Core.List.{List, [], ◌∷◌, ◌++◌}
 use Prim.Native.Nat.{ℕ, suc, ◌+◌, ◌-◌, ◌*◌, ◌≤◌, ◌<◌}
 use native.Mathlib.Decide.{dec_lt, ℕ_discrete}
@@ -19,33 +18,20 @@ use Rattle.listing.specs.Laid.{Laid}
 use Rattle.listing.specs.Layers.{layers, gather, derived}
 use Rattle.listing.specs.Shape.{Shaped}
 use Rattle.listing.proofs.Entries.{entries_length}
-use Rattle.listing.proofs.Listing.{before_zero, rank_there}
+use Rattle.listing.proofs.Listing.{before_zero, before_next, rank_there}
 use Rattle.listing.proofs.Places.{rank_fits, side_fits, few_in_rank}
 use Rattle.listing.proofs.ShapeExact.{shaped_ends}
 use Rattle.valid.specs.Agreement.{Agrees, AgreesAt, Cursors, AscendsBelow, AllBelow, Met, AllMet, SomeSups}
 
--- a no promises nothing
-pub said_no : {A : Type 0} → false ≡ true → A
-said_no e = absurd (true≢false (sym e))
-
--- what holds of all below n and of n, also where n was widened, holds of all below n + 1
-module _ (P : ℕ → Type 0) (n : ℕ) (h : (s : ℕ) → s < n → P s) where
-  pub each_next : P n → (s : ℕ) → s < n + 1 → P s
-  each_next p s l = go (ℕ_discrete s n)
-    where
-      go : Dec (s ≡ n) → P s
-      go (yes e) = rw e p
-      go (no d) = h s (omega arith)
-
-  pub each_at : (m : ℕ) → m ≡ n → P m → (s : ℕ) → s < n + 1 → P s
-  each_at m e p = each_next (rw e at p)
+-- what holds of all below n and of n holds of all below n + 1
+pub each_next : (P : ℕ → Type 0) (n : ℕ) → ((s : ℕ) → s < n → P s) → P n → (s : ℕ) → s < n + 1 → P s
+each_next P n h p s l = go (ℕ_discrete s n)
+  where
+    go : Dec (s ≡ n) → P s
+    go (yes e) = rw e p
+    go (no d) = h s (omega arith)
 
 -- ---- cursors
-
--- cursors that have moved are as many
-pub cursors_same : (ends : List ℕ) (place n : ℕ) (next next' : List ℕ) → Cursors ends place n next
-    → length next' ≡ length next → Cursors ends place n next'
-cursors_same ends place n next next' f e = record { whole = e ∙ f.whole; few = f.few; listed = f.listed }
 
 module _ (inc : List ℕ) (n : ℕ) where
   -- none has moved
@@ -183,7 +169,7 @@ gather_none f y = refl
 
 -- one more, l, has been looked at
 module _ (n : ℕ) (f : ℕ → List ℕ) (x : ℕ) (l : List ℕ) (e : l ≡ f x) where
-  pub all_below_next : AllBelow n f x → (length l ≡ 0 → ⊥) → AscendsBelow n l → AllBelow n f (x + 1)
+  pub all_below_next : AllBelow n f x → 0 < length l → AscendsBelow n l → AllBelow n f (x + 1)
   all_below_next a h o = each_next _ x a (omega (arith, ap length e), rw e at o)
 
   gather_next : (y : ℕ) → gather f y (x + 1) ≡ gather f y x ++ replicate (occurs y l) x
@@ -206,7 +192,9 @@ entries_run ends inc good k h l e at =
     let a = start ends k in
     ext_get_or 0 (entries ends inc k) l (omega (arith, n))
     (λ i b.
-    get_or-take (get_or ends k 0 - a) (drop a inc) i 0 (omega (arith, n)) ∙ get_or-drop a inc i 0 ∙ at i (omega (arith, n)))
+    get_or-take (get_or ends k 0 - a) (drop a inc) i 0 (omega (arith, n))
+    ∙ get_or-drop a inc i 0
+    ∙ at i (omega (arith, n)))
 
 module _ (L : Listing) (S : Shaped limits L) where
   -- there are cursors and ends for a rank
@@ -217,6 +205,11 @@ module _ (L : Listing) (S : Shaped limits L) where
     few = few_in_rank L S r;
     listed = omega (arith, e, rank_fits L S r);
   }
+
+  -- the next rank begins where one ends
+  pub next_begins : (r place size : ℕ) → place ≡ before L.counts r → size ≡ count L r
+      → place + size ≡ before L.counts (r + 1)
+  next_begins r place size e f = omega (arith, before_next L.counts r)
 
   -- the sups of an element, along which its cursor has gone from where they begin to where they end
   sups_run : (r i : ℕ) → i < count L r → (l next next' : List ℕ)
@@ -241,8 +234,8 @@ module _ (L : Listing) (S : Shaped limits L) where
 
   -- a rank from place p on, with m elements from place q on above it, whose cursors were set, have met all that lies
   -- above, and have come to the end
-  module _ (r p q m : ℕ) (ep : p ≡ before L.counts r) (eq : q ≡ before L.counts (suc r))
-      (em : m ≡ count L (suc r)) (next₀ next next' : List ℕ)
+  module _ (r p q m : ℕ) (ep : p ≡ before L.counts r) (eq : q ≡ before L.counts (r + 1))
+      (em : m ≡ count L (r + 1)) (next₀ next next' : List ℕ)
       (b : Laid 0 (λ s. get_or L.ends (2 * (p + s)) 0) (count L r) next₀ next)
       (k : AllBelow (count L r) (subs_at L.ends L.inc q) m)
       (t : Met L.inc (count L r) (λ y. gather (subs_at L.ends L.inc q) y m) next next')
@@ -254,11 +247,11 @@ module _ (L : Listing) (S : Shaped limits L) where
         let l = gather (subs_at L.ends L.inc q) i m in
         sups_run r i h l next next' (rw (ep, z) at (b.inside i h)) (t.moved i h) (λ j c. t.stand i j h c)
         (rw ep at (a i h))
-        ∙ (λ u. gather (subs_at L.ends L.inc (eq u)) i (em u))
+        ∙ rw (eq, em, add-one r)
 
     pub agrees_at : AgreesAt L r
     agrees_at = record {
-      all_below = rw (eq, em) at k;
+      all_below = rw (eq, em, add-one r) at k;
       some_sups = λ i l h. sups_some r i h (rw ep at (o l));
       derived_sups = its_sups;
     }

@@ -5,7 +5,7 @@ use mathlib.Core.Path.{◌≡◌, refl, sym, ap, ◌∙◌}
 use mathlib.Core.Logic.{◌↔◌, ◌⊎◌, inl, inr}
 use mathlib.Core.Bool.{true, false, not, ◌&&◌}
 use mathlib.Core.List.{List, [], ◌∷◌}
-use Prim.Native.Nat.{ℕ, ◌+◌, ◌≤◌, ◌<◌}
+use Prim.Native.Nat.{ℕ, ◌+◌, ◌*◌, ◌≤◌, ◌<◌}
 use native.Mathlib.Numerals.{add-one}
 use native.Mathlib.Omega.{arith}
 use borrow.Author.Tests.{leb-true, le-leb, lt-leb, not-false}
@@ -15,11 +15,11 @@ use lib.Seq.{drop-cons}
 use Rattle.order.proofs.Lists.{ascending_once}
 use Rattle.order.specs.Lists.{In, Ascending}
 use Rattle.listing.specs.Answers.{fine, refusal}
-use Rattle.listing.specs.Listing.{Listing, side}
+use Rattle.listing.specs.Listing.{Listing, before, entries, side}
 use Rattle.listing.specs.Refusals.{not_ascending}
 use Rattle.listing.proofs.Answers.{or_no, no_or, on_no, on_off}
 use Rattle.order.proofs.Tests.{and_true}
-use Rattle.listing.proofs.Places.{at_sides}
+use Rattle.listing.proofs.Places.{at_sides, side_at}
 use Rattle.listing.proofs.Elements.{elements_exact}
 use Rattle.valid_diamond.specs.Dyadic.{Distinct}
 use Rattle.valid.specs.Ascent.{climbs, side_ascent, element_ascent, ascent_test, AscendsAt, Ascends}
@@ -75,12 +75,14 @@ module _ (L : Listing) where
     λ h. on_off _ (refusal not_ascending r i s 0) (ap not ((climbs_exact (side L s r i)).1 h)),
   )
 
-  pub side_climbs : (r i s : ℕ) {l : List ℕ} → l ≡ side L s r i → climbs 0 l ≡ true → side_ascent L r i s ≡ fine
-  side_climbs r i s e h = rw (← e, h)
+  -- the list at a side, read from where its rank begins
+  module _ (here r i s : ℕ) {l : List ℕ} (e : here ≡ before L.counts r)
+      (k : l ≡ entries L.ends L.inc (2 * (here + i) + s)) where
+    pub side_climbs : true ≡ climbs 0 l → side_ascent L r i s ≡ fine
+    side_climbs h = rw (← side_at L here r i s e, ← k, ← h)
 
-  pub side_falls : (r i s : ℕ) {l : List ℕ} → l ≡ side L s r i → climbs 0 l ≡ false
-      → side_ascent L r i s ≡ refusal not_ascending r i s 0
-  side_falls r i s e h = rw (← e, h)
+    pub side_falls : false ≡ climbs 0 l → side_ascent L r i s ≡ refusal not_ascending r i s 0
+    side_falls h = rw (← side_at L here r i s e, ← k, ← h)
 
   pub element_exact : (r i : ℕ) → (element_ascent L r i).no ≡ 0 ↔ AscendsAt L r i
   unfolding element_ascent

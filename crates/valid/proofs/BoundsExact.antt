@@ -1,9 +1,9 @@
--- Test 1: its answer in each case, and its exactness: it answers 0 exactly if the listing is Bounded.
+-- Test 1 is exact: it answers 0 exactly if the listing is Bounded.
 -- Assumes nothing.
 use mathlib.Core.Path.{◌≡◌, ap}
 use mathlib.Core.Logic.{◌↔◌}
 use native.Mathlib.Omega.{arith}
-use borrow.Author.Tests.{eqb-true, eq-eqb, ne_eqb, not-false}
+use borrow.Author.Tests.{eqb-true, eq-eqb, not-false}
 use Rattle.listing.specs.Answers.{fine, refusal}
 use Rattle.listing.specs.Listing.{Listing, rank, count}
 use Rattle.listing.specs.Refusals.{not_bounded}
@@ -16,17 +16,9 @@ module _ (L : Listing) where
   abbrev unbounded : Answer
   unbounded = refusal not_bounded (count L 0) (count L (rank L)) 0 0
 
-  pub bounded_yes : count L 0 ≡ 1 → count L (rank L) ≡ 1 → bounded_test L ≡ fine
+  bounded_yes : count L 0 ≡ 1 → count L (rank L) ≡ 1 → bounded_test L ≡ fine
   unfolding bounded_test
   bounded_yes h k = rw (eq-eqb _ _ h, eq-eqb _ _ k)
-
-  pub bounded_low : (count L 0 ≡ 1 → ⊥) → bounded_test L ≡ unbounded
-  unfolding bounded_test
-  bounded_low h = rw (ne_eqb _ _ h)
-
-  pub bounded_high : count L 0 ≡ 1 → (count L (rank L) ≡ 1 → ⊥) → bounded_test L ≡ unbounded
-  unfolding bounded_test
-  bounded_high h k = rw (eq-eqb (count L 0) 1 h, ne_eqb (count L (rank L)) 1 k)
 
   -- Test 1 answers 0 exactly if the listing is Bounded.
   pub bounded_exact : (bounded_test L).no ≡ 0 ↔ Bounded L

@@ -7,3 +7,4 @@ pub mod AgreementTests
 pub mod TestNumbers
 pub mod TestsBroken
 pub mod TestsClear
+pub mod FirstRefusal

@@ -24,11 +24,8 @@ fn set_cursors(next: &mut [Index; limit::ELEMENTS], ends: &[Index], low: Rank)
     ensures { Laid 0 (λ s. get_or ends.now (2 * (low.place + s)) 0) low.size
         next.old next.new }
 {
-    let mut s: Index = 0;
-    while s < low.size {
-        let at = inner::wide(s);
+    for at in 0..inner::wide(low.size) {
         next[at] = ends[2 * (low.place + at)];
-        s += 1;
     }
 }
 
@@ -75,20 +72,17 @@ fn meet_list(
         next.old next.new }
 {
     let mut from: usize = 0;
-    let mut j: usize = 0;
-    while j < subs.len() {
-        let s = subs[j];
+    for &s in subs {
         if low.size <= s {
             return false;
         }
         if inner::wide(s) < from {
             return false;
         }
-        if !meet(&mut *next, ends, inc, low, s, x) {
+        if !meet(next, ends, inc, low, s, x) {
             return false;
         }
         from = inner::wide(s) + 1;
-        j += 1;
     }
     true
 }
@@ -110,16 +104,14 @@ fn meet_rank(
         (λ y. gather (subs_at ends.now inc.now high.place) y high.size)
         next.old next.new }
 {
-    let mut x: Index = 0;
-    while x < high.size {
+    for x in 0..high.size {
         let subs = inner::side_of(ends, inc, high.place, x, 0);
-        if subs.len() == 0 {
+        if subs.is_empty() {
             return false;
         }
-        if !meet_list(&mut *next, ends, inc, low, subs, x) {
+        if !meet_list(next, ends, inc, low, subs, x) {
             return false;
         }
-        x += 1;
     }
     true
 }
@@ -130,9 +122,7 @@ fn all_met(next: &[Index; limit::ELEMENTS], ends: &[Index], low: Rank, some: boo
     ensures all_met { result ≡ true → AllMet ends.now low.place low.size next.now }
     ensures some_sups { result ≡ true → some ≡ true → SomeSups ends.now low.place low.size }
 {
-    let mut s: Index = 0;
-    while s < low.size {
-        let at = inner::wide(s);
+    for at in 0..inner::wide(low.size) {
         let k = 2 * (low.place + at);
         if next[at] != ends[k + 1] {
             return false;
@@ -140,7 +130,6 @@ fn all_met(next: &[Index; limit::ELEMENTS], ends: &[Index], low: Rank, some: boo
         if some && ends[k] == ends[k + 1] {
             return false;
         }
-        s += 1;
     }
     true
 }
@@ -157,13 +146,9 @@ pub fn agree(counts: &[Index], ends: &[Index], inc: &[Index]) -> bool
     }
     let mut next: [Index; limit::ELEMENTS] = [0; limit::ELEMENTS];
     let mut here: usize = 0;
-    let mut r: usize = 0;
-    while r < counts.len() {
-        let low = Rank {
-            place: here,
-            size: counts[r],
-        };
-        here += inner::wide(counts[r]);
+    for (r, &size) in counts.iter().enumerate() {
+        let low = Rank { place: here, size };
+        here += inner::wide(size);
         let high = Rank {
             place: here,
             size: inner::count_at(counts, r + 1),
@@ -175,7 +160,6 @@ pub fn agree(counts: &[Index], ends: &[Index], inc: &[Index]) -> bool
         if !all_met(&next, ends, low, r + 1 < counts.len()) {
             return false;
         }
-        r += 1;
     }
     true
 }

@@ -12,14 +12,12 @@ fn climbs(list: &[Index]) -> bool
     ensures { result ≡ climbs_from 0 list.now }
 {
     let mut from: usize = 0;
-    let mut j: usize = 0;
-    while j < list.len() {
-        let x = inner::wide(list[j]);
+    for &number in list {
+        let x = inner::wide(number);
         if x < from {
             return false;
         }
         from = x + 1;
-        j += 1;
     }
     true
 }
@@ -52,6 +50,7 @@ fn check_side(
 }
 
 // Element i of rank r, which begins at place here: its subs, then its sups.
+#[tactic(auto, using(crate::proofs::FirstRefusal::first_refusal), unfolding(crate::specs::Ascent::element_ascent))]
 fn check_element(
     counts: &[Index],
     ends: &[Index],
@@ -79,14 +78,11 @@ fn check_rank(counts: &[Index], ends: &[Index], inc: &[Index], here: usize, r: u
         (element_ascent (held counts.entry ends.entry inc.entry) r) 0
         (get_or counts.now r 0) }
 {
-    let n = counts[r];
-    let mut i: Index = 0;
-    while i < n {
+    for i in 0..counts[r] {
         let a = check_element(counts, ends, inc, here, r, i);
         if a.no != 0 {
             return a;
         }
-        i += 1;
     }
     inner::plain(0)
 }
@@ -97,14 +93,12 @@ pub fn check_all(counts: &[Index], ends: &[Index], inc: &[Index]) -> Answer
     ensures { result ≡ ascent_test (held counts.entry ends.entry inc.entry) }
 {
     let mut here: usize = 0;
-    let mut r: usize = 0;
-    while r < counts.len() {
+    for (r, &size) in counts.iter().enumerate() {
         let a = check_rank(counts, ends, inc, here, r);
         if a.no != 0 {
             return a;
         }
-        here += inner::wide(counts[r]);
-        r += 1;
+        here += inner::wide(size);
     }
     inner::plain(0)
 }

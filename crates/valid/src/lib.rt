@@ -16,6 +16,7 @@ use valid_diamond::dyadic;
 use valid_incidence::incidence;
 
 // Whether the listing is valid: bounded, each index matched by one that leads back, and the diamond below the top.
+#[tactic(auto, using(crate::proofs::FirstRefusal::first_refusal), unfolding(crate::specs::Tests::is_valid))]
 pub fn is_valid(counts: &[Index], ends: &[Index], inc: &[Index]) -> Answer
     ensures { result ≡ tests.is_valid limits (held counts.entry ends.entry inc.entry) }
 {
@@ -35,6 +36,7 @@ pub fn is_valid(counts: &[Index], ends: &[Index], inc: &[Index]) -> Answer
 }
 
 // One minimal and one maximal element.
+#[tactic(auto, using(crate::proofs::FirstRefusal::first_refusal), unfolding(crate::specs::Tests::bounded))]
 pub fn bounded(counts: &[Index], ends: &[Index], inc: &[Index]) -> Answer
     ensures { result ≡ tests.bounded limits (held counts.entry ends.entry inc.entry) }
 {
@@ -46,6 +48,7 @@ pub fn bounded(counts: &[Index], ends: &[Index], inc: &[Index]) -> Answer
 }
 
 // Whether subs and sups match up, and all refer to elements that are there.
+#[tactic(auto, using(crate::proofs::FirstRefusal::first_refusal), unfolding(crate::specs::Tests::check_incidences))]
 pub fn check_incidences(counts: &[Index], ends: &[Index], inc: &[Index]) -> Answer
     ensures { result ≡ tests.check_incidences limits
         (held counts.entry ends.entry inc.entry) }
@@ -58,6 +61,7 @@ pub fn check_incidences(counts: &[Index], ends: &[Index], inc: &[Index]) -> Answ
 }
 
 // The diamond at the ranks below the top. It means something only where subs and sups match up: that is tested first.
+#[tactic(auto, using(crate::proofs::FirstRefusal::first_refusal), unfolding(crate::specs::Tests::is_dyadic))]
 pub fn is_dyadic(counts: &[Index], ends: &[Index], inc: &[Index]) -> Answer
     ensures { result ≡ tests.is_dyadic limits
         (held counts.entry ends.entry inc.entry) }
@@ -74,6 +78,7 @@ pub fn is_dyadic(counts: &[Index], ends: &[Index], inc: &[Index]) -> Answer
 }
 
 // Whether the listing is closed: valid, its lists ascending, and the diamond at the top as well.
+#[tactic(auto, using(crate::proofs::FirstRefusal::first_refusal), unfolding(crate::specs::Tests::closed))]
 pub fn closed(counts: &[Index], ends: &[Index], inc: &[Index]) -> Answer
     ensures { result ≡ tests.closed limits (held counts.entry ends.entry inc.entry) }
 {

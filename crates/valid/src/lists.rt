@@ -12,6 +12,7 @@ use valid_incidence::incidence;
 
 // What is wrong with the lists: an incidence first, then one that does not ascend. Most cells pass at the quick look;
 // only where it says no do the tests go through the listing, to find what they refuse.
+#[tactic(auto, using(crate::proofs::FirstRefusal::first_refusal, crate::proofs::AgreementTests::agrees_fine))]
 pub fn check_lists(counts: &[Index], ends: &[Index], inc: &[Index]) -> Answer
     requires shaped { Shaped limits (held counts ends inc) }
     requires counts_value { get_or counts.now 0 0 ≡ 1 }

@@ -3,5 +3,6 @@ pub mod OneTwice
 pub mod Totals
 pub mod Counting
 pub mod Undoing
+pub mod Sections
 pub mod Twos
 pub mod DyadicExact

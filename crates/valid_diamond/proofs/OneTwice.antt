@@ -30,7 +30,8 @@ two_numbers (x ∷ y ∷ z ∷ l) h = absurd (omega arith)
 
 -- Two subs, with one sub each, the same.
 module _ (ends inc : List ℕ) (b : ℕ) (l : List ℕ) {first second : List ℕ}
-    (f : first ≡ entries ends inc (2 * (b + get_or l 0 0) + 0)) (s : second ≡ entries ends inc (2 * (b + get_or l 1 0) + 0))
+    (f : first ≡ entries ends inc (2 * (b + get_or l 0 0) + 0))
+    (s : second ≡ entries ends inc (2 * (b + get_or l 1 0) + 0))
     (two : length l ≡ 2) (one : length first ≡ 1) (other : length second ≡ 1) where
   pub one_twice : get_or first 0 0 ≡ get_or second 0 0
       → subs_of_all ends inc b l ≡ get_or first 0 0 ∷ get_or first 0 0 ∷ []

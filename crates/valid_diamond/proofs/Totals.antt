@@ -103,8 +103,8 @@ module _ {n : ℕ} (t : List ℕ) (met twice : ℕ) (S : TotalsIn n t met twice)
   totals_few = (omega (arith, least_le 1 t, S), omega (arith, least_le 2 t, S))
 
   -- an index is met that had not been met twice
-  pub totals_more : (x : ℕ) → x < n → get_or t x 0 < 2 → (m w : ℕ) → m + get_or t x 0 ≡ met + 1 → w ≡ twice + get_or t x 0
-      → TotalsIn n (set t x (get_or t x 0 + 1)) m w
+  pub totals_more : (x : ℕ) → x < n → get_or t x 0 < 2 → (m w : ℕ) → m + get_or t x 0 ≡ met + 1
+      → w ≡ twice + get_or t x 0 → TotalsIn n (set t x (get_or t x 0 + 1)) m w
   totals_more x h g m w p q =
       let c = get_or t x 0 in
       let l : x < length t = omega (arith, S) in

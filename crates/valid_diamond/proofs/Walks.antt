@@ -235,7 +235,8 @@ module _ (W : Answer) (f : ℕ → Answer) (t : List ℕ) (x n : ℕ)
       let o : on (eqb (get_or t x 0) 1) (f x) ≡ f x = rw (eq-eqb (get_or t x 0) 1 (rw q at c)) in
       sym (of_stop W _ x n e h (stops (sym o) z) ∙ o)
 
-  pub lone_next : (k : ℕ) → k ≡ x → (get_or t k 0 ≡ 1 → ⊥) → W ≡ first_of (λ y. on (eqb (get_or t y 0) 1) (f y)) (x + 1) n
+  pub lone_next : (k : ℕ) → k ≡ x → (get_or t k 0 ≡ 1 → ⊥)
+      → W ≡ first_of (λ y. on (eqb (get_or t y 0) 1) (f y)) (x + 1) n
   lone_next k q c = of_next W _ x n e h (on_off _ (f x) (ne_eqb (get_or t x 0) 1 (rw q at c)))
 
 -- the tally tells what was seen

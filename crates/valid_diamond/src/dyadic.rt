@@ -207,28 +207,28 @@ fn undo_all(
 
 // Whether a walk meets one index twice and nothing else, as that under an edge does: there are two subs with one sub
 // each, the same. Such a walk needs no tally.
+#[tactic(auto, using(crate::proofs::Walks::list_there))]
 fn meets_one_twice(ends: &[Index], inc: &[Index], b: usize, subs: &[Index]) -> bool
     requires ends { Ends ends.now inc.now }
     requires walkable { Walkable ends.now inc.now b limits.elements subs.now }
     ensures { result ≡ true → (x : ℕ)
         × (subs_of_all ends.now inc.now b subs.now ≡ x ∷ x ∷ []) }
 {
-    if subs.len() != 2 {
+    let &[first, second] = subs else {
         return false;
-    }
-    let first = inner::side_of(ends, inc, b, subs[0], 0);
-    if first.len() != 1 {
+    };
+    let &[under_first] = inner::side_of(ends, inc, b, first, 0) else {
         return false;
-    }
-    let second = inner::side_of(ends, inc, b, subs[1], 0);
-    if second.len() != 1 {
+    };
+    let &[under_second] = inner::side_of(ends, inc, b, second, 0) else {
         return false;
-    }
-    first[0] == second[0]
+    };
+    under_first == under_second
 }
 
 // The sections under an element. The tally comes in as that of nothing, and is so again where they pass. The rank below
 // begins at place b.
+#[tactic(auto, using(crate::proofs::Sections::sections))]
 fn check_sections(
     tally: &mut [u8; limit::ELEMENTS],
     counts: &[Index],

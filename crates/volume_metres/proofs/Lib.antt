@@ -6,3 +6,4 @@ pub mod CoordinateTest
 pub mod Determinants
 pub mod Rounding
 pub mod Running
+pub mod AllOf

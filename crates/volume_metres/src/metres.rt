@@ -9,11 +9,9 @@ const FARTHEST: f64 = 1000.0;
 pub fn is_coordinate(x: f64) -> bool
     ensures { result ≡ coordinate x }
 {
-    if x >= -FARTHEST {
-        if x <= FARTHEST {
-            let whole = std::num::truncating_f64_to_i64(x);
-            return std::num::nearest_i64_to_f64(whole) == x;
-        }
+    if x >= -FARTHEST && x <= FARTHEST {
+        let whole = std::num::truncating_f64_to_i64(x);
+        return std::num::nearest_i64_to_f64(whole) == x;
     }
     false
 }
@@ -22,12 +20,5 @@ pub fn is_coordinate(x: f64) -> bool
 pub fn all_coordinates(xs: &[f64]) -> bool
     ensures { result ≡ all_coordinates xs.now }
 {
-    let mut k: usize = 0;
-    while k < xs.len() {
-        if !is_coordinate(xs[k]) {
-            return false;
-        }
-        k += 1;
-    }
-    true
+    xs.iter().all(|&x| is_coordinate(x))
 }

@@ -1,6 +1,7 @@
 -- The lowest-numbered vertex of a face, met along its edges.
 -- Assumes nothing.
 use mathlib.Core.Path.{◌≡◌}
+use mathlib.Core.List.{List}
 use Prim.Native.Nat.{ℕ, ◌+◌, ◌≤◌, ◌<◌}
 use native.Mathlib.Decide.{ℕ_discrete}
 use native.Mathlib.Omega.{arith}
@@ -25,6 +26,14 @@ module _ (L : Listing) (I : Incident L) where
   pub edge_there : (f k : ℕ) → f < count L 3 → k < length (subs L 3 f) → get_or (subs L 3 f) k 0 < count L 2
   unfolding Incident
   edge_there f k h i = ((I 3 f h).lower.each _ (in_at (subs L 3 f) k i)).1
+
+  -- the edges of a face, as a list at hand
+  module _ (f : ℕ) (h : f < count L 3) (l : List ℕ) (its : l ≡ subs L 3 f) where
+    pub some_edge : 0 < length l
+    some_edge = rw its (some_sub 3 f (omega arith) h)
+
+    pub edges_there : (k : ℕ) → k < length l → get_or l k 0 < count L 2
+    edges_there k i = rw its (edge_there f k h (rw its at i))
 
   -- the lowest vertex of an edge is one of its vertices
   edge_least : (e : ℕ) → e < count L 2 → In (least_of (subs L 2 e)) (subs L 2 e)

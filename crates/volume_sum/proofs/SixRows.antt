@@ -4,12 +4,12 @@ use mathlib.Core.Path.{◌≡◌, refl, sym, ap, ◌∙◌}
 use mathlib.Core.Logic.{◌≢◌}
 use mathlib.Core.Bool.{cond}
 use mathlib.Core.List.{List, [], ◌∷◌, ◌++◌, map, append-nil, map-append}
-use Prim.Native.Nat.{ℕ, ◌+◌, ◌<◌}
+use Prim.Native.Nat.{ℕ, ◌+◌, ◌-◌, ◌*◌, ◌<◌}
 use native.Mathlib.Numerals.{add-one}
 use native.Mathlib.Omega.{arith}
 use borrow.Author.Tests.{eq-eqb, ne_eqb}
 use lib.Dec.{eqb}
-use lib.ListN.{length, get_or}
+use lib.ListN.{length, get_or, take, drop}
 use lib.Ieee.{Float, binary64, of_bits, add}
 use Rattle.listing.specs.Listing.{Listing}
 use Rattle.search_theory.specs.Search.{evens}
@@ -20,6 +20,13 @@ use Rattle.volume_metres.specs.Formulas.{nothing, in_floats, running_sum}
 use Rattle.volume_metres.proofs.Rounding.{running_snoc}
 use Rattle.volume_metres.proofs.Running.{zero_literal}
 use Rattle.volume_theory.specs.Six.{part_formula, six_formula}
+
+-- row k, cut from a table
+pub row_cut : (w : ℕ) (table : List ℕ) (k : ℕ) → take (k * w + w - k * w) (drop (k * w) table) ≡ row_of w table k
+unfolding row_of
+row_cut w table k =
+    let e : k * w + w - k * w ≡ w = omega arith in
+    ap (λ n. take n (drop (k * w) table)) e
 
 -- nothing is added: 0.0
 pub six_none : (L : Listing) (xs : List Float) (w : ℕ) (table bytes : List ℕ)

@@ -35,13 +35,11 @@ fn lowest_of_face(
 {
     let face = inner::side_of(ends, inc, faces, i, 0);
     let mut lowest = lowest_of_edge(counts, ends, inc, edges, face[0]);
-    let mut k: usize = 1;
-    while k < face.len() {
+    for k in 1..face.len() {
         let v = lowest_of_edge(counts, ends, inc, edges, face[k]);
         if v < lowest {
             lowest = v;
         }
-        k += 1;
     }
     lowest
 }
@@ -55,12 +53,9 @@ pub fn lowest_of_faces(counts: &[Index], ends: &[Index], inc: &[Index]) -> [Inde
     let edges = inner::elements_before(counts, 2);
     let faces = edges + inner::wide(counts[2]);
     let mut lowest: [Index; limit::ELEMENTS] = [0; limit::ELEMENTS];
-    let n = counts[3];
-    let mut i: Index = 0;
-    while i < n {
+    for i in 0..counts[3] {
         let at = inner::wide(i);
         lowest[at] = lowest_of_face(counts, ends, inc, edges, faces, i);
-        i += 1;
     }
     lowest
 }

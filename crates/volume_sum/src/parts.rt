@@ -65,26 +65,14 @@ pub fn six_of(
 {
     let lowest = faces::lowest_of_faces(counts, ends, inc);
     let edges = inner::elements_before(counts, 2);
-    let w = counts.len();
-    let end = inner::wide(n);
+    let ranks = counts.len();
     let mut six = 0.0;
-    let mut k: usize = 0;
-    while k < end {
+    for k in 0..inner::wide(n) {
         if orientations[k] == 0 {
-            let from = k * w;
-            let to = from + w;
-            six = six
-                + part_of(
-                    counts,
-                    ends,
-                    inc,
-                    coordinates,
-                    &lowest,
-                    edges,
-                    &table[from..to],
-                );
+            let from = k * ranks;
+            let flag = &table[from..from + ranks];
+            six += part_of(counts, ends, inc, coordinates, &lowest, edges, flag);
         }
-        k += 1;
     }
     six
 }

@@ -1,13 +1,8 @@
--- Invariant: the elements of the ranks below, and the first i of this rank, have their numbers. Measure: the elements
--- left.
+-- The invariant: the elements of the ranks below, and the first i of this rank, have their numbers.
 -- Assumes nothing.
-use Prim.Native.Nat.{◌-◌, ◌≤◌}
 use Rattle.listing.specs.Listing.{listing}
 use Rattle.body_count.specs.Capped.{CountedBelow}
 use Rattle.body_count.proofs.chains.count_rank.Given as goal
 
 abbrev pub invariant-loop-i : goal.invariant-loop-i
-invariant-loop-i l = (l.i ≤ l.n) × CountedBelow (listing l.counts l.ends l.inc) l.r l.i l.numbers
-
-abbrev pub decreases-loop-i : goal.decreases-loop-i
-decreases-loop-i l = l.n - l.i
+invariant-loop-i l = CountedBelow (listing l.counts l.ends l.inc) l.r l.i l.numbers

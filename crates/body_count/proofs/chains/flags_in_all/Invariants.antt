@@ -1,15 +1,10 @@
--- Invariant: the elements of the ranks below r have their numbers, and b is where the rank below r begins. Measure: the
--- ranks left.
+-- The invariant: the elements of the ranks below r have their numbers, and b is where the rank below r begins.
 -- Assumes nothing.
 use mathlib.Core.Path.{◌≡◌}
-use Prim.Native.Nat.{◌-◌, ◌≤◌}
-use lib.ListN.{length}
+use Prim.Native.Nat.{◌-◌}
 use Rattle.listing.specs.Listing.{listing, before}
 use Rattle.body_count.specs.Capped.{CountedBelow}
 use Rattle.body_count.proofs.chains.flags_in_all.Given as goal
 
 abbrev pub invariant-loop-r : goal.invariant-loop-r
-invariant-loop-r l = (1 ≤ l.r) × (l.r ≤ length l.counts) × (l.b ≡ before l.counts (l.r - 1)) × CountedBelow (listing l.counts l.ends l.inc) l.r 0 l.numbers
-
-abbrev pub decreases-loop-r : goal.decreases-loop-r
-decreases-loop-r l = length l.counts - l.r
+invariant-loop-r l = (l.b ≡ before l.counts (l.r - 1)) × CountedBelow (listing l.counts l.ends l.inc) l.r 0 l.numbers

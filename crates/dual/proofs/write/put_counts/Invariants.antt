@@ -1,13 +1,16 @@
--- `put_counts`. Invariant: the last r counts are written, the last first, and no other number has changed. Measure: the
--- counts left.
+-- `put_counts`. Invariant: the counts that are no longer left are written, the last first, and no other number has
+-- changed.
 -- Assumes nothing.
-use Prim.Native.Nat.{◌-◌, ◌≤◌}
+use mathlib.Core.Path.{◌≡◌}
+use Prim.Native.Nat.{◌+◌, ◌-◌}
 use lib.ListN.{length, get_or}
 use Rattle.listing.specs.Laid.{Laid}
+use Rattle.dual.proofs.Backward.{FirstLeft, left_of}
 use Rattle.dual.proofs.write.put_counts.Given as goal
 
-abbrev pub invariant-loop-r : goal.invariant-loop-r
-invariant-loop-r l = (l.r ≤ length l.pcounts) × Laid 0 (λ k. get_or l.pcounts (length l.pcounts - 1 - k) 0) l.r l.initial.counts l.counts
-
-abbrev pub decreases-loop-r : goal.decreases-loop-r
-decreases-loop-r l = length l.pcounts - l.r
+abbrev pub invariant-loop-place : goal.invariant-loop-place
+invariant-loop-place l =
+    let left = l.place-iterator.iter.iter in
+    let place = l.place-iterator.count in
+    FirstLeft l.pcounts left × (place + left_of left ≡ length l.pcounts)
+    × Laid 0 (λ k. get_or l.pcounts (length l.pcounts - 1 - k) 0) place l.initial.counts l.counts

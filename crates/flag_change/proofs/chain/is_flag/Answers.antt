@@ -1,22 +1,18 @@
-use mathlib.Core.Path.{◌≡◌, refl, sym, ◌∙◌}
+-- `is_flag`. One rank after another: each begins where the one below it ends.
+-- Assumes nothing.
+use mathlib.Core.Path.{refl, sym, ◌∙◌}
 use native.Mathlib.Omega.{arith}
-use lib.ListN.{length}
 use Rattle.listing.specs.Listing.{Listing, listing}
 use Rattle.listing.proofs.Listing.{before_zero, before_next}
 use Rattle.listing.proofs.Places.{few_before}
 use Rattle.order.specs.Tests.{every}
 use Rattle.order.proofs.Tests.{every_next, every_stop}
-use Rattle.flag_change.proofs.FlagExact.{other_length, same_length}
+use Rattle.flag_change.proofs.FlagExact.{same_length}
 use Rattle.flag_change.proofs.chain.is_flag.Goals as goal
-
-pub returns-then-flag-counts : goal.returns-then-flag-counts
-returns-then-flag-counts c =
-    let L : Listing = listing c.args.counts.now c.args.ends.now c.args.inc.now in
-    sym (other_length L _ (λ e. omega arith))
 
 pub loop-r-init : goal.loop-r-init
 unfolding every
-loop-r-init c = (omega arith, sym (before_zero _), refl)
+loop-r-init c = (sym (before_zero _), refl)
 
 pub returns-then-not-stands_at : goal.returns-then-not-stands_at
 returns-then-not-stands_at c =
@@ -31,14 +27,5 @@ overflow_add-here c =
 
 pub loop-r-preserved : goal.loop-r-preserved
 loop-r-preserved c =
-    let t = sym c.stands_at.ensures ∙ c.if-not-stands_at.false in (
-      omega arith,
-      rw (c.wide-here.ensures.0, c.loop-r.invariant.1) (sym (before_next _ _)),
-      every_next _ _ c.loop-r.invariant.2 t,
-    )
-
-pub returns : goal.returns
-returns c =
-    let L : Listing = listing c.args.counts.now c.args.ends.now c.args.inc.now in
-    let z : c.loop-r.r ≡ length c.args.counts.now = omega arith in
-    sym (same_length L _ c.if-flag-counts.false ∙ rw (← z) c.loop-r.invariant.2)
+    let b = before_next c.args.counts.now c.loop-r.r in
+    (omega arith, every_next _ _ c.loop-r.invariant.1 (sym c.stands_at.ensures ∙ c.if-not-stands_at.false))

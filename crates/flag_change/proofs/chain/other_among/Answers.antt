@@ -1,19 +1,23 @@
-use mathlib.Core.Path.{sym, ◌∙◌}
-use Rattle.flag_change.proofs.Common.{same_next, lacked_next, held_found, none_left}
+-- `other_among`. What is looked for among the numbers of the first list is the first number of what the two share.
+-- Assumes nothing.
+use mathlib.Core.Path.{◌∙◌}
+use mathlib.Core.Bool.{not, ◌&&◌}
+use Prim.Native.Nat.{ℕ}
+use lib.Dec.{eqb}
+use Rattle.std.proofs.Common.{rules, tests}
+use Rattle.std.proofs.lemmas.Iterator.{YieldsList-from_slice}
+use Rattle.std.proofs.lemmas.Iterator.Consumers.{YieldsList-from_copied}
+use Rattle.std.proofs.lemmas.Iterator.Search.{find_from_yields_List}
+use Rattle.order.specs.Lists.{has}
+use Rattle.flag_change.proofs.Common.{found_is}
 use Rattle.flag_change.proofs.chain.other_among.Goals as goal
 
-pub loop-i-preserved-then-x-e : goal.loop-i-preserved-then-x-e
-loop-i-preserved-then-x-e c = c.loop-i.invariant ∙ same_next _ _ _ _ c.loop-i-test.true c.if-x-e.true
-
-pub returns-then-ascending_contains : goal.returns-then-ascending_contains
-returns-then-ascending_contains c =
-    let k = sym c.ascending_contains.ensures ∙ c.if-ascending_contains.true in
-    sym (c.loop-i.invariant ∙ held_found _ _ _ _ c.loop-i-test.true k c.if-x-e.false)
-
-pub loop-i-preserved : goal.loop-i-preserved
-loop-i-preserved c =
-    let k = sym c.ascending_contains.ensures ∙ c.if-ascending_contains.false in
-    c.loop-i.invariant ∙ lacked_next _ _ _ _ c.loop-i-test.true k
-
 pub returns : goal.returns
-returns c = sym (c.loop-i.invariant ∙ none_left _ _ c.args.long.now _ c.loop-i-test.false)
+returns c =
+    let e = c.args.e in
+    let short = c.args.short.now in
+    let long = c.args.long.now in
+    let test = λ (x : ℕ). not (eqb x e) && has long x in
+    let found = find_from_yields_List test _ _ c.find.result c.find.ensures.ran
+    (YieldsList-from_copied (YieldsList-from_slice short cc)) (λ x b q k. search (rules, tests)) in
+    c.unwrap_or.ensures ∙ found_is e short long c.find.result found

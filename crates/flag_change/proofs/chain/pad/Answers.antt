@@ -1,13 +1,12 @@
-use mathlib.Core.Path.{refl, ◌∙◌}
-use native.Mathlib.Omega.{arith}
-use Rattle.flag_change.proofs.Padding.{filled_next, filled_end}
+-- `pad`. The flag stands at the front, and behind it what is left of the 0s.
+-- Assumes nothing.
+use Prim.Native.Nat.{ℕ}
+use lib.ListN.{length}
+use Rattle.std.proofs.lemmas.List.{drop-replicate}
+use Rattle.listing.specs.Listing.{limits}
+use Rattle.flag_change.specs.Change.{padded}
 use Rattle.flag_change.proofs.chain.pad.Goals as goal
 
-pub loop-k-init : goal.loop-k-init
-loop-k-init c = (omega arith, refl)
-
-pub loop-k-preserved : goal.loop-k-preserved
-loop-k-preserved c = (omega arith, rw c.loop-k.invariant.1 (filled_next _ _ c.loop-k-test.true c.requires))
-
 pub returns : goal.returns
-returns c = c.loop-k.invariant.1 ∙ filled_end c.args.flag.now c.loop-k.k (omega arith)
+unfolding padded
+returns c = rw (c.copy_from_slice.ensures.after, ← drop-replicate {X = ℕ} (length c.args.flag.now) limits.ranks 0)

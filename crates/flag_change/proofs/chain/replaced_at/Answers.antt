@@ -1,11 +1,10 @@
 -- `replaced_at`: what is put in is the other of what two lists share, the sups of the lower neighbour and the subs of
 -- the upper one; both ascend. No loop.
 -- Assumes nothing.
-use mathlib.Core.Path.{◌≡◌, ◌∙◌}
-use Prim.Native.Nat.{◌+◌, ◌-◌}
+use mathlib.Core.Path.{◌∙◌}
 use native.Mathlib.Omega.{arith}
 use lib.ListN.{get_or}
-use Rattle.listing.specs.Listing.{Listing, listing, subs, sups}
+use Rattle.listing.specs.Listing.{Listing, listing}
 use Rattle.listing.proofs.ShapeExact.{shaped_ends}
 use Rattle.listing.proofs.Places.{side_fits, side_at}
 use Rattle.valid.specs.Ascent.{Ascends}
@@ -15,19 +14,19 @@ use Rattle.flag_change.proofs.chain.replaced_at.Goals as goal
 pub side_of-below-requires : goal.side_of-below-requires
 side_of-below-requires c =
     let L : Listing = listing c.args.counts.now c.args.ends.now c.args.inc.now in
-    let near : Flanked L c.args.flag.now c.args.r = c.requires.flanked in
-    record {
-      ends = shaped_ends L c.requires.shaped;
-      s_in_bounds = rw c.requires.low_value.0 (side_fits L c.requires.shaped _ _ 1 near.lower (omega arith));
+    let S = c.requires.shaped in
+    let near : Flanked L c.args.flag.now c.args.r = c.requires.flanked in record {
+      ends = shaped_ends L S;
+      s_in_bounds = rw c.requires.low_value.0 (side_fits L S _ _ 1 near.lower (omega arith));
     }
 
 pub side_of-above-requires : goal.side_of-above-requires
 side_of-above-requires c =
     let L : Listing = listing c.args.counts.now c.args.ends.now c.args.inc.now in
-    let near : Flanked L c.args.flag.now c.args.r = c.requires.flanked in
-    record {
-      ends = shaped_ends L c.requires.shaped;
-      s_in_bounds = rw c.requires.low_value.1 (side_fits L c.requires.shaped _ _ 0 near.upper (omega arith));
+    let S = c.requires.shaped in
+    let near : Flanked L c.args.flag.now c.args.r = c.requires.flanked in record {
+      ends = shaped_ends L S;
+      s_in_bounds = rw c.requires.low_value.1 (side_fits L S _ _ 0 near.upper (omega arith));
     }
 
 pub other_between-put-requires : goal.other_between-put-requires
@@ -35,19 +34,17 @@ unfolding Ascends
 other_between-put-requires c =
     let L : Listing = listing c.args.counts.now c.args.ends.now c.args.inc.now in
     let near : Flanked L c.args.flag.now c.args.r = c.requires.flanked in
-    let below_is : c.side_of-below.result.now ≡ sups L (c.args.r - 1) (get_or c.args.flag.now (c.args.r - 1) 0) = c.side_of-below.ensures ∙ side_at L _ _ _ _ c.requires.low_value.0 in
-    let above_is : c.side_of-above.result.now ≡ subs L (c.args.r + 1) (get_or c.args.flag.now (c.args.r + 1) 0) = c.side_of-above.ensures ∙ side_at L _ _ _ _ c.requires.low_value.1 in
-    record {
-      ascending = rw below_is (c.requires.ascends _ _ near.lower 1 (omega arith));
-      ascending_2 = rw above_is (c.requires.ascends _ _ near.upper 0 (omega arith));
+    let below = c.side_of-below.ensures ∙ side_at L _ _ _ _ c.requires.low_value.0 in
+    let above = c.side_of-above.ensures ∙ side_at L _ _ _ _ c.requires.low_value.1 in record {
+      ascending = rw below (c.requires.ascends _ _ near.lower 1 (omega arith));
+      ascending_2 = rw above (c.requires.ascends _ _ near.upper 0 (omega arith));
     }
 
 pub returns : goal.returns
 unfolding replaced_at between
 returns c =
     let L : Listing = listing c.args.counts.now c.args.ends.now c.args.inc.now in
-    let below_is : c.side_of-below.result.now ≡ sups L (c.args.r - 1) (get_or c.args.flag.now (c.args.r - 1) 0) = c.side_of-below.ensures ∙ side_at L _ _ _ _ c.requires.low_value.0 in
-    let above_is : c.side_of-above.result.now ≡ subs L (c.args.r + 1) (get_or c.args.flag.now (c.args.r + 1) 0) = c.side_of-above.ensures ∙ side_at L _ _ _ _ c.requires.low_value.1 in
-    let e = get_or c.args.flag.now c.args.r 0 in
-    let put = rw (below_is, above_is) at c.other_between-put.ensures in
-    λ i. record { taken = e; put = put i }
+    let below = c.side_of-below.ensures ∙ side_at L _ _ _ _ c.requires.low_value.0 in
+    let above = c.side_of-above.ensures ∙ side_at L _ _ _ _ c.requires.low_value.1 in
+    let put = rw (below, above) at c.other_between-put.ensures in
+    λ i. record { taken = get_or c.args.flag.now c.args.r 0; put = put i }

@@ -1,34 +1,14 @@
 -- `fill_entry`: k is written at the cursor of x, which is raised by one; or nothing is done.
 -- Assumes nothing.
-use native.Mathlib.Omega.{arith}
 use Rattle.listing_sups.proofs.Strewing.{strewn_one, strewn_past}
 use Rattle.listing_sups.proofs.Raising.{raised_one, raised_past}
 use Rattle.listing_sups.proofs.sups.fill_entry.Goals as goal
-
-pub bounds-inc-cursor : goal.bounds-inc-cursor
-bounds-inc-cursor c =
-    omega (
-      arith,
-      c.wide-cursor.ensures.0,
-      c.requires.x_in_bounds
-          c.if-x-n.true,
-    )
-
-pub overflow_cast-next : goal.overflow_cast-next
-overflow_cast-next c =
-    omega (
-      arith,
-      c.wide-cursor.ensures.0,
-      c.requires.x_bound
-          c.if-x-n.true,
-    )
 
 pub returns-then-x-n : goal.returns-then-x-n
 returns-then-x-n c =
     rw c.wide-cursor.ensures.0 record {
       raised = raised_one _ _ _ _ c.if-x-n.true c.requires.n_in_bounds.0;
-      strewn = strewn_one _ _ _ _ c.args.next.now _ c.if-x-n.true
-          (c.requires.x_in_bounds c.if-x-n.true);
+      strewn = strewn_one _ _ _ _ c.args.next.now _ c.if-x-n.true (c.requires.x_in_bounds c.if-x-n.true);
     }
 
 pub returns-else-x-n : goal.returns-else-x-n

@@ -1,7 +1,6 @@
 -- `fill_rank`. Invariant: what the first k elements of the rank above list is gathered, and the cursors are raised by
--- as many. Measure: the elements left.
+-- as many.
 -- Assumes nothing.
-use Prim.Native.Nat.{◌-◌, ◌≤◌}
 use lib.ListN.{length}
 use Rattle.listing.specs.Listing.{subs_at}
 use Rattle.listing.specs.Layers.{gather}
@@ -9,8 +8,7 @@ use Rattle.listing_sups.specs.Sups.{Raised, Strewn}
 use Rattle.listing_sups.proofs.sups.fill_rank.Given as goal
 
 abbrev pub invariant-loop-k : goal.invariant-loop-k
-invariant-loop-k l = (l.k ≤ l.m) × Raised l.from l.n (λ y. length (gather (subs_at l.ends l.initial.inc l.here) y l.k)) l.initial.next l.next
-    × Strewn l.from l.n (λ y. gather (subs_at l.ends l.initial.inc l.here) y l.k) l.initial.next l.initial.inc l.inc
-
-abbrev pub decreases-loop-k : goal.decreases-loop-k
-decreases-loop-k l = l.m - l.k
+invariant-loop-k l =
+    let f = subs_at l.ends l.initial.inc l.here in
+    Raised l.from l.n (λ y. length (gather f y l.k)) l.initial.next l.next
+    × Strewn l.from l.n (λ y. gather f y l.k) l.initial.next l.initial.inc l.inc

@@ -1,104 +1,79 @@
-use mathlib.Core.Path.{◌≡◌, refl, sym, ◌∙◌}
-use Prim.Native.Nat.{◌+◌, ◌≤◌}
+-- `fill_ranks`: a turn reads a pair of counts (`pair_read`), and what it has in hand (`turn`) is enough for its rank.
+-- Assumes nothing.
+use mathlib.Core.Path.{sym, ◌∙◌}
 use native.Mathlib.Omega.{arith}
-use lib.ListN.{length}
-use Rattle.listing.specs.Listing.{Listing, listing, before}
+use Rattle.std.proofs.Common.{rules}
+use Rattle.listing.specs.Listing.{Listing, listing}
 use Rattle.listing.proofs.Listing.{before_zero}
-use Rattle.listing_sups.proofs.Counting.{next_ranks}
-use Rattle.listing_sups.proofs.SupsFilled.{Turn, lists_stay, rank_ready, filled_next, filled_none}
-use Rattle.listing_sups.proofs.SupsFilled.{filled_all}
+use Rattle.listing_sups.proofs.Pairs.{pairs_all, pair_read, pairs_end}
+use Rattle.listing_sups.proofs.SupsFilled.{turn, rank_ready, filled_next, filled_none, filled_all}
 use Rattle.listing_sups.proofs.sups.fill_ranks.Goals as goal
 
-pub loop-rank-init : goal.loop-rank-init
-loop-rank-init c =
+pub loop-pair-init : goal.loop-pair-init
+loop-pair-init c =
+    let p = pairs_all c.args.counts.now c.into_iter-pair-iterator.result (search rules) (search rules) in
     let L : Listing = listing c.args.counts.now c.args.ends.now c.args.inc.now in
-    (omega arith, sym (before_zero c.args.counts.now), refl, λ e h l. c.requires.by_index e l, filled_none L)
+    (p.0, rw p.1 (sym (before_zero c.args.counts.now)), λ e h l. c.requires.by_index e l, rw p.1 (filled_none L))
 
 pub overflow_add-from : goal.overflow_add-from
 overflow_add-from c =
-    let places : let k = c.args.counts.now in
-    let r = c.loop-rank.rank in
-    let here = c.loop-rank.from + c.two_of-s.result.n in
-    (here ≡ before k (r + 1)) × (here + c.two_of-s.result.m ≡ before k (r + 1 + 1))
-    × (before k (r + 1 + 1) ≤ before k (length k)) = next_ranks _ _ _ _ _ c.loop-rank.invariant.1 c.two_of-s.ensures.0 c.two_of-s.ensures.1 in
-    let p = places in
-    omega (arith, c.requires.fillable.few)
+    let v = c.loop-pair.invariant in
+    let n = c.wide-n.ensures.0 in
+    let m = c.wide-m.ensures.0 in
+    let p = pair_read _ _ _ _ _ _ _ _ v.0 v.1 c.in-Some.is c.next.ensures.steps n m in
+    omega (arith, p.in_all, c.requires.fillable.few)
 
-pub fill_rank-requires : goal.fill_rank-requires
-fill_rank-requires c =
+pub fill_rank-requires-clause-n_in_bounds : goal.fill_rank-requires-clause-n_in_bounds
+fill_rank-requires-clause-n_in_bounds c =
+    let v = c.loop-pair.invariant in
+    let n = c.wide-n.ensures.0 in
+    let m = c.wide-m.ensures.0 in
+    let p = pair_read _ _ _ _ _ _ _ _ v.0 v.1 c.in-Some.is c.next.ensures.steps n m in
+    omega (arith, p.in_all, c.requires.counts_in_bounds, c.loop-pair.auto.next, c.wide-m.ensures)
+
+pub fill_rank-requires-clause-m_in_bounds : goal.fill_rank-requires-clause-m_in_bounds
+fill_rank-requires-clause-m_in_bounds c =
+    let v = c.loop-pair.invariant in
+    let n = c.wide-n.ensures.0 in
+    let m = c.wide-m.ensures.0 in
+    let p = pair_read _ _ _ _ _ _ _ _ v.0 v.1 c.in-Some.is c.next.ensures.steps n m in
+    omega (arith, p.in_all, c.requires.fillable.two_each)
+
+pub fill_rank-requires-clause-apart : goal.fill_rank-requires-clause-apart
+fill_rank-requires-clause-apart c =
     let L : Listing = listing c.args.counts.now c.args.ends.now c.args.inc.now in
-    let places : let k = c.args.counts.now in
-    let r = c.loop-rank.rank in
-    let here = c.loop-rank.from + c.two_of-s.result.n in
-    (here ≡ before k (r + 1)) × (here + c.two_of-s.result.m ≡ before k (r + 1 + 1))
-    × (before k (r + 1 + 1) ≤ before k (length k)) = next_ranks _ _ _ _ _ c.loop-rank.invariant.1 c.two_of-s.ensures.0 c.two_of-s.ensures.1 in
-    let known : let l = c.loop-rank in
-    let s = c.two_of-s.result in
-    Turn L l.rank l.from s.n (l.from + s.n) s.m l.next l.inc = let v = c.loop-rank.invariant in
-    record {
-      ready = c.requires.fillable;
-      filled = v.4;
-      from_is = v.1;
-      n_is = c.two_of-s.ensures.0;
-      here_is = places.0;
-      m_is = c.two_of-s.ensures.1;
-      cursors = v.3;
-    } in
-    let p = places in
-    let v = c.loop-rank.invariant in record {
-      n_in_bounds = omega (arith, v.2, c.requires.counts_in_bounds, c.two_of-s.ensures.2);
-      ends = lists_stay L c.requires.fillable _ _ v.4;
-      m_in_bounds = omega (arith, c.requires.fillable.two_each);
-      apart = rank_ready known;
-    }
+    let v = c.loop-pair.invariant in
+    let n = c.wide-n.ensures.0 in
+    let m = c.wide-m.ensures.0 in
+    let p = pair_read _ _ _ _ _ _ _ _ v.0 v.1 c.in-Some.is c.next.ensures.steps n m in
+    rank_ready (turn L _ _ _ _ _ _ _ c.requires.fillable v.1 v.2 v.3 p)
 
-pub overflow_add-from-in-loop-rank : goal.overflow_add-from-in-loop-rank
-overflow_add-from-in-loop-rank c =
-    let places : let k = c.args.counts.now in
-    let r = c.loop-rank.rank in
-    let here = c.loop-rank.from + c.two_of-s.result.n in
-    (here ≡ before k (r + 1)) × (here + c.two_of-s.result.m ≡ before k (r + 1 + 1))
-    × (before k (r + 1 + 1) ≤ before k (length k)) = next_ranks _ _ _ _ _ c.loop-rank.invariant.1 c.two_of-s.ensures.0 c.two_of-s.ensures.1 in
-    let p = places in
-    omega (arith, c.requires.fillable.few)
+pub overflow_add-from-in-loop-pair : goal.overflow_add-from-in-loop-pair
+overflow_add-from-in-loop-pair c =
+    let v = c.loop-pair.invariant in
+    let n = c.wide-n.ensures.0 in
+    let m = c.wide-m.ensures.0 in
+    let p = pair_read _ _ _ _ _ _ _ _ v.0 v.1 c.in-Some.is c.next.ensures.steps n m in
+    omega (arith, p.in_all, c.requires.fillable.few)
 
-pub loop-rank-preserved : goal.loop-rank-preserved
-loop-rank-preserved c =
-    let places : let k = c.args.counts.now in
-    let r = c.loop-rank.rank in
-    let here = c.loop-rank.from + c.two_of-s.result.n in
-    (here ≡ before k (r + 1)) × (here + c.two_of-s.result.m ≡ before k (r + 1 + 1))
-    × (before k (r + 1 + 1) ≤ before k (length k)) = next_ranks _ _ _ _ _ c.loop-rank.invariant.1 c.two_of-s.ensures.0 c.two_of-s.ensures.1 in
+pub loop-pair-preserved : goal.loop-pair-preserved
+loop-pair-preserved c =
     let L : Listing = listing c.args.counts.now c.args.ends.now c.args.inc.now in
-    let known : let l = c.loop-rank in
-    let s = c.two_of-s.result in
-    Turn L l.rank l.from s.n (l.from + s.n) s.m l.next l.inc = let v = c.loop-rank.invariant in
-    record {
-      ready = c.requires.fillable;
-      filled = v.4;
-      from_is = v.1;
-      n_is = c.two_of-s.ensures.0;
-      here_is = places.0;
-      m_is = c.two_of-s.ensures.1;
-      cursors = v.3;
-    } in
-    let p = places in
-    let v = c.loop-rank.invariant in (
-      omega arith,
-      p.0,
-      c.fill_rank.ensures.raised.same_length ∙ v.2,
-      λ e h l. c.fill_rank.ensures.raised.later e (omega (arith, p.0)) ∙ v.3 e (omega (arith, p.0, v.1)) l,
-      filled_next known _ c.fill_rank.ensures.strewn,
+    let v = c.loop-pair.invariant in
+    let n = c.wide-n.ensures.0 in
+    let m = c.wide-m.ensures.0 in
+    let p = pair_read _ _ _ _ _ _ _ _ v.0 v.1 c.in-Some.is c.next.ensures.steps n m in
+    let t = turn L _ _ _ _ _ _ _ c.requires.fillable v.1 v.2 v.3 p in
+    let w = c.fill_rank.ensures in (
+      p.left,
+      rw p.next p.here_is,
+      rw p.next
+          (λ e h l. w.raised.later e (omega (arith, p.here_is)) ∙ v.2 e (omega (arith, p.here_is, v.1)) l),
+      rw p.next (filled_next t _ w.strewn),
     )
-
-pub shape_of-inc : goal.shape_of-inc
-shape_of-inc c = c.loop-rank.invariant.4.same_length
-
-pub shape_of-next : goal.shape_of-next
-shape_of-next c = c.loop-rank.invariant.2
 
 pub returns : goal.returns
 returns c =
     let L : Listing = listing c.args.counts.now c.args.ends.now c.args.inc.now in
-    let v = c.loop-rank.invariant in
-    filled_all L _ _ v.0 c.loop-rank-test.false v.4
+    let v = c.loop-pair.invariant in
+    filled_all L _ _ (omega arith) (pairs_end _ _ _ _ v.0 c.in-None.is c.next.ensures.steps) v.3

@@ -1,91 +1,84 @@
-use mathlib.Core.Path.{◌≡◌, refl, sym, ◌∙◌}
-use Prim.Native.Nat.{◌+◌, ◌≤◌}
+-- `tally`: a turn reads a pair of counts (`pair_read`), which says where the elements of the rank above begin and end.
+-- Assumes nothing.
+use mathlib.Core.Path.{sym}
 use native.Mathlib.Omega.{arith}
-use lib.ListN.{length}
-use Rattle.listing.specs.Listing.{Listing, listing, before}
+use Rattle.std.proofs.Common.{rules}
+use Rattle.listing.specs.Listing.{Listing, listing}
 use Rattle.listing.proofs.Listing.{before_zero}
-use Rattle.listing_sups.proofs.Counting.{next_ranks, here_is, few_at, counted_none, counted_next}
-use Rattle.listing_sups.proofs.Counting.{counted_all}
+use Rattle.listing_sups.proofs.Counting.{here_is, few_at, counted_none, counted_next, counted_all}
+use Rattle.listing_sups.proofs.Pairs.{pairs_all, pair_read, pairs_end}
 use Rattle.listing_sups.proofs.sups.tally.Goals as goal
 
-pub loop-rank-init : goal.loop-rank-init
-loop-rank-init c =
+pub loop-pair-init : goal.loop-pair-init
+loop-pair-init c =
+    let p = pairs_all c.args.counts.now c.into_iter-pair-iterator.result (search rules) (search rules) in
     let L : Listing = listing c.args.counts.now c.args.ends.now c.args.inc.now in
-    (omega arith, sym (before_zero c.args.counts.now), refl, counted_none _ L _ c.requires.by_index)
+    (p.0, rw p.1 (sym (before_zero c.args.counts.now)), rw p.1 (counted_none _ L _ c.requires.by_index))
 
 pub overflow_add-base : goal.overflow_add-base
 overflow_add-base c =
-    let places : let k = c.args.counts.now in
-    let r = c.loop-rank.rank in
-    let here = c.loop-rank.from + c.two_of-s.result.n in
-    (here ≡ before k (r + 1)) × (here + c.two_of-s.result.m ≡ before k (r + 1 + 1))
-    × (before k (r + 1 + 1) ≤ before k (length k)) = let n = c.two_of-s.ensures in
-    next_ranks _ _ _ _ _ c.loop-rank.invariant.1 n.0 n.1 in
-    let p = places in
-    omega (arith, c.requires.counts_in_bounds)
+    let v = c.loop-pair.invariant in
+    let n = c.wide-n.ensures.0 in
+    let m = c.wide-m.ensures.0 in
+    let p = pair_read _ _ _ _ _ _ _ _ v.0 v.1 c.in-Some.is c.next.ensures.steps n m in
+    omega (arith, p.in_all, c.requires.counts_in_bounds)
 
-pub overflow_add-base-in-loop-rank : goal.overflow_add-base-in-loop-rank
-overflow_add-base-in-loop-rank c =
-    let places : let k = c.args.counts.now in
-    let r = c.loop-rank.rank in
-    let here = c.loop-rank.from + c.two_of-s.result.n in
-    (here ≡ before k (r + 1)) × (here + c.two_of-s.result.m ≡ before k (r + 1 + 1))
-    × (before k (r + 1 + 1) ≤ before k (length k)) = let n = c.two_of-s.ensures in
-    next_ranks _ _ _ _ _ c.loop-rank.invariant.1 n.0 n.1 in
-    let p = places in
-    omega (arith, c.requires.counts_in_bounds)
+pub overflow_add-base-in-loop-pair : goal.overflow_add-base-in-loop-pair
+overflow_add-base-in-loop-pair c =
+    let v = c.loop-pair.invariant in
+    let n = c.wide-n.ensures.0 in
+    let m = c.wide-m.ensures.0 in
+    let p = pair_read _ _ _ _ _ _ _ _ v.0 v.1 c.in-Some.is c.next.ensures.steps n m in
+    omega (arith, p.in_all, c.requires.counts_in_bounds)
 
-pub tally_rank-requires : goal.tally_rank-requires
-tally_rank-requires c =
-    let places : let k = c.args.counts.now in
-    let r = c.loop-rank.rank in
-    let here = c.loop-rank.from + c.two_of-s.result.n in
-    (here ≡ before k (r + 1)) × (here + c.two_of-s.result.m ≡ before k (r + 1 + 1))
-    × (before k (r + 1 + 1) ≤ before k (length k)) = let n = c.two_of-s.ensures in
-    next_ranks _ _ _ _ _ c.loop-rank.invariant.1 n.0 n.1 in
-    let p = places in
-    let v = c.loop-rank.invariant in
-    let h = here_is c.args.base _ _ _ p.0 in record {
-      n_in_bounds = omega (arith, v.2, c.requires.counts_in_bounds_2);
-      ends = c.requires.ends;
-      m_in_bounds = omega (arith, c.requires.counts_in_bounds);
-      by_index = few_at v.3 h;
-    }
+pub tally_rank-requires-clause-n_in_bounds : goal.tally_rank-requires-clause-n_in_bounds
+tally_rank-requires-clause-n_in_bounds c =
+    let v = c.loop-pair.invariant in
+    let n = c.wide-n.ensures.0 in
+    let m = c.wide-m.ensures.0 in
+    let p = pair_read _ _ _ _ _ _ _ _ v.0 v.1 c.in-Some.is c.next.ensures.steps n m in
+    omega (arith, p.in_all, c.requires.counts_in_bounds_2, c.loop-pair.auto.up)
+
+pub tally_rank-requires-clause-m_in_bounds : goal.tally_rank-requires-clause-m_in_bounds
+tally_rank-requires-clause-m_in_bounds c =
+    let v = c.loop-pair.invariant in
+    let n = c.wide-n.ensures.0 in
+    let m = c.wide-m.ensures.0 in
+    let p = pair_read _ _ _ _ _ _ _ _ v.0 v.1 c.in-Some.is c.next.ensures.steps n m in
+    omega (arith, p.in_all, c.requires.counts_in_bounds)
+
+pub tally_rank-requires-clause-by_index : goal.tally_rank-requires-clause-by_index
+tally_rank-requires-clause-by_index c =
+    let v = c.loop-pair.invariant in
+    let n = c.wide-n.ensures.0 in
+    let m = c.wide-m.ensures.0 in
+    let p = pair_read _ _ _ _ _ _ _ _ v.0 v.1 c.in-Some.is c.next.ensures.steps n m in
+    few_at v.2 (here_is c.args.base _ _ _ p.here_is)
 
 pub overflow_add-from : goal.overflow_add-from
 overflow_add-from c =
-    let places : let k = c.args.counts.now in
-    let r = c.loop-rank.rank in
-    let here = c.loop-rank.from + c.two_of-s.result.n in
-    (here ≡ before k (r + 1)) × (here + c.two_of-s.result.m ≡ before k (r + 1 + 1))
-    × (before k (r + 1 + 1) ≤ before k (length k)) = let n = c.two_of-s.ensures in
-    next_ranks _ _ _ _ _ c.loop-rank.invariant.1 n.0 n.1 in
-    let p = places in
-    omega (arith, c.requires.counts_in_bounds)
+    let v = c.loop-pair.invariant in
+    let n = c.wide-n.ensures.0 in
+    let m = c.wide-m.ensures.0 in
+    let p = pair_read _ _ _ _ _ _ _ _ v.0 v.1 c.in-Some.is c.next.ensures.steps n m in
+    omega (arith, p.in_all, c.requires.counts_in_bounds)
 
-pub loop-rank-preserved : goal.loop-rank-preserved
-loop-rank-preserved c =
+pub loop-pair-preserved : goal.loop-pair-preserved
+loop-pair-preserved c =
     let L : Listing = listing c.args.counts.now c.args.ends.now c.args.inc.now in
-    let places : let k = c.args.counts.now in
-    let r = c.loop-rank.rank in
-    let here = c.loop-rank.from + c.two_of-s.result.n in
-    (here ≡ before k (r + 1)) × (here + c.two_of-s.result.m ≡ before k (r + 1 + 1))
-    × (before k (r + 1 + 1) ≤ before k (length k)) = let n = c.two_of-s.ensures in
-    next_ranks _ _ _ _ _ c.loop-rank.invariant.1 n.0 n.1 in
-    let p = places in
-    let n = c.two_of-s.ensures in
-    let v = c.loop-rank.invariant in
-    let h = here_is c.args.base _ _ _ p.0 in (
-      omega arith,
-      p.0,
-      c.tally_rank.ensures.raised.same_length ∙ v.2,
-      counted_next _ L _ _ _ _ _ _ _ v.1 n.0 n.1 h v.3 c.tally_rank.ensures.raised c.tally_rank.ensures.by_index_2,
+    let v = c.loop-pair.invariant in
+    let n = c.wide-n.ensures.0 in
+    let m = c.wide-m.ensures.0 in
+    let p = pair_read _ _ _ _ _ _ _ _ v.0 v.1 c.in-Some.is c.next.ensures.steps n m in
+    let w = c.tally_rank.ensures in
+    let h = here_is c.args.base _ _ _ p.here_is in (
+      p.left,
+      rw p.next p.here_is,
+      rw p.next (counted_next _ L _ _ _ _ _ _ _ v.1 p.n_is p.m_is h v.2 w.raised w.by_index_2),
     )
-
-pub shape_of-up : goal.shape_of-up
-shape_of-up c = c.loop-rank.invariant.2
 
 pub returns : goal.returns
 returns c =
     let L : Listing = listing c.args.counts.now c.args.ends.now c.args.inc.now in
-    counted_all _ L _ _ c.loop-rank-test.false c.loop-rank.invariant.3
+    let v = c.loop-pair.invariant in
+    counted_all _ L _ _ (pairs_end _ _ _ _ v.0 c.in-None.is c.next.ensures.steps) v.2

@@ -1,11 +1,7 @@
 -- `tally_entry`: the count of x is raised by one, or nothing is done.
 -- Assumes nothing.
-use native.Mathlib.Omega.{arith}
 use Rattle.listing_sups.proofs.Raising.{raised_one, raised_past}
 use Rattle.listing_sups.proofs.sups.tally_entry.Goals as goal
-
-pub overflow_add-up-then-x-n : goal.overflow_add-up-then-x-n
-overflow_add-up-then-x-n c = omega (arith, c.requires.x_bound c.if-x-n.true)
 
 pub returns-then-x-n : goal.returns-then-x-n
 returns-then-x-n c = raised_one _ _ _ _ c.if-x-n.true c.requires.n_in_bounds

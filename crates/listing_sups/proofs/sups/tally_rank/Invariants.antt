@@ -1,7 +1,7 @@
 -- `tally_rank`. Invariant: the lists of the first a elements are counted, and no count is above where the next list
--- begins. Measure: the elements left.
+-- begins.
 -- Assumes nothing.
-use Prim.Native.Nat.{ℕ, ◌+◌, ◌-◌, ◌*◌, ◌≤◌}
+use Prim.Native.Nat.{ℕ, ◌+◌, ◌*◌, ◌≤◌}
 use lib.ListN.{get_or}
 use Rattle.order.specs.Sums.{sum}
 use Rattle.order.specs.Lists.{occurs}
@@ -10,8 +10,6 @@ use Rattle.listing_sups.specs.Sups.{Raised}
 use Rattle.listing_sups.proofs.sups.tally_rank.Given as goal
 
 abbrev pub invariant-loop-a : goal.invariant-loop-a
-invariant-loop-a l = (l.a ≤ l.m) × Raised l.from l.n (λ y. sum (λ b. occurs y (subs_at l.ends l.inc l.here b)) l.a) l.initial.up l.up
+invariant-loop-a l =
+    Raised l.from l.n (λ y. sum (λ b. occurs y (subs_at l.ends l.inc l.here b)) l.a) l.initial.up l.up
     × ((k : ℕ) → get_or l.up k 0 ≤ start l.ends (2 * (l.here + l.a)))
-
-abbrev pub decreases-loop-a : goal.decreases-loop-a
-decreases-loop-a l = l.m - l.a

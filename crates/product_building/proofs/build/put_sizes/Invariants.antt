@@ -1,12 +1,9 @@
--- `put_sizes`. Invariant: the sizes of the ranks below k are written, and nothing else. Measure: the ranks left.
+-- `put_sizes`. Invariant: the sizes of the ranks below k are written, and nothing else.
 -- Assumes nothing.
-use Prim.Native.Nat.{suc, ◌-◌, ◌≤◌}
+use Prim.Native.Nat.{suc}
 use Rattle.product_places.specs.Places.{pairs_in}
 use Rattle.listing.specs.Laid.{Laid}
 use Rattle.product_building.proofs.build.put_sizes.Given as goal
 
 abbrev pub invariant-loop-k : goal.invariant-loop-k
-invariant-loop-k l = (l.k ≤ l.n) × Laid l.at (λ r. pairs_in l.p l.q r (suc r)) l.k l.initial.counts l.counts
-
-abbrev pub decreases-loop-k : goal.decreases-loop-k
-decreases-loop-k l = l.n - l.k
+invariant-loop-k l = Laid l.at (λ r. pairs_in l.p l.q r (suc r)) l.k l.initial.counts l.counts

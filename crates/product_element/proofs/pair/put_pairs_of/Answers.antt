@@ -1,9 +1,9 @@
+-- `put_pairs_of`: each pair stands where the one before ended, and behind the last begin those of the next element.
+-- Assumes nothing.
 use mathlib.Core.Path.{◌≡◌, refl}
 use Prim.Native.Nat.{ℕ, ◌+◌}
 use native.Mathlib.Omega.{arith}
 use lib.ListN.{get_or}
-use Rattle.order.proofs.Sums.{next_le}
-use Rattle.listing.proofs.Listing.{count_le}
 use Rattle.listing_sups.proofs.Laying.{put_none, put_then}
 use Rattle.product_places.specs.Blocks.{in_block}
 use Rattle.product_places.proofs.Numbers.{number_next}
@@ -24,42 +24,26 @@ subs_in_use-left-requires c =
     }
 
 pub loop-b-init : goal.loop-b-init
-loop-b-init c = (omega arith, c.requires.block_of.q_count, put_none _ _ _ _ _ _ c.requires.at_value refl)
+loop-b-init c = put_none _ _ _ _ _ _ c.requires.at_value refl
 
 pub put_pair-to-requires : goal.put_pair-to-requires
 put_pair-to-requires c =
     let v = c.loop-b.invariant in record {
-      writable = writable_room c.requires.writable _ _ v.2.ends_length v.2.inc_length;
+      writable = writable_room c.requires.writable _ _ v.ends_length v.inc_length;
       block_of = c.requires.block_of;
-      a_bound = (c.requires.a_bound, omega (arith, v.1));
+      a_bound = (c.requires.a_bound, omega (arith, c.requires.block_of.q_count));
       left_value = left_subs c.requires.writable c.requires.block_of c.requires.a_bound _ c.subs_in_use-left.ensures;
-      at_value = v.2.place;
+      at_value = v.place;
     }
-
-pub overflow_add-b : goal.overflow_add-b
-overflow_add-b c =
-    omega (arith, c.loop-b.invariant.1, count_le c.args.q.now c.args.block.j, c.requires.writable.plan.few_q)
 
 pub loop-b-preserved : goal.loop-b-preserved
 loop-b-preserved c =
     let number : ℕ → ℕ = λ b. in_block c.args.poles c.args.p.now c.args.q.now c.args.block c.args.a b in
     let b = c.loop-b.b in
-    let v = c.loop-b.invariant in
-    let w = c.put_pair-to.ensures in (
-      next_le _ _ c.loop-b-test.true,
-      v.1,
-      put_then _ (number 0) (number b) (number (b + 1)) _ _ _ _ _ _ _ _ v.2 w,
-    )
-
-pub shape_of-ends : goal.shape_of-ends
-shape_of-ends c = c.loop-b.invariant.2.ends_length
-
-pub shape_of-inc : goal.shape_of-inc
-shape_of-inc c = c.loop-b.invariant.2.inc_length
+    put_then _ (number 0) (number b) (number (b + 1)) _ _ _ _ _ _ _ _ c.loop-b.invariant c.put_pair-to.ensures
 
 pub returns : goal.returns
 returns c =
     let s = c.args in
-    let v = c.loop-b.invariant in
-    let e : c.loop-b.b ≡ get_or s.q.now s.block.j 0 = omega (arith, v.1) in
-    rw (← number_next s.poles.min s.p.now s.q.now s.block.i s.a s.block.j, ← e) v.2
+    let e : c.loop-b.b ≡ get_or s.q.now s.block.j 0 = omega (arith, c.requires.block_of.q_count) in
+    rw (← number_next s.poles.min s.p.now s.q.now s.block.i s.a s.block.j, ← e) c.loop-b.invariant

@@ -1,9 +1,5 @@
 -- `put_pairs_of`. Invariant: the pairs of element a with the first b elements of the block's second rank are written.
--- Measure: the elements left.
 -- Assumes nothing.
-use mathlib.Core.Path.{◌≡◌}
-use Prim.Native.Nat.{◌-◌, ◌≤◌}
-use lib.ListN.{get_or}
 use Rattle.listing.specs.Listing.{listing}
 use Rattle.listing_sups.specs.Filling.{Put}
 use Rattle.product_places.specs.Blocks.{in_block}
@@ -11,10 +7,7 @@ use Rattle.product_element.specs.Pairs.{product_lists}
 use Rattle.product_element.proofs.pair.put_pairs_of.Given as goal
 
 abbrev pub invariant-loop-b : goal.invariant-loop-b
-invariant-loop-b l = (l.b ≤ l.n)
-    × (l.n ≡ get_or l.q l.block.j 0)
-    × Put (product_lists l.poles (listing l.p l.pends l.pinc) (listing l.q l.qends l.qinc)) (in_block l.poles l.p l.q l.block l.a 0)
-    (in_block l.poles l.p l.q l.block l.a l.b) l.to l.initial.ends l.initial.inc l.ends l.inc
-
-abbrev pub decreases-loop-b : goal.decreases-loop-b
-decreases-loop-b l = l.n - l.b
+invariant-loop-b l =
+    Put (product_lists l.poles (listing l.p l.pends l.pinc) (listing l.q l.qends l.qinc))
+    (in_block l.poles l.p l.q l.block l.a 0) (in_block l.poles l.p l.q l.block l.a l.b) l.to
+    l.initial.ends l.initial.inc l.ends l.inc

@@ -1,80 +1,59 @@
 -- `extent_of`: there is a rank in use, its counts are small, and what is counted is what the layers in use have.
 -- Assumes nothing.
-use mathlib.Core.Path.{refl}
+use mathlib.Core.Path.{refl, ◌∙◌}
 use Prim.Native.Nat.{◌+◌, ◌*◌, ◌≤◌, ◌<◌}
 use native.Mathlib.Omega.{arith}
 use lib.ListN.{length, get_or}
 use Rattle.listing.specs.Listing.{limits, before}
 use Rattle.listing.proofs.ShapeExact.{shaped_ends}
 use Rattle.product_pairs.specs.Trimmed.{bit}
-use Rattle.product_places.proofs.Numbers.{bit_le}
+use Rattle.product_places.proofs.Numbers.{bit_is}
 use Rattle.product_sizes.proofs.Extents.{room, extent_is, little}
-use Rattle.product_sizes.proofs.Parts.{usable_shaped, usable_high}
+use Rattle.product_sizes.proofs.Parts.{usable_shaped}
 use Rattle.product_sizes.proofs.sizes.extent_of.Goals as goal
+use Rattle.product_sizes.proofs.sizes.extent_of.Goals.{After-range-p}
 
-pub range-p-requires : goal.range-p-requires
-range-p-requires c =
-    let u = c.requires in
-    omega (arith, usable_high _ _ _ u, (usable_shaped _ _ _ u).some_rank)
+-- how large what is in use may be
+asked : (c : After-range-p) → let a = c.args in
+    let x = c.range-p.result.now in
+    let n = before x (length x) in
+    (0 < length x) × (length x ≤ limits.ranks) × (get_or x 0 0 ≤ n) × (bit a.poles.min + n ≤ limits.elements)
+    × (2 * (bit a.poles.min + n) ≤ length a.ends.now)
+asked c = room _ _ _ c.requires _ c.range-p.ensures
 
 pub elements_before-elements-requires : goal.elements_before-elements-requires
-elements_before-elements-requires c = omega (arith, room _ _ _ c.requires _ c.range-p.ensures)
+elements_before-elements-requires c = omega (arith, asked (goal.at.elements_before-elements-requires c).After-range-p)
 
 pub bounds-p-0 : goal.bounds-p-0
-bounds-p-0 c =
-    let asked : let a = c.args in
-    let x = c.range-p.result.now in
-    let n = before x (length x) in
-    (0 < length x) × (length x ≤ limits.ranks) × (get_or x 0 0 ≤ n) × (bit a.poles.min + n ≤ limits.elements)
-    × (2 * (bit a.poles.min + n) ≤ length a.ends.now) = room _ _ _ c.requires _ c.range-p.ensures in
-    omega (arith, asked)
+bounds-p-0 c = omega (arith, asked (goal.at.bounds-p-0 c).After-range-p)
 
 pub overflow_sub-p : goal.overflow_sub-p
-overflow_sub-p c =
-    let asked : let a = c.args in
-    let x = c.range-p.result.now in
-    let n = before x (length x) in
-    (0 < length x) × (length x ≤ limits.ranks) × (get_or x 0 0 ≤ n) × (bit a.poles.min + n ≤ limits.elements)
-    × (2 * (bit a.poles.min + n) ≤ length a.ends.now) = room _ _ _ c.requires _ c.range-p.ensures in
-    omega (arith, asked)
+overflow_sub-p c = omega (arith, asked (goal.at.overflow_sub-p c).After-range-p)
 
 pub bounds-p-p : goal.bounds-p-p
-bounds-p-p c =
-    let asked : let a = c.args in
-    let x = c.range-p.result.now in
-    let n = before x (length x) in
-    (0 < length x) × (length x ≤ limits.ranks) × (get_or x 0 0 ≤ n) × (bit a.poles.min + n ≤ limits.elements)
-    × (2 * (bit a.poles.min + n) ≤ length a.ends.now) = room _ _ _ c.requires _ c.range-p.ensures in
-    omega (arith, asked)
-
-pub overflow_add-base : goal.overflow_add-base
-overflow_add-base c = omega (arith, c.bit_of-base.ensures, bit_le c.args.poles.min, c.wide-lowest.ensures.1)
+bounds-p-p c = omega (arith, asked (goal.at.bounds-p-p c).After-range-p)
 
 pub overflow_add-base-2 : goal.overflow_add-base-2
 overflow_add-base-2 c =
-    let asked : let a = c.args in
-    let x = c.range-p.result.now in
-    let n = before x (length x) in
-    (0 < length x) × (length x ≤ limits.ranks) × (get_or x 0 0 ≤ n) × (bit a.poles.min + n ≤ limits.elements)
-    × (2 * (bit a.poles.min + n) ≤ length a.ends.now) = room _ _ _ c.requires _ c.range-p.ensures in
-    omega (arith, c.bit_of-base.ensures, c.elements_before-elements.ensures, asked)
+    omega (
+      arith,
+      c.from-base.ensures,
+      bit_is,
+      c.elements_before-elements.ensures,
+      asked (goal.at.overflow_add-base-2 c).After-range-p,
+    )
 
 pub subs_listed-subs-requires : goal.subs_listed-subs-requires
 subs_listed-subs-requires c =
-    let asked : let a = c.args in
-    let x = c.range-p.result.now in
-    let n = before x (length x) in
-    (0 < length x) × (length x ≤ limits.ranks) × (get_or x 0 0 ≤ n) × (bit a.poles.min + n ≤ limits.elements)
-    × (2 * (bit a.poles.min + n) ≤ length a.ends.now) = room _ _ _ c.requires _ c.range-p.ensures in
     let S = usable_shaped _ _ _ c.requires in
-    let r = asked in
+    let r = asked (goal.at.subs_listed-subs-requires c).After-range-p in
     let n = c.elements_before-elements.ensures in
-    let b = c.bit_of-base.ensures in record {
+    let b = c.from-base.ensures ∙ bit_is _ in record {
       ends = shaped_ends _ S;
       from_le_to = (
-        omega (arith, r, n, c.wide-lowest.ensures.0),
-        omega (arith, r, n, b),
-        omega (arith, r, n, b),
+        omega (arith, c.wide-lowest.ensures.0),
+        omega arith,
+        omega arith,
         S.few_incidences,
       );
     }
@@ -86,7 +65,7 @@ returns c =
     let l = c.wide-lowest.ensures.0 in
     let h = c.wide-highest.ensures.0 in
     let k = c.range-p.ensures in
-    let b = c.bit_of-base.ensures in record {
+    let b = c.from-base.ensures ∙ bit_is _ in record {
       little = little _ _ _ u _ k _ refl n l h _ b c.subs_listed-subs.ensures.upper_bound;
       value = extent_is _ _ _ u _ k _ refl n l h _ b c.subs_listed-subs.ensures.value;
     }

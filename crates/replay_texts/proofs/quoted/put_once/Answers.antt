@@ -1,3 +1,4 @@
+-- `put_once`. A backslash with the byte after it, any other byte, and the end. Assumes nothing.
 use Rattle.replay_reading.proofs.Stores.{storing_all, storing_on, storing_end}
 use Rattle.replay_texts.proofs.Pieces.{escape_next, itself_next, unescaped_end}
 use lib.ListN.{get_or}

@@ -7,7 +7,8 @@ use Prim.Native.Nat.{◌+◌, ◌-◌, ◌≤◌}
 use Rattle.replay_texts.proofs.quoted.put_once.Given as goal
 
 abbrev pub invariant-loop-i : goal.invariant-loop-i
-invariant-loop-i l = (l.i ≤ length l.piece + 1) × Storing (unescaped l.piece) l.from l.initial.out (unescaped (drop l.i l.piece)) l.n l.out
+invariant-loop-i l = (l.i ≤ length l.piece + 1)
+    × Storing (unescaped l.piece) l.from l.initial.out (unescaped (drop l.i l.piece)) l.n l.out
 
 abbrev pub decreases-loop-i : goal.decreases-loop-i
 decreases-loop-i l = length l.piece - l.i

@@ -1,3 +1,4 @@
+-- `put_text`. No quote is left, one that is not closed, and a piece between two. Assumes nothing.
 use Rattle.replay_reading.proofs.Stores.{storing_all, storing_on, storing_end, stored_counts}
 use Rattle.replay_reading.proofs.Texts.{until_is}
 use Rattle.replay_texts.proofs.Pieces.{quoted_none, quoted_open, quoted_next}

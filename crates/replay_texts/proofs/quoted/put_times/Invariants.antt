@@ -1,11 +1,10 @@
--- `put_times`. Invariant: the piece is left to store so often, from n on. Measure: how often that is.
--- Assumes nothing.
+-- `put_times`. Invariant: the piece is left to store as often as it was not yet, from n on. Assumes nothing.
+use Rattle.std.proofs.Common.{◌-◌}
 use Rattle.replay_reading.proofs.Stores.{Storing}
 use Rattle.replay_texts.specs.Quoted.{unescaped, copies}
 use Rattle.replay_texts.proofs.quoted.put_times.Given as goal
 
-abbrev pub invariant-loop-left : goal.invariant-loop-left
-invariant-loop-left l = Storing (copies l.times (unescaped l.piece)) l.from l.initial.out (copies l.left (unescaped l.piece)) l.n l.out
-
-abbrev pub decreases-loop-left : goal.decreases-loop-left
-decreases-loop-left l = l.left
+abbrev pub invariant-loop : goal.invariant-loop
+invariant-loop l =
+    let piece = unescaped l.piece in
+    Storing (copies l.times piece) l.from l.initial.out (copies (l.times - l.counter) piece) l.n l.out

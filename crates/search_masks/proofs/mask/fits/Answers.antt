@@ -1,31 +1,17 @@
-use mathlib.Core.Path.{◌≡◌, refl, sym, ◌∙◌}
-use native.Mathlib.Omega.{arith}
-use Rattle.order.proofs.Tests.{every_stop, every_next}
-use Rattle.order.specs.Tests.{every}
+-- All ranks that there can be pass the test, one after another.
+-- Assumes nothing.
+use mathlib.Core.Path.{refl, ◌∙◌}
+use Rattle.std.proofs.Common.{rules, tests}
+use Rattle.std.proofs.lemmas.Iterator.{YieldsList-from_range}
+use Rattle.std.proofs.lemmas.Iterator.Search.{all_from_yields_List}
 use Rattle.listing.specs.Listing.{limits}
 use Rattle.search_masks.specs.Masks.{mask_fits}
-use Rattle.search_masks.proofs.Ranks.{test}
+use Rattle.search_masks.proofs.Ranks.{test, all_every}
 use Rattle.search_masks.proofs.mask.fits.Goals as goal
-
-pub loop-r-init : goal.loop-r-init
-unfolding every
-loop-r-init c = (omega arith, refl)
-
-pub returns-then-not-allowed : goal.returns-then-not-allowed
-unfolding mask_fits
-returns-then-not-allowed c =
-    let a = c.args in
-    sym (every_stop (test a.rank a.mask) limits.ranks _ c.loop-r-test.true
-    (sym c.allowed.ensures ∙ c.if-not-allowed.true))
-
-pub loop-r-preserved : goal.loop-r-preserved
-loop-r-preserved c =
-    let a = c.args in (
-      omega arith,
-      every_next (test a.rank a.mask) _ c.loop-r.invariant.1
-          (sym c.allowed.ensures ∙ c.if-not-allowed.false),
-    )
 
 pub returns : goal.returns
 unfolding mask_fits
-returns c = let z : c.loop-r.r ≡ limits.ranks = omega arith in sym (rw z at c.loop-r.invariant.1)
+returns c =
+    all_from_yields_List (test c.args.rank c.args.mask) _ _ c.all.result c.all.ensures.ran
+    (YieldsList-from_range 0 limits.ranks limits.ranks (cc) refl) (λ x b q k. search (rules, tests))
+    ∙ all_every (test c.args.rank c.args.mask) limits.ranks

@@ -7,17 +7,14 @@ use Rattle.listing.specs.Listing.{before}
 use Rattle.search_walk.proofs.walk.places_of.Goals as goal
 
 pub loop-r-init : goal.loop-r-init
-loop-r-init c = (omega arith, sym (before_zero _), omega arith, refl, λ k h. absurd (omega arith))
+loop-r-init c = (sym (before_zero _), omega arith, refl, λ k h. absurd (omega arith))
 
 pub loop-r-preserved : goal.loop-r-preserved
 loop-r-preserved c =
-    let l = c.loop-r in (
-      omega arith,
-      rw (c.wide-here.ensures.0, l.invariant.1) (sym (before_next _ _)),
-      omega (arith, l.invariant.2),
-      simp length-set l.invariant.3,
-      set_next (before c.args.counts.now) l.a l.r l.here (omega (arith, l.invariant.3)) l.invariant.1 l.invariant.4,
+    let l = c.loop-r in
+    let I = l.invariant in (
+      rw (c.wide-here.ensures.0, I.0) (sym (before_next _ _)),
+      omega (arith, I.1),
+      simp length-set I.2,
+      set_next (before c.args.counts.now) l.places l.r l.here (omega (arith, I.2)) I.0 I.3,
     )
-
-pub returns : goal.returns
-returns c = let l = c.loop-r in λ r h. l.invariant.4 r (omega arith)

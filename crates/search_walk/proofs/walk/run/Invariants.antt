@@ -7,7 +7,9 @@ use Rattle.search_walk.proofs.Runs.{Running}
 use Rattle.search_walk.proofs.walk.run.Given as goal
 
 abbrev pub invariant-loop-k : goal.invariant-loop-k
-invariant-loop-k l = Running (listing l.counts l.ends l.inc) l.room l.mask l.initial.table l.initial.bytes l.initial.s l.table l.bytes l.heads l.next l.s l.k
+invariant-loop-k l =
+    let i = l.initial in
+    Running (listing l.counts l.ends l.inc) l.room l.mask i.table i.bytes i.s l.table l.bytes l.heads l.next l.s l.k
 
 abbrev pub decreases-loop-k : goal.decreases-loop-k
 decreases-loop-k l = l.room - l.k

@@ -13,10 +13,14 @@ use Rattle.search_walk.proofs.Works.{Working}
 use Rattle.search_walk.proofs.walk.work.Given as goal
 
 abbrev pub invariant-loop-flag : goal.invariant-loop-flag
-invariant-loop-flag l = (l.flag ≡ l.initial.flag) × Working (listing l.counts l.ends l.inc) l.room l.initial.table l.initial.bytes l.initial.s (1 - get_or l.initial.bytes l.k 0)
-    (row_of (length l.counts) l.initial.table l.k)
-    (meet_all same_list l.room (1 - get_or l.initial.bytes l.k 0) (state_of (length l.counts) l.initial.table l.initial.bytes l.initial.s)
-    (mask_changes (listing l.counts l.ends l.inc) l.mask (row_of (length l.counts) l.initial.table l.k))) l.table l.bytes l.heads l.next l.left l.s
+invariant-loop-flag l =
+    let L = listing l.counts l.ends l.inc in
+    let i = l.initial in
+    let byte = 1 - get_or i.bytes l.k 0 in
+    let f = row_of (length l.counts) i.table l.k in
+    let first = state_of (length l.counts) i.table i.bytes i.s in
+    let all = meet_all same_list l.room byte first (mask_changes L l.mask f) in
+    (l.flag ≡ i.flag) × Working L l.room i.table i.bytes i.s byte f all l.table l.bytes l.heads l.next l.left l.s
 
 abbrev pub decreases-loop-flag : goal.decreases-loop-flag
 decreases-loop-flag l = l.left

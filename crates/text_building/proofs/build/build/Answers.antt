@@ -5,7 +5,7 @@ use native.Mathlib.Omega.{arith}
 use lib.Seq.{length-take-le}
 use Rattle.listing_sups.proofs.Unfilled.{fill_asked, filled_all}
 use Rattle.text_building.proofs.Flat.{lists, room_counts, flat}
-use Rattle.text_building.proofs.Told.{unfilled_of}
+use Rattle.text_building.proofs.Told.{unfilled_of, unfilled, ranks_inside, elements_few, ends_inside}
 use Rattle.text_building.proofs.build.build.Goals as goal
 
 pub copy-requires : goal.copy-requires
@@ -17,40 +17,24 @@ pub put_elements-requires : goal.put_elements-requires
 put_elements-requires c = let s = c.requires in (lists s.0, flat s.1)
 
 pub slice_bounds-fill-end : goal.slice_bounds-fill-end
-slice_bounds-fill-end c =
-    let r = c.requires in
-    let w = unfilled_of r.1 _ _ _ c.copy.ensures (c.put_elements.ensures (lists r.0) (flat r.1)) in
-    omega (arith, w.k_is, w.counts.same_length, w.room_counts)
+slice_bounds-fill-end c = ranks_inside c.requires c.copy.ensures c.put_elements.ensures
 
 pub slice_bounds-fill-end-2 : goal.slice_bounds-fill-end-2
 slice_bounds-fill-end-2 c =
-    let r = c.requires in
-    let w = unfilled_of r.1 _ _ _ c.copy.ensures (c.put_elements.ensures (lists r.0) (flat r.1)) in
-    sym (length-take-le _ _ (omega (arith, w.k_is, w.counts.same_length, w.room_counts)))
+    sym (length-take-le _ _ (ranks_inside c.requires c.copy.ensures c.put_elements.ensures))
 
 pub overflow_mul-n : goal.overflow_mul-n
-overflow_mul-n c =
-    let r = c.requires in
-    let w = unfilled_of r.1 _ _ _ c.copy.ensures (c.put_elements.ensures (lists r.0) (flat r.1)) in
-    omega (arith, w.n_is, w.few_elements)
+overflow_mul-n c = omega (arith, elements_few c.requires c.copy.ensures c.put_elements.ensures)
 
 pub slice_bounds-fill-end-3 : goal.slice_bounds-fill-end-3
-slice_bounds-fill-end-3 c =
-    let r = c.requires in
-    let w = unfilled_of r.1 _ _ _ c.copy.ensures (c.put_elements.ensures (lists r.0) (flat r.1)) in
-    omega (arith, w.n_is, w.elements.ends_length, w.room_ends)
+slice_bounds-fill-end-3 c = ends_inside c.requires c.copy.ensures c.put_elements.ensures
 
 pub slice_bounds-fill-end-4 : goal.slice_bounds-fill-end-4
 slice_bounds-fill-end-4 c =
-    let r = c.requires in
-    let w = unfilled_of r.1 _ _ _ c.copy.ensures (c.put_elements.ensures (lists r.0) (flat r.1)) in
-    sym (length-take-le _ _ (omega (arith, w.n_is, w.elements.ends_length, w.room_ends)))
+    sym (length-take-le _ _ (ends_inside c.requires c.copy.ensures c.put_elements.ensures))
 
 pub fill-requires : goal.fill-requires
-fill-requires c =
-    let r = c.requires in
-    let w = unfilled_of r.1 _ _ _ c.copy.ensures (c.put_elements.ensures (lists r.0) (flat r.1)) in
-    fill_asked w
+fill-requires c = fill_asked (unfilled c.requires c.copy.ensures c.put_elements.ensures)
 
 pub returns : goal.returns
 returns c = λ M s.

@@ -1,38 +1,29 @@
--- `term_at`. By what follows the digits: a comma, a newline, the end of the text, another byte. Assumes nothing.
-use mathlib.Core.Path.{refl, sym, ◌∙◌}
-use mathlib.Core.Bool.{true≢false}
-use Rattle.text_lines.proofs.Values.{Told}
-use Rattle.text_lines.proofs.Terms.{term_none, term_last, term_more, bad_digits, bad_end, bad_byte}
+-- `term_at`. By what follows the digits: nothing, a comma, a newline, another byte. Assumes nothing.
+use mathlib.Core.Path.{sym, ◌∙◌}
+use native.Mathlib.Omega.{arith}
+use Rattle.text_theory.proofs.Reading.{numbers_wrong}
+use Rattle.text_lines.proofs.Terms.{term_last, term_more, bad_end, bad_byte}
 use Rattle.text_lines.proofs.lines.term_at.Goals as goal
+use Rattle.text_lines.proofs.lines.term_at.Goals.{in-44, in-10}
 
-pub returns-then-b-eq44 : goal.returns-then-b-eq44
-returns-then-b-eq44 c =
-    let e = c.number_at-w.ensures in
-    let read : Told _ _ _ _ = record { ends = e.next_value.0; tells = e.value_value } in
-    let n = e.variant.0 c.if-w.true in
-    term_more read n c.if-end-text.true c.if-b-eq44.true _ refl
+pub returns-in_err-value : goal.returns-in_err-value
+returns-in_err-value c = rw c.from_residual.ensures (numbers_wrong _ c.in_err-value.ensures)
 
-pub returns-then-b-eq10 : goal.returns-then-b-eq10
-returns-then-b-eq10 c =
-    let e = c.number_at-w.ensures in
-    let read : Told _ _ _ _ = record { ends = e.next_value.0; tells = e.value_value } in
-    let n = e.variant.0 c.if-w.true in
-    term_last read n c.if-end-text.true c.if-b-eq10.true _ refl
+pub returns-in_err-get : goal.returns-in_err-get
+returns-in_err-get c =
+    rw c.from_residual-in_err-get.ensures (bad_end c.in_ok-value.ensures c.in_err-get.ensures.lookup.3)
 
-pub returns-then-end-text : goal.returns-then-end-text
-returns-then-end-text c =
-    let e = c.number_at-w.ensures in
-    let read : Told _ _ _ _ = record { ends = e.next_value.0; tells = e.value_value } in
-    term_none _ _ _ refl (bad_byte read c.if-b-eq44.false c.if-b-eq10.false)
-
-pub returns-then-w : goal.returns-then-w
-returns-then-w c =
-    let e = c.number_at-w.ensures in
-    let read : Told _ _ _ _ = record { ends = e.next_value.0; tells = e.value_value } in
-    term_none _ _ _ refl (bad_end read c.if-end-text.false)
+pub returns-in_default : goal.returns-in_default
+returns-in_default c =
+    let b = c.in_ok-get.ensures.lookup.3.1 0 in
+    bad_byte c.in_ok-value.ensures (λ q. omega (arith, b)) (λ q. omega (arith, b))
 
 pub returns : goal.returns
 returns c =
-    let e = c.number_at-w.ensures in
-    let read : Told _ _ _ _ = record { ends = e.next_value.0; tells = e.value_value } in
-    term_none _ _ _ refl (bad_digits read (λ n. true≢false (sym (e.variant.1 n) ∙ c.if-w.false)))
+    let h = c.in_ok-value.ensures in
+    let l = c.in_ok-get.ensures.lookup.3.0 in
+    let b = sym (c.in_ok-get.ensures.lookup.3.1 0) in
+    elim c.match-branch-3.branch [
+      | in-44 w ↦ rw w.more-is (term_more h l (b ∙ w.in-44.is))
+      | in-10 w ↦ rw w.more-is (term_last h l (b ∙ w.in-10.is))
+    ]

@@ -17,7 +17,7 @@ pub returns-then-c-ne0-clause-comes : goal.returns-then-c-ne0-clause-comes
 returns-then-c-ne0-clause-comes c =
     let e = c.stopped.ensures in
     let o = rank_stop c.requires.arrived c.requires.rank_bound.0 c.single_at-c.ensures.line_read c.if-c-ne0.true in
-    (stopped_so {X = ⊥} _ _ _ _ c.if-c-ne0.true e o).0
+    stopped_so _ _ _ _ c.if-c-ne0.true e o
 
 pub overflow_add-s : goal.overflow_add-s
 overflow_add-s c = omega (arith, c.requires.arrived.elements)
@@ -37,7 +37,7 @@ returns-then-s-c-gt-ELEMENTS-clause-comes c =
     let z = c.if-c-ne0.false in
     let w = c.stopped-then-s-c-gt-ELEMENTS.ensures in
     let o = rank_over q.arrived q.rank_bound.0 e.line_read z _ (e.value_value z) c.if-s-c-gt-ELEMENTS.true in
-    (stopped_so {X = ⊥} _ _ _ _ (λ z. omega arith) w o).0
+    stopped_so _ _ _ _ (λ z. omega arith) w o
 
 pub overflow_cast-noted : goal.overflow_cast-noted
 overflow_cast-noted c =
@@ -46,13 +46,6 @@ overflow_cast-noted c =
     let z = c.if-c-ne0.false in
     let f = rank_fits q.arrived q.rank_bound.0 e.line_read z _ (e.value_value z) in
     omega (arith, f)
-
-pub offset_bounds-noted-rank : goal.offset_bounds-noted-rank
-offset_bounds-noted-rank c = omega (arith, c.requires.rank_bound.0, c.requires.arrived.ranks)
-
-pub bounds-noted-rank : goal.bounds-noted-rank
-bounds-noted-rank c =
-    omega (arith, c.requires.rank_bound.0, c.requires.arrived.ranks, c.requires.rank_bound.1.long)
 
 pub measure_elements-requires : goal.measure_elements-requires
 measure_elements-requires c =

@@ -1,7 +1,8 @@
 -- `rank_length`. Invariant: n is how long the line of the count and those of the first i elements are, and no line is
--- longer than eight times the width. Measure: the elements left. Assumes nothing.
+-- longer than eight times the width.
+-- Assumes nothing.
 use mathlib.Core.Path.{◌≡◌}
-use Prim.Native.Nat.{◌+◌, ◌-◌, ◌*◌, ◌≤◌}
+use Prim.Native.Nat.{◌+◌, ◌*◌, ◌≤◌}
 use lib.ListN.{length}
 use Rattle.listing.specs.Listing.{listing, width}
 use Rattle.listing.specs.Written.{joined}
@@ -10,8 +11,4 @@ use Rattle.text_writing.proofs.length.rank_length.Given as goal
 
 abbrev pub invariant-loop-i : goal.invariant-loop-i
 invariant-loop-i l = let L = listing l.counts l.ends l.inc in
-    (l.i ≤ l.count) × (l.n ≡ length (count_bytes L l.r) + length (joined (subs_bytes L l.r) l.i))
-    × (l.n ≤ 8 * width * (l.i + 1))
-
-abbrev pub decreases-loop-i : goal.decreases-loop-i
-decreases-loop-i l = l.count - l.i
+    (l.n ≡ length (count_bytes L l.r) + length (joined (subs_bytes L l.r) l.i)) × (l.n ≤ 8 * width * (l.i + 1))

@@ -1,7 +1,8 @@
 -- `text_length`. Invariant: n is how long the first line and the lines of the ranks before rank r are, which begins at
--- place here, and no rank has lines longer than is said. Measure: the ranks left. Assumes nothing.
+-- place here, and no rank has lines longer than is said.
+-- Assumes nothing.
 use mathlib.Core.Path.{◌≡◌}
-use Prim.Native.Nat.{◌+◌, ◌-◌, ◌*◌, ◌≤◌}
+use Prim.Native.Nat.{◌+◌, ◌*◌, ◌≤◌}
 use lib.ListN.{length}
 use Rattle.listing.specs.Listing.{listing, width, before}
 use Rattle.listing.specs.Layers.{layers}
@@ -12,8 +13,5 @@ use Rattle.text_writing.proofs.length.text_length.Given as goal
 
 abbrev pub invariant-loop-r : goal.invariant-loop-r
 invariant-loop-r l = let L = listing l.counts l.ends l.inc in
-    (l.r ≤ length l.counts) × (l.here ≡ before l.counts l.r)
-    × (l.n ≡ length (rank_first L) + length (joined (rank_bytes (layers L)) l.r)) × (l.n ≤ 8 * width * width * (l.r + 1))
-
-abbrev pub decreases-loop-r : goal.decreases-loop-r
-decreases-loop-r l = length l.counts - l.r
+    (l.here ≡ before l.counts l.r) × (l.n ≡ length (rank_first L) + length (joined (rank_bytes (layers L)) l.r))
+    × (l.n ≤ 8 * width * width * (l.r + 1))

@@ -1,12 +1,8 @@
--- `put_elements`. Invariant: the lines of the first i elements are written. Measure: the elements left.
+-- `put_elements`. Invariant: the lines of the first i elements are written.
 -- Assumes nothing.
-use Prim.Native.Nat.{◌-◌, ◌≤◌}
 use Rattle.listing.specs.Written.{joined}
 use Rattle.text_writing.specs.Writing.{line_from, PutAt}
 use Rattle.text_writing.proofs.write.put_elements.Given as goal
 
 abbrev pub invariant-loop-i : goal.invariant-loop-i
-invariant-loop-i l = (l.i ≤ l.n) × PutAt (joined (line_from l.ends l.inc l.here) l.i) l.at l.initial.text l.text l.p
-
-abbrev pub decreases-loop-i : goal.decreases-loop-i
-decreases-loop-i l = l.n - l.i
+invariant-loop-i l = PutAt (joined (line_from l.ends l.inc l.here) l.i) l.at l.initial.text l.text l.p

@@ -1,8 +1,6 @@
--- `put_ranks`. Invariant: the lines of the ranks before rank r are written, which begins at place here. Measure: the
--- ranks left. Assumes nothing.
+-- `put_ranks`. Invariant: the lines of the ranks before rank r are written, which begins at place here.
+-- Assumes nothing.
 use mathlib.Core.Path.{◌≡◌}
-use Prim.Native.Nat.{◌-◌, ◌≤◌}
-use lib.ListN.{length}
 use Rattle.listing.specs.Listing.{listing, before}
 use Rattle.listing.specs.Layers.{layers}
 use Rattle.listing.specs.Written.{joined}
@@ -11,8 +9,5 @@ use Rattle.text_writing.specs.Writing.{PutAt}
 use Rattle.text_writing.proofs.write.put_ranks.Given as goal
 
 abbrev pub invariant-loop-r : goal.invariant-loop-r
-invariant-loop-r l = (l.r ≤ length l.counts) × (l.here ≡ before l.counts l.r)
+invariant-loop-r l = (l.here ≡ before l.counts l.r)
     × PutAt (joined (rank_bytes (layers (listing l.counts l.ends l.inc))) l.r) l.at l.initial.text l.text l.p
-
-abbrev pub decreases-loop-r : goal.decreases-loop-r
-decreases-loop-r l = length l.counts - l.r

@@ -1,15 +1,11 @@
--- `meet_rank`. Invariant: the subs of the first x elements ascend, exist and are not none, and the cursors have met
--- what is gathered from them. Measure: the elements left.
+-- `meet_rank`. Invariant: the subs of the elements before x ascend, exist and are not none, and the cursors have met
+-- what is gathered from them.
 -- Assumes nothing.
-use Prim.Native.Nat.{◌-◌, ◌≤◌}
 use Rattle.listing.specs.Listing.{subs_at}
 use Rattle.listing.specs.Layers.{gather}
 use Rattle.valid.specs.Agreement.{AllBelow, Met}
 use Rattle.valid.proofs.agreement.meet_rank.Given as goal
 
 abbrev pub invariant-loop-x : goal.invariant-loop-x
-invariant-loop-x l = (l.x ≤ l.high.size) × AllBelow l.low.size (subs_at l.ends l.inc l.high.place) l.x
+invariant-loop-x l = AllBelow l.low.size (subs_at l.ends l.inc l.high.place) l.x
     × Met l.inc l.low.size (λ y. gather (subs_at l.ends l.inc l.high.place) y l.x) l.initial.next l.next
-
-abbrev pub decreases-loop-x : goal.decreases-loop-x
-decreases-loop-x l = l.high.size - l.x

@@ -1,3 +1,5 @@
+-- The first refusal along the ranks, each of which begins where the one before it ends.
+-- Assumes nothing.
 use mathlib.Core.Path.{refl, sym}
 use Prim.Native.Nat.{◌+◌}
 use native.Mathlib.Omega.{arith}
@@ -12,22 +14,14 @@ pub loop-r-init : goal.loop-r-init
 unfolding ascent_test
 loop-r-init c = (sym (before_zero c.args.counts.now), refl)
 
-pub check_rank-a-requires : goal.check_rank-a-requires
-check_rank-a-requires c =
-    record {
-      shaped = c.requires;
-      here_value = (c.loop-r.invariant.0, c.loop-r-test.true);
-    }
-
 pub returns-then-a-ne0 : goal.returns-then-a-ne0
 returns-then-a-ne0 c = search of_return
 
 pub overflow_add-here : goal.overflow_add-here
 overflow_add-here c =
     let l = c.args.counts.now in
-    let r = c.loop-r.r in
-    let f = few_before (listing l c.args.ends.now c.args.inc.now) c.requires (r + 1) in
-    omega (arith, f, before_next l r)
+    let f = few_before (listing l c.args.ends.now c.args.inc.now) c.requires (c.loop-r.r + 1) in
+    omega (arith, f, before_next l c.loop-r.r)
 
 pub loop-r-preserved : goal.loop-r-preserved
 loop-r-preserved c =

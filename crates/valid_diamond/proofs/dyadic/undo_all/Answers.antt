@@ -1,7 +1,7 @@
--- Each sub that is taken stands in the list. Where none of the counts is left, and where all subs were taken, the tally is
--- that of nothing.
+-- Each sub that is taken stands in the list. Where none of the counts is left, and where all subs were taken, the tally
+-- is that of nothing.
 -- Assumes nothing.
-use Rattle.std.proofs.Common.{refl, ◌∙◌}
+use Rattle.std.proofs.Common.{refl}
 use Rattle.valid_diamond.specs.Dyadic.{subs_of_all}
 use Rattle.valid_diamond.specs.Tally.{undone}
 use Rattle.valid_diamond.proofs.Totals.{left_none}

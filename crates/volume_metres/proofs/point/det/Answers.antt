@@ -1,4 +1,4 @@
--- `det` is what its contract says, operation by operation. No loop.
+-- `det` is what its contract says, operation by operation.
 -- Assumes nothing.
 use Rattle.std.proofs.Common.{refl}
 use Rattle.volume_metres.specs.Formulas.{in_floats, det_formula, det_in}

@@ -1,7 +1,6 @@
--- Invariant: `six` is what the even ones of the first k rows add, worked out in floats. Measure: the rows left.
+-- `six_of`. Invariant: `six` is what the even ones of the rows before k add, worked out in floats.
 -- Assumes nothing.
 use mathlib.Core.Path.{◌≡◌}
-use Prim.Native.Nat.{◌-◌, ◌≤◌}
 use lib.ListN.{length}
 use Rattle.listing.specs.Listing.{listing}
 use Rattle.search_theory.specs.Search.{evens}
@@ -11,9 +10,6 @@ use Rattle.volume_theory.specs.Six.{six_formula}
 use Rattle.volume_sum.proofs.parts.six_of.Given as goal
 
 abbrev pub invariant-loop-k : goal.invariant-loop-k
-invariant-loop-k l = (l.k ≤ l.end)
-    × (l.six ≡ in_floats l.coordinates
-    (six_formula (listing l.counts l.ends l.inc) (evens (rows (length l.counts) l.table l.k) l.orientations)))
-
-abbrev pub decreases-loop-k : goal.decreases-loop-k
-decreases-loop-k l = l.end - l.k
+invariant-loop-k l = l.six
+    ≡ in_floats l.coordinates
+    (six_formula (listing l.counts l.ends l.inc) (evens (rows (length l.counts) l.table l.k) l.orientations))
