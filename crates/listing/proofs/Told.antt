@@ -98,7 +98,6 @@ module _ {S : Answer} (B : Answer) where
   pub then_halt : (d : Refusal) → answer_of d ≡ S → answer_of d ≡ S or_else B
   then_halt d e = e ∙ sym (or_stop S B (halts d e))
 
-
 -- ---- along a list
 
 module _ (W : Answer) (f : ℕ → Answer) (l : List ℕ) (k : ℕ) (e : W ≡ first_in f (drop k l)) where
@@ -107,7 +106,6 @@ module _ (W : Answer) (f : ℕ → Answer) (l : List ℕ) (k : ℕ) (e : W ≡ f
 
   pub in_halt : k < length l → (d : Refusal) → answer_of d ≡ f (get_or l k 0) → answer_of d ≡ W
   in_halt h d z = z ∙ sym (in_stop W f l k e h (halts d z))
-
 
   pub in_done : length l ≤ k → fine ≡ W
   in_done h = sym (in_end W f l k e h)
@@ -120,7 +118,6 @@ module _ (W : Answer) (f : ℕ → Answer) (i n : ℕ) (e : W ≡ first_of f i n
 
   pub of_halt : i < n → (d : Refusal) → answer_of d ≡ f i → answer_of d ≡ W
   of_halt h d z = z ∙ sym (of_stop W f i n e h (halts d z))
-
 
   pub of_over : n ≤ i → fine ≡ W
   of_over h = sym (of_end W f i n e h)

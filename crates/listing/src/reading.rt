@@ -34,18 +34,18 @@ pub fn elements_before(counts: &[Index], r: usize) -> usize
     n
 }
 
-impl<'a> Slices<'a> {
-    // Where the kth list begins.
-    pub fn start_of(self, k: usize) -> usize
-        requires { k ≤ length self.ends.now }
-        ensures { result ≡ start self.entry.ends.now k }
-    {
-        if k == 0 {
-            return 0;
-        }
-        usize::from(self.ends[k - 1])
+// Where the kth list begins.
+pub fn start_of(ends: &[Index], k: usize) -> usize
+    requires { k ≤ length ends.now }
+    ensures { result ≡ start ends.now k }
+{
+    if k == 0 {
+        return 0;
     }
+    usize::from(ends[k - 1])
+}
 
+impl<'a> Slices<'a> {
     // The kth list.
     #[tactic(auto, unfolding(crate::specs::Listing::entries))]
     pub fn list_of(self, k: usize) -> &'a [Index]
@@ -53,7 +53,7 @@ impl<'a> Slices<'a> {
         requires k_in_bounds { k < length self.ends.now }
         ensures { result.now ≡ entries self.entry.ends.now self.entry.inc.now k }
     {
-        &self.inc[self.start_of(k)..usize::from(self.ends[k])]
+        &self.inc[start_of(self.ends, k)..usize::from(self.ends[k])]
     }
 
     // The list at a side of the element x places after the place p.
