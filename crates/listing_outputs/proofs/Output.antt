@@ -44,6 +44,9 @@ module _ (need room : Room) where
       unfolding short_test
       room_fine h = rw (le-ltb room.counts _ h1, le-ltb room.ends _ h2, le-ltb room.inc _ h)
 
+-- those laws
+pub ruleset rooms = (short_counts, short_ends, short_inc, room_fine)
+
 module _ (R : Listing) (c e i : ℕ) where
   pub room_tested : Tests output_short output_short (Fits R c e i) (room_test R c e i)
   unfolding short_test

@@ -14,22 +14,19 @@ pub struct Room {
 }
 
 // Whether slices with this much room can hold a listing that needs so much.
+#[tactic(auto, using(crate::proofs::Output::rooms))]
 pub fn check_room(need: Room, room: Room) -> Answer
     ensures { result ≡ short_test need room }
 {
-    if room.counts < need.counts {
-        return inner::plain(refusal::OUTPUT_SHORT);
+    if room.counts < need.counts || room.ends < need.ends || room.inc < need.inc {
+        inner::plain(refusal::OUTPUT_SHORT)
+    } else {
+        inner::plain(0)
     }
-    if room.ends < need.ends {
-        return inner::plain(refusal::OUTPUT_SHORT);
-    }
-    if room.inc < need.inc {
-        return inner::plain(refusal::OUTPUT_SHORT);
-    }
-    inner::plain(0)
 }
 
 // What is answered at a refusal: nothing is written.
+#[tactic(auto, using(crate::proofs::Output::built_refused))]
 pub fn refused(answer: Answer) -> Built
     ensures { (R : Listing) → (answer.no ≡ 0 → ⊥) → result ≡ built_of answer R }
 {
@@ -42,6 +39,7 @@ pub fn refused(answer: Answer) -> Built
 }
 
 // What is answered of a listing that is written, which takes so much room.
+#[tactic(auto, using(crate::proofs::Output::built_need))]
 pub fn written(answer: Answer, need: Room) -> Built
     requires { (need.counts < width) × (need.ends < width) × (need.inc < width) }
     ensures { (R : Listing) → need ≡ need_of R → answer.no ≡ 0 → result ≡ built_of answer R }
