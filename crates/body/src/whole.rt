@@ -18,16 +18,14 @@ fn first_sups(counts: &[Index], ends: &[Index], inc: &[Index]) -> [Index; limit:
     ensures { take (length counts.now) result
         ≡ sups_flag (held counts.entry ends.entry inc.entry) }
 {
-    let mut a: [Index; limit::RANKS] = [0; limit::RANKS];
+    let mut flag: [Index; limit::RANKS] = [0; limit::RANKS];
     let mut here: usize = 0;
-    let mut r: usize = 1;
-    while r < counts.len() {
-        let sups = inner::side_of(ends, inc, here, a[r - 1], 1);
-        a[r] = sups[0];
+    for r in 1..counts.len() {
+        let sups = inner::side_of(ends, inc, here, flag[r - 1], 1);
+        flag[r] = sups[0];
         here += inner::wide(counts[r - 1]);
-        r += 1;
     }
-    a
+    flag
 }
 
 // The search with every change from the flag of first sups.

@@ -70,6 +70,7 @@ pub enum Orientation {
 
 impl Orientation {
     // The other parity.
+    #[tactic(auto, unfolding(crate::specs::Orientations::flip_of))]
     pub fn flip(self) -> Orientation
         ensures { result ≡ flip_of self }
     {
@@ -90,6 +91,7 @@ impl Orientation {
     }
 
     // Its byte, as a search stores it.
+    #[tactic(auto, unfolding(crate::specs::Orientations::byte_of))]
     pub fn byte(self) -> u8
         ensures { result ≡ byte_of self }
     {
@@ -100,6 +102,7 @@ impl Orientation {
     }
 
     // The parity that a byte stands for: 0 even, any other odd.
+    #[tactic(auto, unfolding(crate::specs::Orientations::of_byte))]
     pub fn of_byte(b: u8) -> Orientation
         ensures { result ≡ of_byte b }
     {

@@ -4,6 +4,7 @@ ghost use Rattle.std.specs.Prelude.{◌≡◌, ◌-◌};
 use crate::Orientation;
 
 // The byte of the other parity.
+#[tactic(auto, using(crate::proofs::FlippedByte::flip_byte))]
 pub fn flipped(byte: u8) -> u8
     ensures { result ≡ 1 - byte }
 {

@@ -11,11 +11,10 @@ const SHORT: usize = 8;
 fn stands_at_own_place(list: &[Index], x: Index) -> bool
     ensures { result ≡ true → has list.now x ≡ true }
 {
-    let at = usize::from(x);
-    if list.len() <= at {
-        return false;
+    match list.get(usize::from(x)) {
+        Some(&y) => y == x,
+        None => false,
     }
-    list[at] == x
 }
 
 // Whether halving finds x in a list: it does if x is there and the list ascends. In another list it may miss x.
@@ -40,18 +39,6 @@ fn found_by_halving(list: &[Index], x: Index) -> bool
     false
 }
 
-// Whether x is one of the numbers of a list, looking from its start.
-fn found_by_scanning(list: &[Index], x: Index) -> bool
-    ensures { result ≡ has list.now x }
-{
-    for &y in list {
-        if y == x {
-            return true;
-        }
-    }
-    false
-}
-
 // Whether x is one of the numbers of a list.
 pub fn contains(list: &[Index], x: Index) -> bool
     ensures { result ≡ has list.now x }
@@ -60,12 +47,9 @@ pub fn contains(list: &[Index], x: Index) -> bool
         return true;
     }
     if list.len() <= SHORT {
-        return found_by_scanning(list, x);
+        return list.contains(&x);
     }
-    if found_by_halving(list, x) {
-        return true;
-    }
-    found_by_scanning(list, x)
+    found_by_halving(list, x) || list.contains(&x)
 }
 
 // The same for a list that ascends.
@@ -73,8 +57,5 @@ pub fn ascending_contains(list: &[Index], x: Index) -> bool
     requires { Ascending list.now }
     ensures { result ≡ has list.now x }
 {
-    if stands_at_own_place(list, x) {
-        return true;
-    }
-    found_by_halving(list, x)
+    stands_at_own_place(list, x) || found_by_halving(list, x)
 }

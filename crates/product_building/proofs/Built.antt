@@ -10,7 +10,6 @@ use Rattle.listing.specs.Listing.{width, Listing}
 use Rattle.listing.specs.Layers.{Layers, Topped, derived}
 use Rattle.listing.specs.Laid.{LaidList}
 use Rattle.listing.specs.Written.{nth}
-use Rattle.listing_sups.specs.Sups.{UpCounts}
 use Rattle.listing_sups.specs.Filling.{starts, ElementsLaid}
 use Rattle.listing_sups.proofs.Unfilled.{Unfilled}
 use Rattle.product_places.specs.declared.Poles.{Poles}
@@ -19,10 +18,6 @@ use Rattle.product_element.specs.Pairs.{target, lists_of, product_lists, size_of
 use Rattle.product_writing.proofs.Target.{target_size, target_topped}
 use Rattle.product_building.specs.Built.{counts_of, product_listing}
 use Rattle.product_building.proofs.CountsLaid.{counts_length, target_counts}
-
--- counts of sups, by another number for where the elements begin
-pub counted_from : {b b' : ℕ} (L : Listing) (up : List ℕ) → b ≡ b' → UpCounts b L up → UpCounts b' L up
-counted_from L up e u = rw e at u
 
 -- the plan, and room for the counts
 pub record Buildable (poles : Poles) (P Q : Listing) (counts₀ ends₀ inc₀ : List ℕ) : Type 0 where

@@ -69,15 +69,6 @@ module _ {poles : Poles} {P Q : Listing} {psups qsups ends inc : List ℕ}
 -- ---- a block, by the ranks that it was made for
 
 module _ {poles : Poles} {p q : List ℕ} {i j : ℕ} {B : Block} (block : BlockOf poles p q i j B) where
-  pub block_own : BlockOf poles p q B.i B.j B
-  block_own =
-      subst (λ (n : ℕ). BlockOf poles p q n B.j B) (sym block.ranks.0)
-      (subst (λ (n : ℕ). BlockOf poles p q i n B) (sym block.ranks.1) block)
-
-  pub block_start : (lists : ℕ → List ℕ) {R at : ℕ} → i + j ≡ R → at ≡ starts lists (2 * first_at poles.min p q R i)
-      → at ≡ starts lists (2 * first_at poles.min p q (B.i + B.j) B.i)
-  block_start lists e h = rw (block.ranks.0, block.ranks.1, e) h
-
   pub block_put : {lists : ℕ → List ℕ} {R at : ℕ} {ends inc ends' inc' : List ℕ} → i + j ≡ R
       → Put lists (first_at poles.min p q (B.i + B.j) B.i) (first_at poles.min p q (B.i + B.j) (B.i + 1)) at
       ends inc ends' inc'

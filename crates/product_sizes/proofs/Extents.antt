@@ -104,7 +104,8 @@ module _ (min max : Bool) (L : Listing) (u : Usable min max L) where
       (bit min + before p (length p) - (bit min + get_or p 0 0)) ≡ all_subs M
   unfolding all_subs
   subs_in_use =
-      let n : bit min + before p (length p) - (bit min + get_or p 0 0) ≡ before p (length p) - get_or p 0 0 = omega arith in
+      let n : bit min + before p (length p) - (bit min + get_or p 0 0) ≡ before p (length p) - get_or p 0 0 =
+      omega arith in
       let s = sum_same (λ k. length (entries L.ends L.inc (2 * (bit min + get_or p 0 0 + k))))
       (λ k. g (get_or p 0 0 + k)) (before p (length p) - get_or p 0 0)
       (λ k l. ap (λ (t : ℕ). length (entries L.ends L.inc (2 * t))) (omega arith)) in
@@ -167,18 +168,6 @@ module _ (min max : Bool) (L : Listing) (u : Usable min max L) where
 
 ranks_add : (a b m n : ℕ) → suc (a + b + m + n) ≡ suc a + suc b - 1 + m + n
 ranks_add a b m n = omega arith
-
--- the three numbers by their parts, as the code has them in hand
-pub totals_are : (poles : Poles) (p q : Extent) {low high pairs left right lowest highest : ℕ} → low ≡ bit poles.min
-    → high ≡ bit poles.max → pairs ≡ p.elements * q.elements → left ≡ p.subs * q.elements
-    → right ≡ q.subs * p.elements → lowest ≡ bit poles.min * (p.lowest * q.lowest)
-    → highest ≡ bit poles.max * (p.highest * q.highest)
-    → ◌≡◌ {A = Totals} (record {
-      ranks = p.ranks + q.ranks - 1 + low + high;
-      elements = pairs + low + high;
-      incidences = 2 * (left + right + lowest + highest);
-    }) (totals_of poles p q)
-totals_are poles p q a b e l r f g = rw (a, b, e, l, r, f, g)
 
 -- Its three numbers are what the sizes are computed to.
 pub measured : (poles : Poles) (A B : Listing) → Usable poles.min poles.max A → Usable poles.min poles.max B

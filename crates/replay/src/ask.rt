@@ -1,5 +1,5 @@
 // Each question read from its line and put to the function that it names. The functions are told apart by letters of
-// their names.
+// their names. By whole names, a line that no list has, with a name of its own, would be answered in another way.
 use crate::{bodies, cell, flags};
 use listing::Index;
 use replay_products::pair;

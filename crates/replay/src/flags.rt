@@ -67,11 +67,8 @@ fn told(
     odd: &[u8],
     w: usize,
 ) -> io::Result<()> {
-    let mut at = 0;
-    let end = search_events::events_in(count, place);
-    while at < end {
+    for at in 0..search_events::events_in(count, place) {
         event(rt, search_events::event_at(at, count, place), table, odd, w)?;
-        at += 1;
     }
     Ok(())
 }

@@ -18,10 +18,7 @@ const TEXT: usize = 524288;
 
 // Whether a line asks something: it is not empty and no comment.
 fn is_question(line: &[u8]) -> bool {
-    if line.len() == 0 {
-        return false;
-    }
-    line[0] != b'#'
+    !line.is_empty() && line[0] != b'#'
 }
 
 // One line, answered.

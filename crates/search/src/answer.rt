@@ -23,20 +23,10 @@ pub fn refused(answer: Answer) -> Searched
 pub fn found(p: Progress) -> Searched
     ensures { result ≡ found_as fine p.count p.place }
 {
-    let answer = inner::plain(0);
-    let count = p.count;
-    if p.place == 0 {
-        return Searched {
-            answer,
-            count,
-            place: 0,
-            orientable: 1,
-        };
-    }
     Searched {
-        answer,
-        count,
+        answer: inner::plain(0),
+        count: p.count,
         place: p.place,
-        orientable: 0,
+        orientable: u8::from(p.place == 0),
     }
 }

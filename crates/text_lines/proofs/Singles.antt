@@ -57,8 +57,8 @@ module _ (t key : List ℕ) (at : ℕ) where
     pub bad_row : (numbers : List ℕ) (next : ℕ) → good_row numbers row ≡ false → LineRead t at key numbers bad_line next
     bad_row numbers next g = line_refused t key numbers at 40 next (form_bad (line key numbers) here k g)
 
-    pub good_row_lem : Key key → (numbers : List ℕ) (next : ℕ) → good_row numbers row ≡ true → at < next → next ≤ length t
-        → drop next t ≡ after_line row → LineRead t at key numbers 0 next
+    pub good_row_lem : Key key → (numbers : List ℕ) (next : ℕ) → good_row numbers row ≡ true → at < next
+        → next ≤ length t → drop next t ≡ after_line row → LineRead t at key numbers 0 next
     good_row_lem q numbers next g l i e = record {
       test = form_good (line key numbers) here k g;
       later = λ z. l;

@@ -46,6 +46,10 @@ pub record Told (t : List ℕ) (at end v : ℕ) : Type 0 where
   pub ends : end ≡ at + length (digits_in (drop at t))
   pub tells : v ≡ min (valued 0 (digits_in (drop at t))) width
 
+pub told_of : (t : List ℕ) {at end v : ℕ} → end ≡ at + length (digits_in (drop at t))
+    → v ≡ min (valued 0 (digits_in (drop at t))) width → Told t at end v
+told_of t e v = record { ends = e; tells = v }
+
 module _ {t : List ℕ} {at end v : ℕ} (h : Told t at end v) where
   abbrev d : List ℕ
   d = digits_in (drop at t)

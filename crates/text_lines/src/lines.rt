@@ -1,5 +1,6 @@
 // A text read from a place on: a key, a number, a number with what parts it from the next, a line with one number.
-ghost use Rattle.std.specs.Prelude.{◌≡◌, ◌↔◌, true, false, [], ◌∷◌, ◌+◌, ◌-◌, ◌*◌, ◌≤◌, ◌<◌, min, length, get_or, drop, MatchOption};
+ghost use Rattle.std.specs.Prelude.{◌≡◌, ◌↔◌, true, false, [], ◌∷◌, ◌+◌, ◌-◌, ◌*◌, ◌≤◌, min, length, drop};
+ghost use Rattle.std.specs.Prelude.{MatchOption};
 ghost use Rattle.listing.specs.Listing.{width};
 ghost use Rattle.text_theory.specs.Said.{begins, value, values_from};
 ghost use Rattle.text_theory.specs.Digits.{is_digit, digits_in, valued, Numeral, good_row};

@@ -16,7 +16,8 @@ use Rattle.listing.specs.Layers.{derived}
 use Rattle.listing.proofs.Layers.{derived_length}
 use Rattle.listing_sups.specs.Sups.{Raised}
 use Rattle.listing_sups.proofs.Raising.{raised_none, raised_then}
-use Rattle.text_theory.specs.Said.{from_line, count_line, said, below_in, size_below, incidences_of, incidences_to, text_test}
+use Rattle.text_theory.specs.Said.{from_line, count_line, said, below_in, size_below, incidences_of, incidences_to}
+use Rattle.text_theory.specs.Said.{text_test}
 use Rattle.text_theory.specs.Notes.{subs_to}
 use Rattle.text_theory.proofs.Spots.{count_next}
 use Rattle.text_theory.proofs.Incidences.{incidences_to_rank, incidences_to_next}

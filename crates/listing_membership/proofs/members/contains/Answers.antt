@@ -1,10 +1,11 @@
--- What a shorter way finds is there, and where it finds nothing the list is looked through.
+-- `contains`: the library's test is whether the list has x.
 -- Assumes nothing.
-use mathlib.Core.Path.{sym}
+use mathlib.Core.Path.{◌∙◌}
+use Rattle.listing_membership.proofs.Scanning.{any_has}
 use Rattle.listing_membership.proofs.members.contains.Goals as goal
 
-pub returns-then-stands_at_own_place : goal.returns-then-stands_at_own_place
-returns-then-stands_at_own_place c = sym (c.stands_at_own_place.ensures c.if-stands_at_own_place.true)
+pub returns-then-list-le-SHORT : goal.returns-then-list-le-SHORT
+returns-then-list-le-SHORT c = c.contains.ensures.value ∙ any_has _ _
 
-pub returns-then-found_by_halving : goal.returns-then-found_by_halving
-returns-then-found_by_halving c = sym (c.found_by_halving.ensures.0 c.if-found_by_halving.true)
+pub returns-else-found_by_halving : goal.returns-else-found_by_halving
+returns-else-found_by_halving c = c.contains-else-found_by_halving.ensures.value ∙ any_has _ _

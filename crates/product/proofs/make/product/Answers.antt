@@ -13,7 +13,7 @@ use Rattle.product_sizes.proofs.Tested.{listing_tested, sizes_passed}
 use Rattle.listing_outputs.proofs.Output.{made_refused, made_written}
 use Rattle.product.proofs.Planned.{built_is, build_asked}
 use Rattle.product.proofs.make.product.Goals as goal
-use Rattle.product.proofs.make.product.Goals.{After-check_sizes-t, Else-t-ne0}
+use Rattle.product.proofs.make.product.Goals.{After-check_sizes-t}
 
 -- the sizes are those of the product
 measures : (c : After-check_sizes-t) → let a = c.args in

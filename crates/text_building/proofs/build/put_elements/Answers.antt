@@ -1,4 +1,4 @@
--- `put_elements`. What is asked for element e, and what it leaves, say the lemmas on elements written one after another.
+-- `put_elements`. What is asked for element e, and what it leaves, say the lemmas on elements one after another.
 -- Assumes nothing.
 use mathlib.Core.Path.{◌≡◌}
 use native.Mathlib.Omega.{arith}

@@ -25,29 +25,36 @@ returns-then-c-ne0 c =
 pub returns-then-c-ge-RANKS : goal.returns-then-c-ge-RANKS
 returns-then-c-ge-RANKS c =
     let short = c.if-text-gt-TEXT.false in
-    let o = first_over _ _ short _ _ c.single_at-c.ensures.line_read c.if-c-ne0.false _ (c.single_at-c.ensures.value_value c.if-c-ne0.false) c.if-c-ge-RANKS.true in
+    let q = c.single_at-c.ensures in
+    let v = q.value_value c.if-c-ne0.false in
+    let o = first_over _ _ short _ _ q.line_read c.if-c-ne0.false _ v c.if-c-ge-RANKS.true in
     sizes_refused _ _ _ _ _ (λ z. omega arith) c.refused-then-c-ge-RANKS.ensures o
 
 pub measure_ranks-s-requires : goal.measure_ranks-s-requires
 measure_ranks-s-requires c =
     let short = c.if-text-gt-TEXT.false in
-    let v = c.single_at-c.ensures.value_value c.if-c-ne0.false in
-    let n = c.single_at-c.result.value in
-    let a = first_came limits _ short _ _ c.single_at-c.ensures.line_read c.if-c-ne0.false n v (omega (arith, c.if-c-ge-RANKS.false))
-    c.args.up.now c.args.many.now c.args.subs.now c.requires.elements_in_bounds.0 c.requires.elements_in_bounds.1 c.requires.ranks_in_bounds.1 c.requires.ranks_in_bounds.2 _ refl in record {
+    let q = c.single_at-c.ensures in
+    let z = c.if-c-ne0.false in
+    let v = q.value_value z in
+    let e = c.requires.elements_in_bounds in
+    let r = c.requires.ranks_in_bounds in
+    let a = first_came limits _ short _ _ q.line_read z _ v (omega arith) _ _ _ e.0 e.1 r.1 r.2 _ refl in
+    record {
       arrived = a;
-      counts_noted = counts_none _ c.requires.ranks_in_bounds.0;
-      no_value = (refl, top_is limits _ short _ _ c.single_at-c.ensures.line_read c.if-c-ne0.false n v);
+      counts_noted = counts_none _ r.0;
+      no_value = (refl, top_is limits _ short _ _ q.line_read z _ v);
     }
 
 pub returns-then-s-ne0 : goal.returns-then-s-ne0
 returns-then-s-ne0 c =
-    sizes_refused _ _ _ _ _ c.if-s-ne0.true c.refused-then-s-ne0.ensures (c.measure_ranks-s.ensures.comes.stop c.if-s-ne0.true)
+    let o = c.measure_ranks-s.ensures.comes.stop c.if-s-ne0.true in
+    sizes_refused _ _ _ _ _ c.if-s-ne0.true c.refused-then-s-ne0.ensures o
 
 pub returns-then-s-text : goal.returns-then-s-text
 returns-then-s-text c =
+    let m = c.measure_ranks-s.ensures in
     let z = c.if-s-ne0.false in
-    let o = bytes_over (c.measure_ranks-s.ensures.comes.go z) (c.measure_ranks-s.ensures.rank_value z).0 c.if-s-text.true in
+    let o = bytes_over (m.comes.go z) (m.rank_value z).0 c.if-s-text.true in
     sizes_refused _ _ _ _ _ (λ q. omega arith) c.refused-then-s-text.ensures o
 
 pub overflow_add-need : goal.overflow_add-need
@@ -69,4 +76,6 @@ returns c =
     let q = c.single_at-c.ensures in
     let top = top_is limits _ short _ _ q.line_read c.if-c-ne0.false _ (q.value_value c.if-c-ne0.false) in
     let z = c.if-s-ne0.false in
-    sizes_read (c.measure_ranks-s.ensures.comes.go z) (c.measure_ranks-s.ensures.rank_value z).0 c.if-s-text.false _ (c.measure_ranks-s.ensures.rank_value z).1 _ top _ refl
+    let m = c.measure_ranks-s.ensures in
+    let r = m.rank_value z in
+    sizes_read (m.comes.go z) r.0 c.if-s-text.false _ r.1 _ top _ refl

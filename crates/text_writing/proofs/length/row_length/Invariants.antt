@@ -1,4 +1,5 @@
--- `row_length`. Invariant: n is how long the numbers so far are, each with its comma, and none takes more than six bytes.
+-- `row_length`. Invariant: n is how long the numbers so far are, each with its comma, and none takes more than six
+-- bytes.
 -- Assumes nothing.
 use mathlib.Core.Path.{◌≡◌}
 use Prim.Native.Nat.{◌*◌, ◌≤◌}
