@@ -51,7 +51,8 @@ impl<'a> Slices<'a> {
     pub fn list_of(self, k: usize) -> &'a [Index]
         requires ends { Ends self.ends.now self.inc.now }
         requires k_in_bounds { k < length self.ends.now }
-        ensures { result.now ≡ entries self.entry.ends.now self.entry.inc.now k }
+        ensures value { result.now ≡ entries self.entry.ends.now self.entry.inc.now k }
+        ensures end_fits { get_or self.entry.ends.now k 0 < width }
     {
         &self.inc[start_of(self.ends, k)..usize::from(self.ends[k])]
     }
