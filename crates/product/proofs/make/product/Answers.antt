@@ -18,7 +18,8 @@ use Rattle.product.proofs.make.product.Goals.{After-check_sizes-t}
 -- the sizes are those of the product
 measures : (c : After-check_sizes-t) → let a = c.args in
     Measures
-    (product_of a.min a.max (listing a.pcounts.now a.pends.now a.pinc.now) (listing a.qcounts.now a.qends.now a.qinc.now))
+    (product_of a.min a.max (listing a.pcounts.now a.pends.now a.pinc.now)
+    (listing a.qcounts.now a.qends.now a.qinc.now))
     c.product_sizes-s.result
 measures c =
     let poles : Poles = record { min = c.args.min; max = c.args.max } in
@@ -29,7 +30,8 @@ measures c =
 tested : (c : After-check_sizes-t) → let a = c.args in
     c.check_sizes-t.result
     ≡ size_test limits
-    (product_of a.min a.max (listing a.pcounts.now a.pends.now a.pinc.now) (listing a.qcounts.now a.qends.now a.qinc.now))
+    (product_of a.min a.max (listing a.pcounts.now a.pends.now a.pinc.now)
+    (listing a.qcounts.now a.qends.now a.qinc.now))
     (length a.counts.now) (length a.ends.now) (length a.inc.now)
 tested c = c.check_sizes-t.ensures ∙ listing_tested _ _ _ _ (measures c)
 
