@@ -23,7 +23,7 @@ pub fn class(no: u16) -> Band
     }
 }
 
-// A class as a number, for callers that have no enum.
+// A class as a number, for callers that have no enum. The numbers are written out, since callers in C know them.
 #[tactic(auto, unfolding(listing::specs::Refusals::band_no))]
 pub fn band_number(b: Band) -> u16
     ensures { result ≡ band_no b }
@@ -85,7 +85,7 @@ pub fn facet_count(counts: &[Index]) -> Number
     ensures { result ≡ facet_count_of counts.now }
 {
     let r = rank(counts);
-    el_count(counts, std::num::wrapping_sub_usize(r.value, 1))
+    el_count(counts, r.value.wrapping_sub(1))
 }
 
 // Whether the ends do not fall, and come to n.

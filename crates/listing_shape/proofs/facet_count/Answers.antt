@@ -6,6 +6,5 @@ use Rattle.listing_shape.proofs.facet_count.Goals as goal
 
 pub returns : goal.returns
 returns c =
-    let s = c.wrapping_sub_usize in
     let e = ap (λ n. n.value) (sym c.rank-r.ensures) in
-    c.el_count.ensures ∙ facets_wrapped _ _ s.result e (omega arith) s.type_inv s.ensures.value
+    c.el_count.ensures ∙ facets_wrapped _ _ _ e (omega arith) (omega arith) (omega arith)
