@@ -123,20 +123,6 @@ module _ (L : Listing) where
             ∙ K.counted q j l m
         go q j m (inr d) = rw (d.0, d.1) (there ∙ e)
 
-  -- Where a whole rank has its numbers, the next begins.
-  pub counted_rank : (numbers : List ℕ) (r : ℕ) → CountedBelow L r (count L r) numbers
-      → CountedBelow L (r + 1) 0 numbers
-  counted_rank numbers r K = record {
-    long = K.long;
-    none_larger = K.none_larger;
-    counted = λ q j l m. K.counted q j (lower q j l m (ℕ_discrete q r)) m;
-  }
-    where
-      lower : (q j : ℕ) → Earlier q j (r + 1) 0 → j < count L q → Dec (q ≡ r) → Earlier q j r (count L r)
-      lower q j l m (yes d) = inr (d, rw d at m)
-      lower q j (inl l) m (no d) = inl (omega arith)
-      lower q j (inr e) m (no d) = absurd (omega (arith, e.1))
-
   -- One chain leads to the minimal element.
   pub counted_first : count L 0 ≡ 1 → CountedBelow L 1 0 (set cleared 0 1)
   unfolding chains_to

@@ -8,111 +8,60 @@ mod table;
 
 use listing::Index;
 use std::io;
+use table::Name;
 use tour_cells::{
     dyad, hemicube, leaking_box, lidless_box, nullitope, one_on_top, point, struck, three_on_top,
     triangle, twice_listed, two_minimal, whole_box,
 };
 use words::print;
 
-// Each cell has a function of its own: a function with many constants is slow to check.
-
-// A box.
-fn whole_box(rt: &impl Print) -> io::Result<()> {
-    row::show(
-        rt,
-        names::BOX,
-        &whole_box::COUNTS,
-        &whole_box::ENDS,
-        &whole_box::INC,
-    )
+// A cell, with the name of its row.
+#[derive(Clone, Copy)]
+struct Sample<'a> {
+    name: Name,
+    counts: &'a [Index],
+    ends: &'a [Index],
+    inc: &'a [Index],
 }
 
-// The insurer's cell: a box with an edge too many, which lies in one face only.
-fn leaking_box(rt: &impl Print) -> io::Result<()> {
-    row::show(
-        rt,
-        names::INSURERS_CELL,
-        &leaking_box::COUNTS,
-        &leaking_box::ENDS,
-        &leaking_box::INC,
-    )
+// A row for each of some cells.
+fn rows(rt: &impl Print, samples: &[Sample]) -> io::Result<()> {
+    for s in samples {
+        row::show(rt, s.name, s.counts, s.ends, s.inc)?;
+    }
+    Ok(())
 }
 
-// A box with a face too few.
-fn lidless_box(rt: &impl Print) -> io::Result<()> {
-    row::show(
-        rt,
-        names::NO_LID,
-        &lidless_box::COUNTS,
-        &lidless_box::ENDS,
-        &lidless_box::INC,
-    )
-}
-
-// Half of a box, its opposite elements taken for one.
-fn hemicube(rt: &impl Print) -> io::Result<()> {
-    row::show(
-        rt,
-        names::HEMICUBE,
-        &hemicube::COUNTS,
-        &hemicube::ENDS,
-        &hemicube::INC,
-    )
-}
-
-// A listing with two smallest elements.
-fn two_minimal(rt: &impl Print) -> io::Result<()> {
-    row::show(
-        rt,
-        names::TWO_SMALLEST,
-        &two_minimal::COUNTS,
-        &two_minimal::ENDS,
-        &two_minimal::INC,
-    )
-}
-
-// A triangle, with an entry of one of its lists struck out.
-fn struck(rt: &impl Print) -> io::Result<()> {
-    row::show(
-        rt,
-        names::STRUCK,
-        &struck::COUNTS,
-        &struck::ENDS,
-        &struck::INC,
-    )
-}
-
-// Three vertices under one edge.
-fn three_on_top(rt: &impl Print) -> io::Result<()> {
-    row::show(
-        rt,
-        names::THREE_VERTICES,
-        &three_on_top::COUNTS,
-        &three_on_top::ENDS,
-        &three_on_top::INC,
-    )
-}
-
-// One vertex under one edge.
-fn one_on_top(rt: &impl Print) -> io::Result<()> {
-    row::show(
-        rt,
-        names::ONE_VERTEX,
-        &one_on_top::COUNTS,
-        &one_on_top::ENDS,
-        &one_on_top::INC,
-    )
-}
-
-// An edge with the same vertex twice in its list.
-fn twice_listed(rt: &impl Print) -> io::Result<()> {
-    row::show(
-        rt,
-        names::VERTEX_TWICE,
-        &twice_listed::COUNTS,
-        &twice_listed::ENDS,
-        &twice_listed::INC,
-    )
+// A box; the insurer's cell, a box with an edge too many, which lies in one face only; a box with a face too few; half of
+// a box, its opposite elements taken for one.
+fn boxes(rt: &impl Print) -> io::Result<()> {
+    let samples = [
+        Sample {
+            name: names::BOX,
+            counts: &whole_box::COUNTS,
+            ends: &whole_box::ENDS,
+            inc: &whole_box::INC,
+        },
+        Sample {
+            name: names::INSURERS_CELL,
+            counts: &leaking_box::COUNTS,
+            ends: &leaking_box::ENDS,
+            inc: &leaking_box::INC,
+        },
+        Sample {
+            name: names::NO_LID,
+            counts: &lidless_box::COUNTS,
+            ends: &lidless_box::ENDS,
+            inc: &lidless_box::INC,
+        },
+        Sample {
+            name: names::HEMICUBE,
+            counts: &hemicube::COUNTS,
+            ends: &hemicube::ENDS,
+            inc: &hemicube::INC,
+        },
+    ];
+    rows(rt, &samples)
 }
 
 // The nullitope n, the point p, the dyad d and the triangle t, and products of these.
@@ -165,6 +114,44 @@ fn small(rt: &impl Print) -> io::Result<()> {
     )
 }
 
+// Listings with a fault: two smallest elements; a triangle with an entry of one of its lists struck out; three vertices
+// under one edge; one vertex under one edge; an edge with the same vertex twice in its list.
+fn faulty(rt: &impl Print) -> io::Result<()> {
+    let samples = [
+        Sample {
+            name: names::TWO_SMALLEST,
+            counts: &two_minimal::COUNTS,
+            ends: &two_minimal::ENDS,
+            inc: &two_minimal::INC,
+        },
+        Sample {
+            name: names::STRUCK,
+            counts: &struck::COUNTS,
+            ends: &struck::ENDS,
+            inc: &struck::INC,
+        },
+        Sample {
+            name: names::THREE_VERTICES,
+            counts: &three_on_top::COUNTS,
+            ends: &three_on_top::ENDS,
+            inc: &three_on_top::INC,
+        },
+        Sample {
+            name: names::ONE_VERTEX,
+            counts: &one_on_top::COUNTS,
+            ends: &one_on_top::ENDS,
+            inc: &one_on_top::INC,
+        },
+        Sample {
+            name: names::VERTEX_TWICE,
+            counts: &twice_listed::COUNTS,
+            ends: &twice_listed::ENDS,
+            inc: &twice_listed::INC,
+        },
+    ];
+    rows(rt, &samples)
+}
+
 // What comes before the table, with the heads of its columns.
 fn headline(rt: &impl Print) -> io::Result<()> {
     print::text(
@@ -194,17 +181,10 @@ under one top.
 
 fn main(rt: HostRuntime) -> io::Result<()> {
     headline(&rt)?;
-    whole_box(&rt)?;
-    leaking_box(&rt)?;
-    lidless_box(&rt)?;
-    hemicube(&rt)?;
+    boxes(&rt)?;
     print::end(&rt)?;
     small(&rt)?;
     print::end(&rt)?;
-    two_minimal(&rt)?;
-    struck(&rt)?;
-    three_on_top(&rt)?;
-    one_on_top(&rt)?;
-    twice_listed(&rt)?;
+    faulty(&rt)?;
     last_words(&rt)
 }

@@ -34,7 +34,8 @@ search_whole-p-requires c =
     let L : Listing = listing c.args.counts.now c.args.ends.now c.args.inc.now in
     let cell : Closed limits L = (closed_exact limits L).0 (no_of c.closed-a.ensures c.if-a-ne0.false) in
     let room_held : (c.room_of-room.result * length c.args.counts.now ≤ length c.args.table.now)
-    × (c.room_of-room.result ≤ length c.args.bytes.now) × (c.room_of-room.result ≤ limits.flags) = room_fits limits (length c.args.table.now) (length c.args.bytes.now) (length c.args.counts.now) _
+    × (c.room_of-room.result ≤ length c.args.bytes.now) × (c.room_of-room.result ≤ limits.flags) =
+    room_fits limits (length c.args.table.now) (length c.args.bytes.now) (length c.args.counts.now) _
     c.room_of-room.ensures in
     record {
       closed = cell;
@@ -59,7 +60,8 @@ returns c =
     (whole_search L n) = rw room_here at c.search_whole-p.ensures in
     let within : let n = room L c.args.table.now c.args.bytes.now in
     (n * length c.args.counts.now ≤ length c.args.table.now)
-    × (n ≤ length c.args.bytes.now) × (n ≤ limits.flags) = room_fits limits (length c.args.table.now) (length c.args.bytes.now) (length c.args.counts.now) _
+    × (n ≤ length c.args.bytes.now) × (n ≤ limits.flags) =
+    room_fits limits (length c.args.table.now) (length c.args.bytes.now) (length c.args.counts.now) _
     (sym room_here ∙ c.room_of-room.ensures) in
     let p = c.search_whole-p.result in
     let n = c.flags_in_all-all.result in

@@ -1,5 +1,5 @@
--- `measure_ranks`. Invariant: the reading stands where the lines of the next rank begin (Arrived), and the counts of the
--- ranks before it are noted (CountsNoted).
+-- `measure_ranks`. Invariant: the reading stands where the lines of the next rank begin (Arrived), and the counts of
+-- the ranks before it are noted (CountsNoted).
 -- Assumes nothing.
 use mathlib.Core.Path.{◌≡◌}
 use Rattle.listing.specs.Listing.{limits}
