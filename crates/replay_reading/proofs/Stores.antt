@@ -1,5 +1,5 @@
--- Numbers stored from a place on: past the end nothing is, a run of one number fills a part, two runs are one, and where
--- they end counts a start of the slice; a run that is stored part by part; and what is read out of a run.
+-- Numbers stored from a place on: past the end nothing is, a run of one number fills a part, two runs are one, and
+-- where they end counts a start of the slice; a run that is stored part by part; and what is read out of a run.
 -- Assumes nothing.
 use mathlib.Core.Path.{◌≡◌, refl, sym, ap, ◌∙◌}
 use mathlib.Core.Bool.{Bool, true, false}

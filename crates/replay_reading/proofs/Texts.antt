@@ -11,7 +11,8 @@ use lib.Dec.{eqb}
 use lib.ListN.{length, get_or, take, drop, length-drop, drop_of_length-le}
 use lib.Seq.{drop-cons, drop-drop, take_all}
 use Rattle.replay_reading.specs.declared.text.Item.{Item}
-use Rattle.replay_reading.specs.Text.{until, opened, bracketed, closes, after_closing, spaced, goes_on, gap, with_byte, pending, read}
+use Rattle.replay_reading.specs.Text.{until, opened, bracketed, closes, after_closing, spaced}
+use Rattle.replay_reading.specs.Text.{goes_on, gap, with_byte, pending, read}
 
 module _ (t : List ℕ) (i : ℕ) (h : i < length t) where
   pub until_stop : (b : ℕ) → get_or t i 0 ≡ b → length (until b (drop i t)) ≡ 0

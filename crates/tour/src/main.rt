@@ -32,8 +32,8 @@ fn rows(rt: &impl Print, samples: &[Sample]) -> io::Result<()> {
     Ok(())
 }
 
-// A box; the insurer's cell, a box with an edge too many, which lies in one face only; a box with a face too few; half of
-// a box, its opposite elements taken for one.
+// A box; the insurer's cell, a box with an edge too many, which lies in one face only; a box with a face too few; half
+// of a box, its opposite elements taken for one.
 fn boxes(rt: &impl Print) -> io::Result<()> {
     let samples = [
         Sample {

@@ -1,6 +1,6 @@
 // What an answer says, in words: those of docs/REFUSALS.md, with the elements named as an engineer names them. Every
-// function here prints, and returns only whether it could. None is a `Display`: a sentence would need a type of its own,
-// which is made only to be printed in the same line.
+// function here prints, and returns only whether it could. None is a `Display`: a sentence would need a type of its
+// own, which is made only to be printed in the same line.
 #![tactic(auto)]
 
 mod element;
