@@ -8,7 +8,6 @@ use lib.ListN.{length, length-replicate}
 use Rattle.listing.specs.Listing.{Listing, held, limits}
 use Rattle.listing.proofs.Listing.{before_zero}
 use Rattle.listing.proofs.Places.{rank_fits, few_before}
-use Rattle.listing.proofs.ShapeExact.{shaped_ends}
 use Rattle.valid.proofs.Agreeing.{each_next, fits_rank, next_begins, agrees_at, none_under, agrees}
 use Rattle.valid.proofs.agreement.agree.Goals as goal
 
