@@ -117,6 +117,7 @@ fn all_met(next: &[Index; limit::ELEMENTS], ends: &[Index], low: Rank, some: boo
 }
 
 // Whether subs and sups match up, and all lists ascend, as far as one pass tells.
+#[tactic(auto, using(crate::proofs::Agreeing::ranks))]
 pub fn agree(cell: Cell<'_>) -> bool
     requires { get_or cell.slices.counts.now 0 0 ≡ 1 }
     ensures { result ≡ true → Agrees (held cell.entry.slices) }
