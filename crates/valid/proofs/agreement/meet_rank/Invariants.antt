@@ -1,5 +1,5 @@
--- Invariant: the subs of the elements before x ascend, exist and are not none, and the cursors have met what is gathered
--- from them.
+-- Invariant: the subs of the elements before x ascend, exist and are not none, and the cursors have met what is
+-- gathered from them.
 use Rattle.listing.specs.Listing.{subs_at}
 use Rattle.listing.specs.Layers.{gather}
 use Rattle.valid.specs.Agreement.{AllBelow, Met}
