@@ -17,7 +17,7 @@ use Rattle.listing.proofs.Listing.{before_step}
 use Rattle.listing.proofs.Places.{side_at, side_fits, few_in_rank}
 use Rattle.listing.proofs.Told.{refuses}
 use Rattle.valid_incidence.specs.Incidence.{Incident}
-use Rattle.valid_diamond.specs.Dyadic.{subs_of_all, walk, third, lone, sections_test}
+use Rattle.valid_diamond.specs.Dyadic.{subs_of_all, third, lone, sections_test}
 use Rattle.valid_diamond.specs.Tally.{Tallied, lone_in, Under}
 use Rattle.valid_diamond.proofs.OneTwice.{pair_passes}
 use Rattle.valid_diamond.proofs.Walks.{walk_same, walkable, lone_same, sections_stop, sections_go}
