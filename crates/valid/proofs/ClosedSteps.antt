@@ -1,5 +1,5 @@
--- The steps of the closed test: what a test stands on where those before it refused nothing, and the tests of the lists,
--- which are two tests in one step.
+-- The steps of the closed test: what a test stands on where those before it refused nothing, and the tests of the
+-- lists, which are two tests in one step.
 -- Assumes nothing.
 use mathlib.Core.Path.{◌≡◌, refl, sym, ◌∙◌}
 use lib.ListN.{get_or}
@@ -10,7 +10,7 @@ use Rattle.listing.specs.Answers.{fine, ◌or_else◌}
 use Rattle.listing.specs.Listing.{held}
 use Rattle.listing.specs.Told.{answer_of}
 use Rattle.listing.proofs.Answers.{no_of, or_assoc}
-use Rattle.listing.proofs.Told.{then_ok, then_halt}
+use Rattle.listing.proofs.Told.{told_err, then_ok, then_halt}
 use Rattle.valid.specs.Bounds.{bounded_test}
 use Rattle.valid.proofs.BoundsExact.{bounded_exact}
 
@@ -28,4 +28,4 @@ module _ (S T B : Answer) where
   pub two_halt : (d : Refusal) → answer_of d ≡ (S or_else T) → answer_of d ≡ S or_else T or_else B
   two_halt d e = then_halt B d e ∙ sym (or_assoc S T B)
 
-pub ruleset closing = (lowest, accepts, two_ok, two_halt)
+pub ruleset closing = (told_err, then_ok, then_halt, lowest, accepts, two_ok, two_halt)
