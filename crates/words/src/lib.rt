@@ -57,7 +57,7 @@ fn missing(rt: &impl Print, of: Element, side: Side, entry: Index) -> io::Result
 }
 
 // How a section without two elements begins: with its upper end over the smallest element, or else with its lower end.
-fn section(rt: &impl Print, low: Element, high: Element) -> io::Result<()> {
+fn section_start(rt: &impl Print, low: Element, high: Element) -> io::Result<()> {
     if low.rank == 0 {
         element::one(rt, high)?;
         text(rt, b" has ")
@@ -78,14 +78,14 @@ fn section_end(rt: &impl Print, low: Element, high: Element, top: usize) -> io::
 
 // A section with more than two elements between its ends.
 fn third(rt: &impl Print, low: Element, high: Element, top: usize) -> io::Result<()> {
-    section(rt, low, high)?;
+    section_start(rt, low, high)?;
     element::more_than_two(rt, low.rank.wrapping_add(1))?;
     section_end(rt, low, high, top)
 }
 
 // A section with only one.
 fn lone(rt: &impl Print, low: Element, high: Element, top: usize) -> io::Result<()> {
-    section(rt, low, high)?;
+    section_start(rt, low, high)?;
     element::only_one(rt, low.rank.wrapping_add(1))?;
     section_end(rt, low, high, top)
 }
