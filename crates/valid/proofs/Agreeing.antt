@@ -33,6 +33,13 @@ each_next P n h p s l = go (ℕ_discrete s n)
 
 -- ---- cursors
 
+-- one that stands before the end of its sups
+pub cursor_inside : (L : Listing) → Shaped limits L → {place n : ℕ} {next : List ℕ} → Cursors L.ends place n next
+    → {s at c d : ℕ} → s < n → at ≡ s → c < get_or L.ends (2 * (place + at) + 1) 0 → d ≡ c → d < length L.inc
+cursor_inside L S {place} k {at = at} h a f e =
+    let good = shaped_ends L S in
+    omega (arith, good.inside (2 * (place + at) + 1) (omega (arith, k)))
+
 module _ (inc : List ℕ) (n : ℕ) where
   -- none has moved
   pub met_none : (so : ℕ → List ℕ) (next : List ℕ) → ((s : ℕ) → length (so s) ≡ 0) → Met inc n so next next
@@ -73,10 +80,11 @@ module _ (inc : List ℕ) (n : ℕ) where
       stand = λ y j k l. one_stands e y j l (ℕ_discrete s y);
     }
 
-    -- the same, where s and the cursor were widened
-    pub met_at : (at c : ℕ) → at ≡ s → c ≡ get_or next at 0 → get_or inc c 0 ≡ x
-        → Met inc n one next (set next at (get_or next at 0 + 1))
-    met_at at c a e f = rw a (met_one (rw (e, a) at f))
+  -- the same, where s and the cursor were widened
+  pub met_at : {ends : List ℕ} {place : ℕ} {next : List ℕ} → Cursors ends place n next → {s x at c : ℕ} → s < n
+      → at ≡ s → c ≡ get_or next at 0 → get_or inc c 0 ≡ x
+      → Met inc n (λ y. replicate (occurs y (s ∷ [])) x) next (set next at (get_or next at 0 + 1))
+  met_at {next = next} k {s} {x} h a e f = rw a (met_one s x next (omega (arith, k)) (rw (e, a) at f))
 
   -- some numbers, and others behind them
   module _ (so so' all : ℕ → List ℕ) (next next' next'' : List ℕ) (m : Met inc n so next next')

@@ -3,3 +3,4 @@ pub mod Turns
 pub mod Entries
 pub mod IncidenceExact
 pub mod Below
+pub mod Matched

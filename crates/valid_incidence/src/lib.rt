@@ -8,7 +8,7 @@ ghost use Rattle.valid_incidence.specs.Incidence.{incidences_test};
 
 pub mod incidence;
 
-use listing::Slices;
+use listing::{Cell, Slices};
 
 // A listing whose subs and sups match up.
 #[derive(Clone, Copy)]
@@ -16,4 +16,15 @@ pub struct MatchedCell<'a> {
     pub slices: Slices<'a>,
     ghost shaped: { Shaped limits (held slices) },
     ghost matched: { (incidences_test (held slices)).no ≡ 0 },
+}
+
+impl<'a> MatchedCell<'a> {
+    // The same listing, of which only the shape is told.
+    pub fn cell(self) -> Cell<'a>
+        ensures { result.slices ≡ self.entry.slices }
+    {
+        Cell {
+            slices: self.slices,
+        }
+    }
 }

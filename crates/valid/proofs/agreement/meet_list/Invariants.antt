@@ -10,4 +10,4 @@ use Rattle.valid.proofs.agreement.meet_list.Given as goal
 abbrev pub invariant-loop-s : goal.invariant-loop-s
 invariant-loop-s l = AscendsBelow l.low.size (take l.s-index l.subs)
     × ((y : ℕ) → In y (take l.s-index l.subs) → y < l.from)
-    × Met l.inc l.low.size (λ y. replicate (occurs y (take l.s-index l.subs)) l.x) l.initial.next l.next
+    × Met l.cell.slices.inc.now l.low.size (λ y. replicate (occurs y (take l.s-index l.subs)) l.x) l.initial.next l.next
