@@ -56,38 +56,31 @@ fn missing(rt: &impl Print, of: Element, side: Side, entry: Index) -> io::Result
     text(rt, b", which is missing")
 }
 
-// How a section without two elements begins: with its upper end over the smallest element, or else with its lower end.
-fn section_start(rt: &impl Print, low: Element, high: Element) -> io::Result<()> {
+// A section without two elements: what its upper end has over the smallest element, or else what its lower end lies in.
+// An upper end of rank top is the whole cell, and goes without saying.
+fn section<F: Fn(Index) -> io::Result<()>>(
+    rt: &impl Print,
+    low: Element,
+    high: Element,
+    top: usize,
+    several: F,
+) -> io::Result<()>
+    requires { F.IsAlwaysCallable several }
+{
     if low.rank == 0 {
         element::one(rt, high)?;
-        text(rt, b" has ")
+        text(rt, b" has ")?;
+        several(1)
     } else {
         element::one(rt, low)?;
-        text(rt, b" lies in ")
+        text(rt, b" lies in ")?;
+        several(low.rank.wrapping_add(1))?;
+        if usize::from(high.rank) != top {
+            text(rt, b" of ")?;
+            element::one(rt, high)?;
+        }
+        Ok(())
     }
-}
-
-// How it ends: with its upper end, if that was not named. One of rank top is the whole cell, and goes without saying.
-fn section_end(rt: &impl Print, low: Element, high: Element, top: usize) -> io::Result<()> {
-    if low.rank != 0 && usize::from(high.rank) != top {
-        text(rt, b" of ")?;
-        element::one(rt, high)?;
-    }
-    Ok(())
-}
-
-// A section with more than two elements between its ends.
-fn third(rt: &impl Print, low: Element, high: Element, top: usize) -> io::Result<()> {
-    section_start(rt, low, high)?;
-    element::more_than_two(rt, low.rank.wrapping_add(1))?;
-    section_end(rt, low, high, top)
-}
-
-// A section with only one.
-fn lone(rt: &impl Print, low: Element, high: Element, top: usize) -> io::Result<()> {
-    section_start(rt, low, high)?;
-    element::only_one(rt, low.rank.wrapping_add(1))?;
-    section_end(rt, low, high, top)
 }
 
 // A list that does not ascend: subs or sups.
@@ -107,8 +100,12 @@ pub fn refusal(rt: &impl Print, why: Refusal, top: usize) -> io::Result<()> {
         Refusal::Bare { of, side } => nothing(rt, of, side),
         Refusal::NotBack { of, side, entry } => not_back(rt, of, entered(of, side, entry)),
         Refusal::Missing { of, side, entry } => missing(rt, of, side, entry),
-        Refusal::ThirdBetween { low, high } => third(rt, low, high, top),
-        Refusal::LoneBetween { low, high } => lone(rt, low, high, top),
+        Refusal::ThirdBetween { low, high } => {
+            section(rt, low, high, top, |r| element::more_than_two(rt, r))
+        }
+        Refusal::LoneBetween { low, high } => {
+            section(rt, low, high, top, |r| element::only_one(rt, r))
+        }
         Refusal::NotAscending { of, side } => not_ascending(rt, of, side),
         _ => sentence::of(rt, why),
     }
