@@ -4,7 +4,7 @@ ghost use Rattle.listing.specs.Listing.{width, limits};
 ghost use Rattle.lent_input.specs.Counts.{IsPrefixLen};
 
 use crate::room::WRITTEN;
-use listing::{Answer, Built, Index, Number, limit};
+use listing::{Answer, Built, Index, Number, Slices, limit};
 use std::io;
 
 // Lists up to this length are written out.
@@ -23,24 +23,24 @@ pub fn number(rt: &impl Print, n: u64) -> io::Result<()> {
 
 // The five numbers of an answer.
 pub fn answer(rt: &impl Print, a: Answer) -> io::Result<()> {
-    number(rt, a.no as u64)?;
-    number(rt, a.a as u64)?;
-    number(rt, a.b as u64)?;
-    number(rt, a.c as u64)?;
-    number(rt, a.d as u64)
+    number(rt, u64::from(a.no))?;
+    number(rt, u64::from(a.a))?;
+    number(rt, u64::from(a.b))?;
+    number(rt, u64::from(a.c))?;
+    number(rt, u64::from(a.d))
 }
 
 // What is answered of a listing that is written: the numbers of the answer, and how long its lists are.
 pub fn built(rt: &impl Print, b: Built) -> io::Result<()> {
     answer(rt, b.answer)?;
-    number(rt, b.counts as u64)?;
-    number(rt, b.ends as u64)?;
-    number(rt, b.inc as u64)
+    number(rt, u64::from(b.counts))?;
+    number(rt, u64::from(b.ends))?;
+    number(rt, u64::from(b.inc))
 }
 
 // The two numbers of a count.
 pub fn count(rt: &impl Print, n: Number) -> io::Result<()> {
-    number(rt, n.no as u64)?;
+    number(rt, u64::from(n.no))?;
     number(rt, n.value as u64)
 }
 
@@ -100,10 +100,10 @@ pub fn list(rt: &impl Print, list: &[Index]) -> io::Result<()> {
 }
 
 // All that the three slices of a listing hold.
-pub fn lists(rt: &impl Print, counts: &[Index], ends: &[Index], inc: &[Index]) -> io::Result<()> {
-    list(rt, counts)?;
-    list(rt, ends)?;
-    list(rt, inc)
+pub fn lists(rt: &impl Print, slices: Slices<'_>) -> io::Result<()> {
+    list(rt, slices.counts)?;
+    list(rt, slices.ends)?;
+    list(rt, slices.inc)
 }
 
 // The bytes of a list as wider numbers, into the start of a slice, as far as there is room; says how many.
