@@ -1,8 +1,7 @@
 // Answers as text. A list of more than 300 numbers is given by its length, its sum and its check number.
-ghost use Rattle.std.specs.Prelude.{◌≡◌, ◌*◌, ◌<◌, length};
-ghost use Rattle.listing.specs.Listing.{width, limits};
 ghost use Rattle.lent_input.specs.Counts.{IsPrefixLen};
 
+use crate::room;
 use crate::room::WRITTEN;
 use listing::{Answer, Built, Index, Number, Slices, limit};
 use std::io;
@@ -116,17 +115,9 @@ fn widen(list: &[u8], out: &mut [Index]) -> usize
     list.len().min(out.len())
 }
 
-// Room for the bytes of a list as wider numbers: of a list as long as the longest that is lent.
-#[tactic(auto, using(crate::proofs::Counting::repeated))]
-fn room() -> [Index; WRITTEN]
-    ensures { 2 * limits.text ≡ length result }
-{
-    [0; WRITTEN]
-}
-
-// A list of bytes.
+// A list of bytes, none longer than the longest that is lent.
 pub fn bytes(rt: &impl Print, bytes: &[u8]) -> io::Result<()> {
-    let mut wide = room();
+    let mut wide = room::numbers::<WRITTEN>();
     let n = widen(bytes, &mut wide);
     list(rt, &wide[..n])
 }
