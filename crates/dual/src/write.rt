@@ -35,13 +35,7 @@ fn put_list(list: &[Index], ends: &mut [Index], inc: &mut [Index], p: Place) -> 
 }
 
 // Writes the lists of an element of the dual: the sups and then the subs of the one at place `at`.
-fn put_element(
-    cell: Cell<'_>,
-    at: usize,
-    ends: &mut [Index],
-    inc: &mut [Index],
-    p: Place,
-) -> Place
+fn put_element(cell: Cell<'_>, at: usize, ends: &mut [Index], inc: &mut [Index], p: Place) -> Place
     requires at_there { 2 * at + 1 < length cell.slices.ends.now }
     requires ends_in_bounds { p.ends + 2 ≤ length ends.old }
     requires at_in_bounds { (p.inc + sum (lengths (turned_from cell.slices.ends.now cell.slices.inc.now at)) 2 ≤ length inc.old)

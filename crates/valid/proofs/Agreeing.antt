@@ -13,13 +13,14 @@ use lib.ListN.{replicate-append-replicate}
 use lib.Seq.{take-suc, get_or-take, get_or-drop, get_or-set_same, get_or-set_other, get_or-append-add, ext_get_or}
 use Rattle.order.specs.Lists.{In, Ascending, occurs}
 use Rattle.order.proofs.Lists.{append_in, ascending_append, occurs_nil, occurs_append, occurs_own, occurs_apart}
-use Rattle.listing.specs.Listing.{Listing, limits, rank, count, before, start, entries, subs, sups, Ends, subs_at}
+use Rattle.listing.specs.declared.Slices.{Slices}
+use Rattle.listing.specs.Listing.{Listing, held, limits, rank, count, before, start, entries, subs, sups, Ends, subs_at}
 use Rattle.listing.specs.Laid.{Laid}
 use Rattle.listing.specs.Layers.{layers, gather, derived}
 use Rattle.listing.specs.Shape.{Shaped}
 use Rattle.listing.proofs.Entries.{entries_length}
 use Rattle.listing.proofs.Listing.{before_zero, before_next, rank_there}
-use Rattle.listing.proofs.Places.{rank_fits, side_fits, few_in_rank}
+use Rattle.listing.proofs.Places.{rank_fits, side_fits, few_before, few_in_rank}
 use Rattle.listing.proofs.ShapeExact.{shaped_ends}
 use Rattle.valid.specs.Agreement.{Agrees, AgreesAt, Cursors, AscendsBelow, AllBelow, Met, AllMet, SomeSups}
 
@@ -204,16 +205,27 @@ entries_run ends inc good k h l e at =
     ∙ get_or-drop a inc i 0
     ∙ at i (omega (arith, n)))
 
-module _ (L : Listing) (S : Shaped limits L) where
+module _ (s : Slices) (S : Shaped limits (held s)) (r place : ℕ) (e : place ≡ before s.counts.now r) where
   -- there are cursors and ends for a rank
-  pub fits_rank : (r place : ℕ) (next : List ℕ) → length next ≡ limits.elements → place ≡ before L.counts r
-      → Cursors L.ends place (count L r) next
-  fits_rank r place next w e = record {
+  pub fits_rank : (next : List ℕ) → length next ≡ limits.elements
+      → Cursors s.ends.now place (get_or s.counts.now r 0) next
+  fits_rank next w = record {
     whole = w;
-    few = few_in_rank L S r;
-    listed = omega (arith, e, rank_fits L S r);
+    few = few_in_rank (held s) S r;
+    listed = omega (arith, rank_fits (held s) S r);
   }
 
+  -- and ends for the rank above it, which begins where it ends
+  module _ (size : ℕ) (f : size ≡ get_or s.counts.now r 0) where
+    pub few_through : place + size ≤ limits.elements
+    few_through = omega (arith, before_next s.counts.now r, few_before (held s) S (r + 1))
+
+    pub fits_above : (m : ℕ) → m ≡ get_or s.counts.now (r + 1) 0 → 2 * (place + size + m) ≤ length s.ends.now
+    fits_above m g = omega (arith, before_next s.counts.now r, rank_fits (held s) S (r + 1))
+
+pub ruleset ranks = (before_zero, fits_rank, few_through, fits_above)
+
+module _ (L : Listing) (S : Shaped limits L) where
   -- the next rank begins where one ends
   pub next_begins : (r place size : ℕ) → place ≡ before L.counts r → size ≡ count L r
       → place + size ≡ before L.counts (r + 1)

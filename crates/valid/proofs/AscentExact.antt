@@ -19,8 +19,10 @@ use Rattle.listing.specs.Listing.{Listing, before, entries, side}
 use Rattle.listing.specs.Refusals.{not_ascending}
 use Rattle.listing.proofs.Answers.{or_no, no_or, on_no, on_off}
 use Rattle.order.proofs.Tests.{and_true}
+use Rattle.listing.proofs.InCell.{few_here}
 use Rattle.listing.proofs.Places.{at_sides, side_at}
 use Rattle.listing.proofs.Elements.{elements_exact}
+use Rattle.valid_incidence.proofs.Turns.{all}
 use Rattle.valid_diamond.specs.Dyadic.{Distinct}
 use Rattle.valid.specs.Ascent.{climbs, side_ascent, element_ascent, ascent_test, AscendsAt, Ascends}
 
@@ -106,6 +108,9 @@ module _ (L : Listing) where
   pub ascent_exact : (ascent_test L).no ≡ 0 ↔ Ascends L
   unfolding ascent_test Ascends
   ascent_exact = elements_exact L (element_ascent L) (AscendsAt L) (λ r i h. element_exact r i)
+
+-- the laws by which a loop over ranks answers the first refusal, where it also keeps where its rank begins
+pub ruleset ranks = (all, few_here)
 
 -- In a listing whose lists ascend no list holds an index twice.
 pub ascends_distinct : (L : Listing) → Ascends L → Distinct L

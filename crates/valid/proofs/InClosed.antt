@@ -1,7 +1,8 @@
--- What the fact that a closed cell carries gives: the listing is closed, and so all that this is.
+-- What the fact that a closed cell carries gives: the listing is closed, and all that this is.
 -- Assumes nothing.
 use mathlib.Core.Path.{◌≡◌}
-use Rattle.listing.specs.Listing.{Listing, Limits}
+use Rattle.listing.specs.declared.Slices.{Slices}
+use Rattle.listing.specs.Listing.{held, limits}
 use Rattle.listing.specs.Shape.{Shaped}
 use Rattle.valid_incidence.specs.Incidence.{Incident, incidences_test}
 use Rattle.valid_incidence.proofs.IncidenceExact.{incidences_exact}
@@ -10,20 +11,20 @@ use Rattle.valid.specs.Closed.{Closed}
 use Rattle.valid.specs.Tests.{closed}
 use Rattle.valid.proofs.ClosedExact.{closed_exact}
 
-module _ {m : Limits} (L : Listing) (e : (closed m L).no ≡ 0) where
-  pub is_closed : Closed m L
-  is_closed = (closed_exact m L).0 e
+module _ (s : Slices) (e : (closed limits (held s)).no ≡ 0) where
+  pub is_closed : Closed limits (held s)
+  is_closed = (closed_exact limits (held s)).0 e
 
-  pub shaped : Shaped m L
+  pub shaped : Shaped limits (held s)
   shaped = is_closed.shaped
 
-  pub incident : Incident L
+  pub incident : Incident (held s)
   incident = is_closed.incident
 
-  pub matched : (incidences_test L).no ≡ 0
-  matched = (incidences_exact L).1 incident
+  pub matched : (incidences_test (held s)).no ≡ 0
+  matched = (incidences_exact (held s)).1 incident
 
-  pub ascends : Ascends L
+  pub ascends : Ascends (held s)
   ascends = is_closed.ascends
 
 pub ruleset facts = (is_closed, shaped, incident, matched, ascends)

@@ -18,6 +18,7 @@ struct Rank {
 }
 
 // Sets the cursor of each element of a rank to where its sups begin.
+#[tactic(auto, using(listing::proofs::Laying::laid_none, listing::proofs::Laying::laid_next))]
 fn set_cursors(next: &mut [Index; limit::ELEMENTS], ends: &[Index], low: Rank)
     requires { Cursors ends.now low.place low.size next.old }
     ensures { Laid 0 (λ s. get_or ends.now (2 * (low.place + s)) 0) low.size
@@ -77,6 +78,7 @@ fn meet_list(
 }
 
 // The same of all elements of the rank above, in their order; none of them is without subs.
+#[tactic(auto, using(crate::proofs::Agreeing::met_none, crate::proofs::Agreeing::gather_none))]
 fn meet_rank(next: &mut [Index; limit::ELEMENTS], cell: Cell<'_>, low: Rank, high: Rank) -> bool
     requires cursors { Cursors cell.slices.ends.now low.place low.size next.old }
     requires size_in_bounds { 2 * (high.place + high.size) ≤ length cell.slices.ends.now }
@@ -117,6 +119,7 @@ fn all_met(next: &[Index; limit::ELEMENTS], ends: &[Index], low: Rank, some: boo
 }
 
 // Whether subs and sups match up, and all lists ascend, as far as one pass tells.
+#[tactic(auto, using(crate::proofs::Agreeing::ranks))]
 pub fn agree(cell: Cell<'_>) -> bool
     requires { get_or cell.slices.counts.now 0 0 ≡ 1 }
     ensures { result ≡ true → Agrees (held cell.entry.slices) }

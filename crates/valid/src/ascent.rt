@@ -65,7 +65,7 @@ fn check_rank(cell: Cell<'_>, here: usize, r: usize) -> Result<(), Refusal>
 }
 
 // All elements, by rank and then index.
-#[tactic(auto, using(valid_incidence::proofs::Turns::all, listing::proofs::InCell::places), unfolding(crate::specs::Ascent::ascent_test))]
+#[tactic(auto, using(crate::proofs::AscentExact::ranks), unfolding(crate::specs::Ascent::ascent_test))]
 pub fn check_all(cell: Cell<'_>) -> Result<(), Refusal>
     ensures { told result ≡ ascent_test (held cell.entry.slices) }
 {

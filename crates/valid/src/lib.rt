@@ -86,11 +86,7 @@ pub fn is_dyadic(slices: Slices<'_>) -> Result<(), Refusal>
 }
 
 // Whether the listing is closed: valid, its lists ascending, and the diamond at the top as well.
-#[tactic(
-    auto,
-    using(listing::proofs::Told::steps, crate::proofs::ClosedSteps::closing),
-    unfolding(crate::specs::Tests::closed)
-)]
+#[tactic(auto, using(crate::proofs::ClosedSteps::closing), unfolding(crate::specs::Tests::closed))]
 pub fn closed(slices: Slices<'_>) -> Result<ClosedCell<'_>, Refusal>
     ensures value { told result ≡ tests.closed limits (held slices.entry) }
     ensures same { IfOk result (λ cell. cell.slices ≡ slices.entry) }

@@ -144,9 +144,3 @@ left_none {n} t left C = (none, λ T. C.met_is ∙ sym (totals_none t T).met_in.
   where
     none : left ≡ 0 → Tally n t []
     none z = record { whole = C.whole; counts = λ x _. least_zero t x (sym C.met_is ∙ z) ∙ sym (occurs_nil x) }
-
--- ---- for `using`
-
-pub ruleset totals = (totals_few, totals_more)
-
-pub ruleset left = (left_some, left_less)

@@ -26,6 +26,7 @@ use Rattle.std.proofs.Common.{Result}
 use Rattle.std.specs.Result.{IsErrAnd}
 use Rattle.listing.proofs.Answers.{of_stop, of_next, of_end, or_assoc, of_same}
 use Rattle.valid_incidence.specs.Incidence.{Incident}
+use Rattle.valid_incidence.proofs.Turns.{all}
 use Rattle.listing.proofs.Places.{side_fits, few_in_rank}
 use Rattle.valid_diamond.specs.Dyadic.{subs_of_all, walk, third_test, seen_after, lone_test, third, lone}
 use Rattle.valid_diamond.specs.Dyadic.{sections_test, dyadic_test}
@@ -126,7 +127,8 @@ module _ {n : ℕ} (f : ℕ → Answer) {t : List ℕ} (seen : List ℕ) where
     walked_all e = record { answer = e ∙ sym (third_fine f seen done w.clear); tally = λ z. w.tally }
 
 -- what a callee tallied without refusal has been walked
-tallied_walked : {n : ℕ} {t : List ℕ} {f : ℕ → Answer} {seen l : List ℕ} → Tallied n t f seen l fine → Walked n f t seen l
+tallied_walked : {n : ℕ} {t : List ℕ} {f : ℕ → Answer} {seen l : List ℕ} → Tallied n t f seen l fine
+    → Walked n f t seen l
 tallied_walked T = record { clear = ap (λ (a : Answer). a.no) (sym T.answer); tally = T.tally refl }
 
 -- ---- along one list
@@ -217,7 +219,8 @@ module _ (ends inc : List ℕ) (b : ℕ) where
             rw (walk_next l j h) (walked_more f seen w (subs_of (get_or l j 0)) (tallied_walked (here tallied)))
 
         pub walk_halt : {A : Type 0} (v : Result A Refusal) (d : Refusal) → IsErrAnd v (λ x. x ≡ d)
-            → ((s : List ℕ) → Tally n t s → Tallied n u f s list (answer_of d)) → Tallied n u f seen (walk_of l) (told v)
+            → ((s : List ℕ) → Tally n t s → Tallied n u f s list (answer_of d))
+            → Tallied n u f seen (walk_of l) (told v)
         walk_halt v d why tallied =
             let rest = walk_of (drop (suc j) l) in
             let stop = walked_stop f seen w (subs_of (get_or l j 0)) rest (here tallied).answer (refuses d) in
@@ -290,10 +293,8 @@ last_ok W f i n e h l z = of_over W f (i + 1) n (of_ok W f i n e h z) l
 
 -- ---- for `using`
 
-pub ruleset along_list = (inside_at, walked_none, list_more, list_halt, list_done)
+pub ruleset along_list = (inside_at, list_halt)
 
-pub ruleset along_lists = (list_there, list_inside, walk_none, walk_more, walk_halt, walk_done)
+pub ruleset along_lists = (list_there, list_inside)
 
-pub ruleset met_once = (lone_stop, lone_next)
-
-pub ruleset along_ranks = (tally_zero, dyadic_low, before_one, last_ok)
+pub ruleset along_ranks = (all, dyadic_low, last_ok)

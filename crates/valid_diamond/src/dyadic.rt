@@ -1,4 +1,4 @@
-// Test 3, on a listing that is known to be shaped and incident. One tally serves all elements: it counts what the walk
+// Test 3, on a listing whose subs and sups match up. One tally serves all elements: it counts what the walk
 // under an element meets, and where the element passes, only the counts that the walk has touched are set back.
 ghost use Rattle.std.specs.Prelude.{◌≡◌, true, List, [], ◌∷◌, ℕ, ◌+◌, ◌-◌, ◌≤◌, ◌<◌, length, get_or, set, IfOk, OnOk};
 ghost use Rattle.order.specs.Lists.{In};
@@ -6,9 +6,9 @@ ghost use Rattle.listing.specs.Answers.{first_of};
 ghost use Rattle.listing.specs.Listing.{width, held, limits, before};
 ghost use Rattle.listing.specs.Told.{told};
 ghost use Rattle.valid_diamond.specs.Dyadic.{subs_of_all, seen_after, third, lone, sections_test, dyadic_test};
-ghost use Rattle.valid_diamond.specs.Tally.{MetIn, TotalsIn, Tally, Tallied, lone_in, undone, Walkable};
+ghost use Rattle.valid_diamond.specs.Tally.{MetIn, TotalsIn, Tally, Tallied, lone_in, undone, Walkable, Under};
 
-use listing::{Cell, Element, Index, Refusal, Side, limit};
+use listing::{Element, Index, Refusal, Side, limit};
 use valid_incidence::MatchedCell;
 
 // How many indices a walk has met, and how many of them twice.
@@ -38,7 +38,7 @@ fn totals_after(totals: Totals, before: u8) -> Totals
 
 // Counts the subs of one of an element's subs, and refuses the first that is met a third time. `totals` are those of
 // what was met before.
-#[tactic(auto, using(crate::proofs::Walks::along_list, crate::proofs::Totals::totals))]
+#[tactic(auto, using(crate::proofs::Walks::along_list, crate::proofs::Totals::totals_few))]
 fn tally_list(
     tally: &mut [u8; limit::ELEMENTS],
     subs: &[Index],
@@ -47,7 +47,7 @@ fn tally_list(
 ) -> Result<Totals, Refusal>
     requires by_index { (x : ℕ) → In x subs.now → x < limits.elements }
     requires le_rank { (2 ≤ of.rank) × TotalsIn limits.elements tally.old totals.met totals.twice }
-    ensures by_index_2 { (seen : List ℕ) → Tally limits.elements tally.old seen
+    ensures tallied { (seen : List ℕ) → Tally limits.elements tally.old seen
         → Tallied limits.elements tally.new (third of.rank of.index) seen
         subs.now (told result) }
     ensures totals_in { IfOk result (λ totals. TotalsIn limits.elements tally.new totals.met totals.twice) }
@@ -70,10 +70,10 @@ fn tally_list(
 
 // Counts the subs of an element's subs, in walking order, in the tally of nothing. The lists of those subs begin at
 // place b.
-#[tactic(auto, using(crate::proofs::Walks::along_lists, crate::proofs::Totals::totals_none))]
+#[tactic(auto, using(crate::proofs::Walks::along_lists))]
 fn tally_all(
     tally: &mut [u8; limit::ELEMENTS],
-    cell: Cell<'_>,
+    cell: MatchedCell<'_>,
     b: usize,
     subs: &[Index],
     of: Element,
@@ -92,7 +92,7 @@ fn tally_all(
 }
 
 // The smallest index below n that was met once.
-#[tactic(auto, using(crate::proofs::Walks::met_once, listing::proofs::Told::of_over), unfolding(crate::specs::Tally::lone_in))]
+#[tactic(auto, using(listing::proofs::Told::of_over), unfolding(crate::specs::Tally::lone_in))]
 fn check_once(tally: &[u8; limit::ELEMENTS], n: Index, of: Element) -> Result<(), Refusal>
     requires n_le_elements { n ≤ limits.elements }
     requires le_rank { 2 ≤ of.rank }
@@ -130,7 +130,7 @@ fn check_lone(
 
 // Sets a count back to 0. Before, `left` counts are not 0; the answer is how many are not after. A count that is 0
 // already is not written: the memory may lie behind a slow bus.
-#[tactic(auto, using(crate::proofs::Totals::left, crate::proofs::Undoing::zero_already))]
+#[tactic(auto, using(crate::proofs::Totals::left_some, crate::proofs::Undoing::zero_already))]
 fn undo_count(tally: &mut [u8; limit::ELEMENTS], at: usize, left: Index) -> Index
     requires { (at < limits.elements) × MetIn limits.elements tally.old left }
     ensures tally_after { tally.new ≡ set tally.old at 0 }
@@ -149,7 +149,7 @@ fn undo_list(tally: &mut [u8; limit::ELEMENTS], subs: &[Index], met: Index) -> I
     requires by_index { (x : ℕ) → In x subs.now → x < limits.elements }
     requires met_in { MetIn limits.elements tally.old met }
     ensures tally_after { tally.new ≡ undone subs.now tally.old }
-    ensures met_in_2 { MetIn limits.elements tally.new result }
+    ensures left_in { MetIn limits.elements tally.new result }
 {
     let mut left = met;
     for &sub_sub in subs.iter().rev() {
@@ -160,7 +160,13 @@ fn undo_list(tally: &mut [u8; limit::ELEMENTS], subs: &[Index], met: Index) -> I
 
 // Undoes what tally_all has counted: the same lists are walked again, the last first, until none is left of the `met`
 // indices that were met.
-fn undo_all(tally: &mut [u8; limit::ELEMENTS], cell: Cell<'_>, b: usize, subs: &[Index], met: Index)
+fn undo_all(
+    tally: &mut [u8; limit::ELEMENTS],
+    cell: MatchedCell<'_>,
+    b: usize,
+    subs: &[Index],
+    met: Index,
+)
     requires walkable { Walkable cell.slices.ends.now cell.slices.inc.now b limits.elements subs.now }
     requires tally { Tally limits.elements tally.old
         (seen_after [] (subs_of_all cell.slices.ends.now cell.slices.inc.now b subs.now)) }
@@ -179,7 +185,7 @@ fn undo_all(tally: &mut [u8; limit::ELEMENTS], cell: Cell<'_>, b: usize, subs: &
 // Whether a walk meets one index twice and nothing else, as that under an edge does: there are two subs with one sub
 // each, the same. Such a walk needs no tally.
 #[tactic(auto, using(crate::proofs::Walks::list_there, crate::proofs::OneTwice::one_twice))]
-fn meets_one_twice(cell: Cell<'_>, b: usize, subs: &[Index]) -> bool
+fn meets_one_twice(cell: MatchedCell<'_>, b: usize, subs: &[Index]) -> bool
     requires { Walkable cell.slices.ends.now cell.slices.inc.now b limits.elements subs.now }
     ensures { result ≡ true → (x : ℕ)
         × (subs_of_all cell.entry.slices.ends.now cell.entry.slices.inc.now b subs.now ≡ x ∷ x ∷ []) }
@@ -196,31 +202,42 @@ fn meets_one_twice(cell: Cell<'_>, b: usize, subs: &[Index]) -> bool
     under_first == under_second
 }
 
+// The subs of an element. The rank below begins at place b.
+#[tactic(auto, using(listing::proofs::InCell::places))]
+fn subs_of<'a>(cell: MatchedCell<'a>, b: usize, of: Element) -> &'a [Index]
+    requires b_value { (b ≡ before cell.slices.counts.now (of.rank - 1)) × (2 ≤ of.rank) }
+    requires in_rank { of.index < get_or cell.slices.counts.now of.rank 0 }
+    ensures { Under (held cell.entry.slices) of.rank of.index b limits.elements result.now }
+{
+    let below = cell.slices.counts[usize::from(of.rank) - 1];
+    cell.side_of(b + usize::from(below), of.index, Side::Subs)
+}
+
 // The sections under an element. The tally comes in as that of nothing, and is so again where they pass. The rank below
 // begins at place b.
-#[tactic(auto, using(crate::proofs::Sections::sections))]
+#[tactic(auto, using(listing::proofs::InCell::places))]
 fn check_sections(
     tally: &mut [u8; limit::ELEMENTS],
-    matched: MatchedCell<'_>,
+    cell: MatchedCell<'_>,
     b: usize,
     of: Element,
 ) -> Result<(), Refusal>
-    requires b_value { (b ≡ before matched.slices.counts.now (of.rank - 1)) × (2 ≤ of.rank) }
-    requires index_bound { (of.index < get_or matched.slices.counts.now of.rank 0)
-        × Tally limits.elements tally.old [] }
-    ensures value { told result ≡ sections_test (held matched.entry.slices) of.rank of.index }
-    ensures tally { OnOk result (Tally limits.elements tally.new []) }
+    requires b_value { (b ≡ before cell.slices.counts.now (of.rank - 1)) × (2 ≤ of.rank) }
+    requires index_bound { (of.index < get_or cell.slices.counts.now of.rank 0) × Tally limits.elements tally.old [] }
+    ensures value { told result ≡ sections_test (held cell.entry.slices) of.rank of.index }
+    ensures passed { OnOk result (Tally limits.elements tally.new []) }
 {
-    let cell = matched.cell();
-    let counts = cell.slices.counts;
-    let r = usize::from(of.rank);
-    let here = b + usize::from(counts[r - 1]);
-    let subs = cell.side_of(here, of.index, Side::Subs);
+    let subs = subs_of(cell, b, of);
     if meets_one_twice(cell, b, subs) {
         return Ok(());
     }
     let totals = tally_all(tally, cell, b, subs, of)?;
-    check_lone(tally, totals, counts[r - 2], of)?;
+    check_lone(
+        tally,
+        totals,
+        cell.slices.counts[usize::from(of.rank) - 2],
+        of,
+    )?;
     undo_all(tally, cell, b, subs, totals.met);
     Ok(())
 }
@@ -230,26 +247,26 @@ fn check_sections(
 #[tactic(auto, using(valid_incidence::proofs::Turns::all))]
 fn check_rank(
     tally: &mut [u8; limit::ELEMENTS],
-    matched: MatchedCell<'_>,
+    cell: MatchedCell<'_>,
     b: usize,
     r: usize,
 ) -> Result<(), Refusal>
-    requires b_value { (b ≡ before matched.slices.counts.now (r - 1)) × (2 ≤ r)
-        × (r < length matched.slices.counts.now) }
+    requires b_value { (b ≡ before cell.slices.counts.now (r - 1)) × (2 ≤ r)
+        × (r < length cell.slices.counts.now) }
     requires tally { Tally limits.elements tally.old [] }
-    ensures value { told result ≡ first_of (sections_test (held matched.entry.slices) r) 0
-        (get_or matched.entry.slices.counts.now r 0) }
-    ensures tally_2 { OnOk result (Tally limits.elements tally.new []) }
+    ensures value { told result ≡ first_of (sections_test (held cell.entry.slices) r) 0
+        (get_or cell.entry.slices.counts.now r 0) }
+    ensures passed { OnOk result (Tally limits.elements tally.new []) }
 {
     let rank = r as Index;
-    for index in 0..matched.slices.counts[r] {
-        check_sections(tally, matched, b, Element { rank, index })?;
+    for index in 0..cell.slices.counts[r] {
+        check_sections(tally, cell, b, Element { rank, index })?;
     }
     Ok(())
 }
 
 // The elements of the ranks 2 to high, by rank and then index.
-#[tactic(auto, using(valid_incidence::proofs::Turns::all, crate::proofs::Walks::along_ranks), unfolding(crate::specs::Dyadic::dyadic_test))]
+#[tactic(auto, using(crate::proofs::Walks::along_ranks), unfolding(crate::specs::Dyadic::dyadic_test))]
 pub fn check_up_to(cell: MatchedCell<'_>, high: usize) -> Result<(), Refusal>
     requires { high < length cell.slices.counts.now }
     ensures { told result ≡ dyadic_test (held cell.entry.slices) high }

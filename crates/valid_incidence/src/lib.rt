@@ -1,14 +1,15 @@
 // Whether subs and sups match up: each index that an element lists names an element that is there and lists it back.
 #![tactic(auto)]
 
-ghost use Rattle.std.specs.Prelude.{◌≡◌};
-ghost use Rattle.listing.specs.Listing.{held, limits};
+ghost use Rattle.std.specs.Prelude.{◌≡◌, ◌+◌, ◌*◌, ◌<◌, length};
+ghost use Rattle.listing.specs.Listing.{held, limits, entries};
 ghost use Rattle.listing.specs.Shape.{Shaped};
+ghost use Rattle.listing.specs.Told.{side_no};
 ghost use Rattle.valid_incidence.specs.Incidence.{incidences_test};
 
 pub mod incidence;
 
-use listing::{Cell, Slices};
+use listing::{Cell, Index, Side, Slices};
 
 // A listing whose subs and sups match up.
 #[derive(Clone, Copy)]
@@ -26,5 +27,14 @@ impl<'a> MatchedCell<'a> {
         Cell {
             slices: self.slices,
         }
+    }
+
+    // The list at a side of the element x places after the place p.
+    pub fn side_of(self, p: usize, x: Index, side: Side) -> &'a [Index]
+        requires { 2 * (p + x) + side_no side < length self.slices.ends.now }
+        ensures { result.now ≡ entries self.entry.slices.ends.now self.entry.slices.inc.now
+            (2 * (p + x) + side_no side) }
+    {
+        self.cell().side_of(p, x, side)
     }
 }

@@ -5,7 +5,7 @@ use native.Mathlib.Omega.{arith}
 use Rattle.std.proofs.Common.{rules}
 use Rattle.listing.specs.Listing.{Listing, held}
 use Rattle.dual.proofs.Backward.{first_all, none_left, last_read}
-use Rattle.dual.proofs.RankPut.{ranks_none, begins, stays, rank_ends, rank_ends_room, rank_inc_room, rank_then}
+use Rattle.dual.proofs.RankPut.{ranks_none, begins, stays, rank_there, rank_ends_room, rank_inc_room, rank_then}
 use Rattle.dual.proofs.RankPut.{ranks_ends, ranks_inc}
 use Rattle.dual.proofs.write.put_lists.Goals as goal
 
@@ -35,7 +35,7 @@ put_rank-p-requires c =
     let S = c.args.cell.shaped in
     let room = c.requires in
     record {
-      ends = rank_ends L S _ _ _ _ p.here here w p.n_is _ _ _ _ _ put;
+      n_there = rank_there L S _ _ _ _ p.here here w p.n_is _ _ _ _ _ put;
       n_in_bounds = rank_ends_room L S _ _ _ _ p.here here w p.n_is _ _ _ _ _ put room.0;
       n_in_bounds_2 = rank_inc_room L S _ _ _ _ p.here here w p.n_is _ _ _ _ _ put room.1;
     }

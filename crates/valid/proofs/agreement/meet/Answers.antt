@@ -8,4 +8,5 @@ bounds-cell-from c =
     c.from.ensures
 
 pub returns : goal.returns
-returns c = λ e. met_at _ _ c.requires.cursors c.requires.s_lt_size c.from-at.ensures c.from.ensures c.if-cell-from.false
+returns c =
+    λ e. met_at _ _ c.requires.cursors c.requires.s_lt_size c.from-at.ensures c.from.ensures c.if-cell-from.false

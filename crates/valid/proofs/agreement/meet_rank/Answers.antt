@@ -5,11 +5,8 @@ use Prim.Native.Nat.{◌<◌}
 use lib.ListN.{length}
 use Rattle.std.proofs.lemmas.Bool.Decides.{nat_tests}
 use native.Mathlib.Omega.{arith}
-use Rattle.valid.proofs.Agreeing.{met_none, gather_none, all_below_next, met_all_next}
+use Rattle.valid.proofs.Agreeing.{all_below_next, met_all_next}
 use Rattle.valid.proofs.agreement.meet_rank.Goals as goal
-
-pub loop-x-init : goal.loop-x-init
-loop-x-init c = (λ k h. absurd (omega arith), met_none _ _ _ _ (gather_none _))
 
 pub loop-x-preserved : goal.loop-x-preserved
 loop-x-preserved c =

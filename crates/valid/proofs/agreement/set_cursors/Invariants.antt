@@ -1,5 +1,4 @@
--- `set_cursors`. Invariant: the cursors of the elements before `at` are set.
--- Assumes nothing.
+-- Invariant: the cursors of the elements before `at` are set.
 use Prim.Native.Nat.{◌+◌, ◌*◌}
 use lib.ListN.{get_or}
 use Rattle.listing.specs.Laid.{Laid}

@@ -9,5 +9,5 @@ use Rattle.valid_diamond.proofs.dyadic.check_rank.Given as goal
 
 abbrev pub invariant-loop-index : goal.invariant-loop-index
 invariant-loop-index l =
-    let test = sections_test (held l.matched.slices) l.r in
+    let test = sections_test (held l.cell.slices) l.r in
     (first_of test 0 l.index-end ≡ first_of test l.index l.index-end) × Tally limits.elements l.tally []

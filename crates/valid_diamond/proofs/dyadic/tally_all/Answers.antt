@@ -9,7 +9,7 @@ loop-sub-init c = let T = c.requires.le_rank.1 in (totals_none _ T, walk_none _ 
 pub returns-in_err-totals-clause-tallied : goal.returns-in_err-totals-clause-tallied
 returns-in_err-totals-clause-tallied c =
     let w = c.loop-sub.invariant.1 in
-    let counted = c.in_err-totals.ensures.by_index_2 in
+    let counted = c.in_err-totals.ensures.tallied in
     let why = c.from_residual.ensures.1 in
     walk_halt _ _ _ _ _ _ _ w c.loop-sub-test.true c.side_of.ensures _ _ why counted
 
@@ -17,7 +17,7 @@ pub loop-sub-preserved : goal.loop-sub-preserved
 loop-sub-preserved c =
     let w = c.loop-sub.invariant.1 in
     let e = c.in_ok-totals.ensures in
-    (e.totals_in, walk_more _ _ _ _ _ _ _ w c.loop-sub-test.true c.side_of.ensures e.by_index_2)
+    (e.totals_in, walk_more _ _ _ _ _ _ _ w c.loop-sub-test.true c.side_of.ensures e.tallied)
 
 pub returns-clause-tallied : goal.returns-clause-tallied
 returns-clause-tallied c = walk_done _ _ _ _ _ _ _ c.loop-sub.invariant.1 c.loop-sub-test.false

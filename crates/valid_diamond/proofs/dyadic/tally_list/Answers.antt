@@ -16,6 +16,6 @@ loop-sub_sub-preserved c =
       λ seen T. list_more seen _ _ c.requires.by_index at _ c.from-at.ensures _ (v.1 seen T) (omega arith),
     )
 
-pub returns-clause-by_index_2 : goal.returns-clause-by_index_2
-returns-clause-by_index_2 c =
+pub returns-clause-tallied : goal.returns-clause-tallied
+returns-clause-tallied c =
     λ seen T. list_done _ seen _ _ (c.loop-sub_sub.invariant.1 seen T) c.loop-sub_sub-test.false

@@ -29,7 +29,7 @@ loop-sub-preserved c =
     let loop = c.loop-sub in
     let now = c.undo_list-left.ensures in
     let more = subs_more loop.yielded c.in-Some.field-0 c.args.tally.now in
-    (more _ _ _ _ _ loop.invariant.0 _ c.side_of.ensures now.tally_after, now.met_in_2)
+    (more _ _ _ _ _ loop.invariant.0 _ c.side_of.ensures now.tally_after, now.left_in)
 
 pub returns : goal.returns
 returns c =

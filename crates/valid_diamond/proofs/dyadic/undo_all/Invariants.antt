@@ -8,5 +8,6 @@ use Rattle.valid_diamond.proofs.Undoing.{taken}
 use Rattle.valid_diamond.proofs.dyadic.undo_all.Given as goal
 
 abbrev pub invariant-loop-sub : goal.invariant-loop-sub
-invariant-loop-sub l = (l.tally ≡ undone (subs_of_all l.cell.slices.ends.now l.cell.slices.inc.now l.b (taken l.yielded)) l.initial.tally)
-    × MetIn limits.elements l.tally l.left
+invariant-loop-sub l =
+    let walked = subs_of_all l.cell.slices.ends.now l.cell.slices.inc.now l.b (taken l.yielded) in
+    (l.tally ≡ undone walked l.initial.tally) × MetIn limits.elements l.tally l.left
