@@ -1,17 +1,17 @@
 // The elements of a cell, as an engineer names them.
 use crate::print::{blank, number, text};
-use listing::refusal;
+use listing::{Element, Index};
 use std::io;
 
 // An element of a rank that has no name.
-fn unnamed(rt: &impl Print, r: u16) -> io::Result<()> {
+fn unnamed(rt: &impl Print, r: Index) -> io::Result<()> {
     text(rt, b"rank ")?;
     number(rt, r)?;
     text(rt, b" element")
 }
 
 // What an element of a rank is called.
-fn kind(rt: &impl Print, r: u16) -> io::Result<()> {
+fn kind(rt: &impl Print, r: Index) -> io::Result<()> {
     match r {
         1 => text(rt, b"vertex"),
         2 => text(rt, b"edge"),
@@ -22,7 +22,7 @@ fn kind(rt: &impl Print, r: u16) -> io::Result<()> {
 }
 
 // What several elements of a rank are called.
-fn kinds(rt: &impl Print, r: u16) -> io::Result<()> {
+fn kinds(rt: &impl Print, r: Index) -> io::Result<()> {
     if r == 1 {
         text(rt, b"vertices")
     } else {
@@ -31,24 +31,25 @@ fn kinds(rt: &impl Print, r: u16) -> io::Result<()> {
     }
 }
 
-// Element i of rank r.
-pub fn one(rt: &impl Print, r: u16, i: u16) -> io::Result<()> {
-    if r == 0 {
+// An element.
+pub fn one(rt: &impl Print, x: Element) -> io::Result<()> {
+    if x.rank == 0 {
         text(rt, b"the smallest element")
     } else {
-        kind(rt, r)?;
+        kind(rt, x.rank)?;
         blank(rt)?;
-        number(rt, i)
+        number(rt, x.index)
     }
 }
 
-// How many elements of a rank lie in a section that is refused: more than two, or only one.
-pub fn several(rt: &impl Print, no: u16, r: u16) -> io::Result<()> {
-    if no == refusal::THIRD_BETWEEN {
-        text(rt, b"more than two ")?;
-        kinds(rt, r)
-    } else {
-        text(rt, b"only one ")?;
-        kind(rt, r)
-    }
+// What a refused section has of a rank, where it has a third element.
+pub fn more_than_two(rt: &impl Print, r: Index) -> io::Result<()> {
+    text(rt, b"more than two ")?;
+    kinds(rt, r)
+}
+
+// What it has of a rank, where it has a lone element.
+pub fn only_one(rt: &impl Print, r: Index) -> io::Result<()> {
+    text(rt, b"only one ")?;
+    kind(rt, r)
 }
