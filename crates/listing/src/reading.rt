@@ -2,6 +2,7 @@
 // fall; the entries ask nothing.
 ghost use Rattle.std.specs.Prelude.{◌≡◌, ◌+◌, ◌*◌, ◌≤◌, ◌<◌, length, get_or, take};
 ghost use Rattle.listing.specs.Listing.{held, limits, width, before, start, entries, Ends};
+ghost use Rattle.listing.specs.Laid.{Laid};
 ghost use Rattle.listing.specs.Shape.{Shaped};
 ghost use Rattle.listing.specs.Told.{side_no};
 
@@ -43,6 +44,18 @@ pub fn start_of(ends: &[Index], k: usize) -> usize
         return 0;
     }
     usize::from(ends[k - 1])
+}
+
+// Sets the cursor of each of n elements, the first of which stands at `place`, to where its sups begin, which is where
+// its subs end.
+#[tactic(auto, using(crate::proofs::Laying::laid_none, crate::proofs::Laying::laid_next))]
+pub fn set_cursors(next: &mut [Index], ends: &[Index], place: usize, n: usize)
+    requires { (n ≤ length next.old) × (2 * (place + n) ≤ length ends.now) }
+    ensures { Laid 0 (λ k. get_or ends.now (2 * (place + k)) 0) n next.old next.new }
+{
+    for k in 0..n {
+        next[k] = ends[2 * (place + k)];
+    }
 }
 
 impl<'a> Slices<'a> {

@@ -5,7 +5,6 @@ ghost use Rattle.order.specs.Sums.{sum};
 ghost use Rattle.listing.specs.Listing.{width, listing, held, before, start, Ends, subs_at};
 ghost use Rattle.listing.specs.Shape.{elements};
 ghost use Rattle.listing.specs.Layers.{gather};
-ghost use Rattle.listing.specs.Laid.{Laid};
 ghost use Rattle.listing_sups.specs.Sups.{UpCounts, Raised, Strewn, Apart, span};
 ghost use Rattle.listing_sups.specs.Sups.{Fillable, SupsFilled};
 
@@ -138,16 +137,6 @@ fn fill_rank(
     }
 }
 
-// Sets the cursor of each of n elements to where its sups begin, which is where its subs end.
-fn set_cursors(next: &mut [Index], ends: &[Index], n: usize)
-    requires { (n ≤ length next.old) × (2 * n ≤ length ends.now) }
-    ensures { Laid 0 (λ e. get_or ends.now (2 * e) 0) n next.old next.new }
-{
-    for e in 0..n {
-        next[e] = ends[2 * e];
-    }
-}
-
 // Fills in the sups of all ranks, with a cursor for each element.
 fn fill_ranks(counts: &[Index], ends: &[Index], inc: &mut [Index], next: &mut [Index])
     requires fillable { Fillable (listing counts.now ends.now inc.old) }
@@ -175,6 +164,6 @@ pub fn fill(counts: &[Index], ends: &[Index], inc: &mut [Index])
 {
     let mut next: [Index; limit::ELEMENTS] = [0; limit::ELEMENTS];
     let n = reading::elements_before(counts, counts.len());
-    set_cursors(&mut next, ends, n);
+    reading::set_cursors(&mut next, ends, 0, n);
     fill_ranks(counts, ends, inc, &mut next);
 }

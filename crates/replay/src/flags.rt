@@ -102,7 +102,7 @@ pub fn search(rt: &impl Print, line: &[u8], slices: Slices<'_>, first: &[Index])
 // The sign of an orientation's byte.
 pub fn sign(rt: &impl Print, line: &[u8]) -> io::Result<()> {
     let byte = text::byte(text::plain(line, 0));
-    say::sign(rt, Orientation::of_byte(byte).sign())
+    say::sign(rt, Orientation::from(byte).sign())
 }
 
 // The next event for a cursor, a count and a place, and the cursor afterwards.

@@ -14,6 +14,7 @@ pub const HASHES: usize = 16381;
 
 // The rows with one hash are a chain: heads leads from a hash to the last of them, next from a row to the last one
 // before it, each by a number one higher than the row's, and 0 where there is none.
+#[derive(Drop)]
 pub struct Chains {
     pub heads: [u16; HASHES],
     pub next: [u16; limit::FLAGS],
@@ -53,24 +54,6 @@ pub fn hash_changed(sum: usize, weight: usize, old: u16, new: u16) -> usize
 }
 
 impl Chains {
-    // The row of a flag among the first n, n where it stands in none. Its hash is h.
-    #[tactic(auto, using(crate::proofs::Hash::hash_small, crate::proofs::Rows::pointwise_same))]
-    pub fn find(&self, table: &[Index], flag: &[Index], h: usize, n: u16) -> u16
-        requires hash { h ≡ hash_of flag.now }
-        requires indexed { Indexed (length flag.now) n table.now self.now }
-        ensures { result ≡ index_in same_list (rows (length flag.now) table.now n) flag.now }
-    {
-        let mut p = self.heads[h];
-        while p != 0 {
-            let k = p - 1;
-            if *row::row_at(table, usize::from(k), flag.len()) == *flag {
-                return k;
-            }
-            p = self.next[usize::from(k)];
-        }
-        n
-    }
-
     // Row n goes to the front of the chain of the hash h.
     pub fn enter(&mut self, h: usize, n: u16)
         requires { (h < hashes) × (n < limits.flags) }

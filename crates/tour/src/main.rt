@@ -157,9 +157,9 @@ fn rows(rt: &impl Print, samples: &[Sample<'_>]) -> io::Result<()> {
 }
 
 // A row for each of some products.
-fn made(rt: &impl Print, products: &[Product<'_>]) -> io::Result<()> {
-    for &p in products {
-        made::show(rt, p)?;
+fn products(rt: &impl Print, asked: &[Product<'_>]) -> io::Result<()> {
+    for &product in asked {
+        made::show(rt, product)?;
     }
     Ok(())
 }
@@ -196,7 +196,7 @@ fn main(rt: HostRuntime) -> io::Result<()> {
     rows(&rt, &BOXES)?;
     print::end(&rt)?;
     rows(&rt, &SMALL)?;
-    made(&rt, &PRODUCTS)?;
+    products(&rt, &PRODUCTS)?;
     print::end(&rt)?;
     rows(&rt, &FAULTY)?;
     last_words(&rt)

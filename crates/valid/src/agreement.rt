@@ -5,7 +5,6 @@ ghost use Rattle.std.specs.Prelude.{◌≡◌, true, [], ◌∷◌, ◌+◌, ◌
 ghost use Rattle.order.specs.Lists.{occurs};
 ghost use Rattle.listing.specs.Listing.{held, subs_at};
 ghost use Rattle.listing.specs.Layers.{gather};
-ghost use Rattle.listing.specs.Laid.{Laid};
 ghost use Rattle.valid.specs.Agreement.{Agrees, Cursors, AscendsBelow, AllBelow, Met, AllMet, SomeSups};
 
 use listing::{Cell, Index, Side, limit, reading};
@@ -15,18 +14,6 @@ use listing::{Cell, Index, Side, limit, reading};
 struct Rank {
     place: usize,
     size: Index,
-}
-
-// Sets the cursor of each element of a rank to where its sups begin.
-#[tactic(auto, using(listing::proofs::Laying::laid_none, listing::proofs::Laying::laid_next))]
-fn set_cursors(next: &mut [Index; limit::ELEMENTS], ends: &[Index], low: Rank)
-    requires { Cursors ends.now low.place low.size next.old }
-    ensures { Laid 0 (λ s. get_or ends.now (2 * (low.place + s)) 0) low.size
-        next.old next.new }
-{
-    for at in 0..usize::from(low.size) {
-        next[at] = ends[2 * (low.place + at)];
-    }
 }
 
 // Whether the next sup of element s of the lower rank is x; its cursor then goes on.
@@ -139,7 +126,7 @@ pub fn agree(cell: Cell<'_>) -> bool
             place: here,
             size: reading::count_at(counts, r + 1),
         };
-        set_cursors(&mut next, ends, low);
+        reading::set_cursors(&mut next, ends, low.place, usize::from(low.size));
         if !meet_rank(&mut next, cell, low, high) {
             return false;
         }

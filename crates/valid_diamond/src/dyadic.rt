@@ -1,5 +1,5 @@
-// Test 3, on a listing whose subs and sups match up. One tally serves all elements: it counts what the walk
-// under an element meets, and where the element passes, only the counts that the walk has touched are set back.
+// Test 3, on a listing whose subs and sups match up. One tally serves all elements: it counts what the walk under an
+// element meets, and where the element passes, only the counts that the walk has touched are set back.
 ghost use Rattle.std.specs.Prelude.{◌≡◌, true, List, [], ◌∷◌, ℕ, ◌+◌, ◌-◌, ◌≤◌, ◌<◌, length, get_or, set, IfOk, OnOk};
 ghost use Rattle.order.specs.Lists.{In};
 ghost use Rattle.listing.specs.Answers.{first_of};

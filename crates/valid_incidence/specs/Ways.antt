@@ -8,7 +8,7 @@
 -- entry_test   one entry x of a list of element i of rank r: x is an element of the way, and its list back holds i
 -- along_test   the first refusal along a list, its entries in order
 -- list_test    a list along its way: the refusal of an empty one, then its entries
-use Rattle.std.specs.Prelude.{cond, not, ◌&&◌, List, ℕ, ◌+◌, ◌-◌, ◌*◌, ◌≤◌, ◌<◌, ltb, eqb, length}
+use Rattle.std.specs.Prelude.{cond, not, ◌&&◌, List, ℕ, ◌+◌, ◌-◌, ◌*◌, ◌≤◌, ltb, eqb, length}
 use Rattle.order.specs.Lists.{has}
 use Rattle.listing.specs.declared.Answer.{Answer}
 use Rattle.listing.specs.declared.Side.TheVariants.{Subs, Sups}

@@ -19,6 +19,7 @@ loop-r-preserved c =
     let r = c.loop-r.r in
     let here = c.loop-r.invariant.0 in
     let begins = next_begins cell S r _ _ here c.from-here.ensures in
+    let set = rw c.from.ensures at c.set_cursors.ensures in
     let met = c.meet_rank.ensures in
     let y = c.if-not-meet_rank.false in
     let end = c.all_met.ensures in
@@ -26,7 +27,7 @@ loop-r-preserved c =
       begins,
       omega arith,
       each_next _ r c.loop-r.invariant.2
-          (agrees_at cell S r _ _ _ here begins c.count_at.ensures _ _ _ c.set_cursors.ensures (met.all_below y)
+          (agrees_at cell S r _ _ _ here begins c.count_at.ensures _ _ _ set (met.all_below y)
           (met.met y) (end.all_met t)
           (λ h. end.some_sups t (lt-ltb (r + 1) (length cell.counts) (omega (arith, h))))),
     )

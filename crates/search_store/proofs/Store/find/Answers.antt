@@ -6,7 +6,7 @@ use native.Mathlib.Omega.{arith}
 use Rattle.search_index.proofs.Indexing.{down_start, down_next, down_found, down_none, chain_below}
 use Rattle.search_index.proofs.Hash.{hash_small}
 use Rattle.search_index.proofs.Rows.{pointwise_same}
-use Rattle.search_index.proofs.index.Chains.find.Goals as goal
+use Rattle.search_store.proofs.Store.find.Goals as goal
 
 pub loop-p-init : goal.loop-p-init
 loop-p-init c =
