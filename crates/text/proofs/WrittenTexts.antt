@@ -136,7 +136,9 @@ text_err {s} {t} r d h e old =
 pub text_ok : {t : Answer} → fine ≡ t → (s old new : List ℕ) (n : ℕ) → n ≡ length s → new ≡ over s old
     → TextMade t s old new (told_written (Ok n))
 text_ok {t} e s old new n h o =
-    text_written fine t s old new (told_written (Ok n)) e refl (ap (λ (k : ℕ). record { answer = fine; length = k }) h) o
+    let w : told_written (Ok n) ≡ record { answer = fine; length = length s } =
+    ap (λ (k : ℕ). record { answer = fine; length = k }) h in
+    text_written fine t s old new (told_written (Ok n)) e refl w o
 
 module _ {t : Answer} {s old new : List ℕ} {r : Written} (d : TextMade t s old new r) where
   pub text_answer : r.answer ≡ t

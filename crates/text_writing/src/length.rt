@@ -40,6 +40,7 @@ fn row_length(list: &[Index]) -> usize
 }
 
 // How long a line is.
+#[tactic(auto, using(crate::proofs::Parts::line_parts))]
 fn line_length(key: &[u8], list: &[Index]) -> usize
     requires { (length key.now < width) × (length list.now < width) }
     ensures { (result ≡ length (line_bytes (line key.now list.now))) × (result < 8 * width) }
@@ -48,6 +49,7 @@ fn line_length(key: &[u8], list: &[Index]) -> usize
 }
 
 // How long the lines of rank r are, which begins at place here.
+#[tactic(auto, using(crate::proofs::Ranks::rank_lengths))]
 fn rank_length(cell: Cell<'_>, here: usize, r: usize) -> usize
     requires { (here ≡ before cell.slices.counts.now r) × (r < length cell.slices.counts.now) }
     ensures { (result ≡ length (rank_bytes (layers (held cell.entry.slices)) r))
@@ -62,6 +64,7 @@ fn rank_length(cell: Cell<'_>, here: usize, r: usize) -> usize
 }
 
 // How long the text of a listing is.
+#[tactic(auto, using(crate::proofs::Ranks::text_lengths))]
 pub fn text_length(cell: Cell<'_>) -> usize
     ensures { result ≡ length (text_of (layers (held cell.entry.slices))) }
 {

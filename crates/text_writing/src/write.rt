@@ -22,6 +22,7 @@ fn put_key(key: &[u8], text: &mut [u8], at: usize) -> usize
 }
 
 // Writes a number in decimal, from its last digit to its first.
+#[tactic(auto, using(crate::proofs::Numbers::spelling))]
 fn put_number(x: Index, text: &mut [u8], at: usize) -> usize
     requires { at + size (numeral x) ≤ size text.old }
     ensures { PutAt (numeral x) at text.old text.new result }
@@ -37,6 +38,7 @@ fn put_number(x: Index, text: &mut [u8], at: usize) -> usize
 }
 
 // Writes numbers, each after a comma.
+#[tactic(auto, using(crate::proofs::Rows::row_puts))]
 fn put_more(list: &[Index], text: &mut [u8], at: usize) -> usize
     requires { at + size (parted list.now) ≤ size text.old }
     ensures { PutAt (parted list.now) at text.old text.new result }
@@ -50,6 +52,7 @@ fn put_more(list: &[Index], text: &mut [u8], at: usize) -> usize
 }
 
 // Writes numbers, parted by commas.
+#[tactic(auto, using(crate::proofs::Rows::row_puts))]
 fn put_row(list: &[Index], text: &mut [u8], at: usize) -> usize
     requires { at + size (commas list.now) ≤ size text.old }
     ensures { PutAt (commas list.now) at text.old text.new result }
@@ -62,6 +65,7 @@ fn put_row(list: &[Index], text: &mut [u8], at: usize) -> usize
 }
 
 // Writes a line.
+#[tactic(auto, using(crate::proofs::Parts::line_parts))]
 fn put_line(key: &[u8], list: &[Index], text: &mut [u8], at: usize) -> usize
     requires { at + size (line_bytes (line key.now list.now)) ≤ size text.old }
     ensures { PutAt (line_bytes (line key.now list.now)) at

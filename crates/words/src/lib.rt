@@ -1,32 +1,34 @@
-// What is refused, in words: those of docs/REFUSALS.md, with the elements named as an engineer names them. Every
-// function here prints, and returns only whether it could. None is a `Display`: a sentence would need a type of its
-// own, which is made only to be printed in the same line.
+// What is refused, in words: those of docs/REFUSALS.md, with the elements named as an engineer names them.
 #![tactic(auto)]
 
 mod element;
-pub mod print;
 mod sentence;
 
+use element::{MoreThanTwo, Name, OnlyOne};
 use listing::{Answer, Element, Index, Refusal, Side};
-use print::{number, text};
-use std::io;
+use std::fmt;
 
-// How many there are at each end, where it is not one and one.
-fn ends(rt: &impl Print, smallest: Index, largest: Index) -> io::Result<()> {
-    number(rt, smallest)?;
-    text(rt, b" smallest and ")?;
-    number(rt, largest)?;
-    text(rt, b" largest elements")
+// Why a listing of rank top, or what is asked of it, is refused.
+#[derive(Clone, Copy)]
+pub struct Reason {
+    why: Refusal,
+    top: usize,
 }
 
-// An element with nothing under it, or nothing over it.
-fn nothing(rt: &impl Print, of: Element, side: Side) -> io::Result<()> {
-    element::one(rt, of)?;
-    match side {
-        Side::Subs => text(rt, b" has nothing under it"),
-        Side::Sups => text(rt, b" has nothing over it"),
+// A refusal that is not one of a listing's structure: there is no top to name.
+impl From<Refusal> for Reason {
+    fn from(why: Refusal) -> Self {
+        Reason { why, top: 0 }
     }
 }
+
+// The same, and then its number.
+#[derive(Drop)]
+pub struct Numbered(pub Reason);
+
+// What a test says: that it accepts, or why it refuses.
+#[derive(Drop)]
+pub struct Verdict(Option<Reason>);
 
 // The element that an entry of an element names: it lies one rank lower or higher.
 fn entered(of: Element, side: Side, entry: Index) -> Element {
@@ -37,92 +39,97 @@ fn entered(of: Element, side: Side, entry: Index) -> Element {
     Element { rank, index: entry }
 }
 
-// An entry of an element that does not list the element back.
-fn not_back(rt: &impl Print, of: Element, entered: Element) -> io::Result<()> {
-    element::one(rt, entered)?;
-    text(rt, b" does not list ")?;
-    element::one(rt, of)?;
-    text(rt, b" back")
-}
-
-// An entry of an element that is not there.
-fn missing(rt: &impl Print, of: Element, side: Side, entry: Index) -> io::Result<()> {
-    element::one(rt, of)?;
+// What an entry of a list is called.
+fn entry_of(side: Side) -> &'static str {
     match side {
-        Side::Subs => text(rt, b" lists sub ")?,
-        Side::Sups => text(rt, b" lists sup ")?,
-    }
-    number(rt, entry)?;
-    text(rt, b", which is missing")
-}
-
-// A section without two elements: what its upper end has over the smallest element, or else what its lower end lies in.
-// An upper end of rank top is the whole cell, and goes without saying.
-fn section<F: Fn(Index) -> io::Result<()>>(
-    rt: &impl Print,
-    low: Element,
-    high: Element,
-    top: usize,
-    several: F,
-) -> io::Result<()>
-    requires { F.IsAlwaysCallable several }
-{
-    if low.rank == 0 {
-        element::one(rt, high)?;
-        text(rt, b" has ")?;
-        several(1)
-    } else {
-        element::one(rt, low)?;
-        text(rt, b" lies in ")?;
-        several(low.rank.wrapping_add(1))?;
-        if usize::from(high.rank) != top {
-            text(rt, b" of ")?;
-            element::one(rt, high)?;
-        }
-        Ok(())
+        Side::Subs => "sub",
+        Side::Sups => "sup",
     }
 }
 
-// A list that does not ascend: subs or sups.
-fn not_ascending(rt: &impl Print, of: Element, side: Side) -> io::Result<()> {
+// Where the elements of a list lie.
+fn place_of(side: Side) -> &'static str {
     match side {
-        Side::Subs => text(rt, b"the subs of ")?,
-        Side::Sups => text(rt, b"the sups of ")?,
-    }
-    element::one(rt, of)?;
-    text(rt, b" do not ascend")
-}
-
-// A refusal, of a listing of rank top where it is one of its structure.
-pub fn refusal(rt: &impl Print, why: Refusal, top: usize) -> io::Result<()> {
-    match why {
-        Refusal::NotBounded { smallest, largest } => ends(rt, smallest, largest),
-        Refusal::Bare { of, side } => nothing(rt, of, side),
-        Refusal::NotBack { of, side, entry } => not_back(rt, of, entered(of, side, entry)),
-        Refusal::Missing { of, side, entry } => missing(rt, of, side, entry),
-        Refusal::ThirdBetween { low, high } => {
-            section(rt, low, high, top, |r| element::more_than_two(rt, r))
-        }
-        Refusal::LoneBetween { low, high } => {
-            section(rt, low, high, top, |r| element::only_one(rt, r))
-        }
-        Refusal::NotAscending { of, side } => not_ascending(rt, of, side),
-        _ => sentence::of(rt, why),
+        Side::Subs => "under",
+        Side::Sups => "over",
     }
 }
 
-// The same, and then its number.
-pub fn numbered(rt: &impl Print, why: Refusal, top: usize) -> io::Result<()> {
-    refusal(rt, why, top)?;
-    text(rt, b" (")?;
-    number(rt, Answer::from(why).no)?;
-    text(rt, b")")
+impl Reason {
+    // Why a listing with these counts is refused.
+    pub fn of(why: Refusal, counts: &[Index]) -> Self {
+        let top = listing_shape::rank(counts).unwrap_or(0);
+        Reason { why, top }
+    }
+
+    // A section without two elements between its ends: what its upper end has over the smallest element, or else what
+    // its lower end lies in. An upper end of rank top is the whole cell, and goes without saying.
+    fn section<W: fmt::Write, D: fmt::Display + Drop>(
+        &self,
+        f: &mut fmt::Formatter<W>,
+        low: Element,
+        high: Element,
+        between: D,
+    ) -> fmt::Result {
+        if low.rank == 0 {
+            write!(f, "{} has {between}", Name(high))
+        } else if usize::from(high.rank) == self.top {
+            write!(f, "{} lies in {between}", Name(low))
+        } else {
+            write!(f, "{} lies in {between} of {}", Name(low), Name(high))
+        }
+    }
 }
 
-// What a test says of a listing with these counts: that it accepts, or why it refuses.
-pub fn verdict(rt: &impl Print, why: Option<Refusal>, counts: &[Index]) -> io::Result<()> {
-    match why {
-        None => text(rt, b"accepts"),
-        Some(why) => numbered(rt, why, listing_shape::rank(counts).unwrap_or(0)),
+impl fmt::Display for Reason {
+    fn fmt<W: fmt::Write>(&self, f: &mut fmt::Formatter<W>) -> fmt::Result {
+        match self.why {
+            Refusal::NotBounded { smallest, largest } => {
+                write!(f, "{smallest} smallest and {largest} largest elements")
+            }
+            Refusal::Bare { of, side } => {
+                write!(f, "{} has nothing {} it", Name(of), place_of(side))
+            }
+            Refusal::NotBack { of, side, entry } => {
+                let other = entered(of, side, entry);
+                write!(f, "{} does not list {} back", Name(other), Name(of))
+            }
+            Refusal::Missing { of, side, entry } => {
+                let called = entry_of(side);
+                write!(f, "{} lists {called} {entry}, which is missing", Name(of))
+            }
+            Refusal::ThirdBetween { low, high } => {
+                self.section(f, low, high, MoreThanTwo(low.rank.wrapping_add(1)))
+            }
+            Refusal::LoneBetween { low, high } => {
+                self.section(f, low, high, OnlyOne(low.rank.wrapping_add(1)))
+            }
+            Refusal::NotAscending { of, side } => {
+                write!(f, "the {}s of {} do not ascend", entry_of(side), Name(of))
+            }
+            why => f.write_str(sentence::of(why)),
+        }
+    }
+}
+
+impl fmt::Display for Numbered {
+    fn fmt<W: fmt::Write>(&self, f: &mut fmt::Formatter<W>) -> fmt::Result {
+        write!(f, "{} ({})", self.0, Answer::from(self.0.why).no)
+    }
+}
+
+impl Verdict {
+    // What a test of a listing with these counts says.
+    pub fn of(why: Option<Refusal>, counts: &[Index]) -> Self {
+        Verdict(why.map(|why| Reason::of(why, counts)))
+    }
+}
+
+impl fmt::Display for Verdict {
+    fn fmt<W: fmt::Write>(&self, f: &mut fmt::Formatter<W>) -> fmt::Result {
+        match self.0 {
+            None => f.write_str("accepts"),
+            Some(reason) => write!(f, "{}", Numbered(reason)),
+        }
     }
 }

@@ -3,13 +3,9 @@ use native.Mathlib.Omega.{arith}
 use mathlib.Core.Path.{◌≡◌, sym, ◌∙◌}
 use Prim.Native.Nat.{◌+◌}
 use lib.ListN.{length}
-use Rattle.listing.specs.Listing.{held}
-use Rattle.listing.specs.Layers.{layers}
 use Rattle.listing.specs.Written.{joined}
 use Rattle.listing.proofs.Listing.{before_zero, before_next}
 use Rattle.listing.proofs.Places.{few_before}
-use Rattle.listing.proofs.Written.{joined_longer}
-use Rattle.text_theory.specs.Text.{rank_bytes}
 use Rattle.text_writing.proofs.Ranks as ranks
 use Rattle.text_writing.proofs.length.text_length.Goals as goal
 
@@ -19,15 +15,8 @@ loop-r-init c = (sym (before_zero c.args.cell.slices.counts.now), omega arith, o
 
 pub overflow_add-here : goal.overflow_add-here
 overflow_add-here c =
-    omega (arith, before_next c.args.cell.slices.counts.now c.loop-r.r, few_before _ c.args.cell.shaped (c.loop-r.r + 1))
-
-pub loop-r-preserved : goal.loop-r-preserved
-loop-r-preserved c =
-    let L = held c.args.cell.slices in (
-      omega (arith, before_next c.args.cell.slices.counts.now c.loop-r.r),
-      omega (arith, joined_longer (rank_bytes (layers L)) c.loop-r.r),
-      omega arith,
-    )
+    let b = before_next c.args.cell.slices.counts.now c.loop-r.r in
+    omega (arith, b, few_before _ c.args.cell.shaped (c.loop-r.r + 1))
 
 pub returns : goal.returns
 returns c =

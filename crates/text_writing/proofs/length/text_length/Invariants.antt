@@ -13,5 +13,5 @@ use Rattle.text_writing.proofs.length.text_length.Given as goal
 
 abbrev pub invariant-loop-r : goal.invariant-loop-r
 invariant-loop-r l = let L = held l.cell.slices in
-    (l.here ≡ before l.cell.slices.counts.now l.r) × (l.n ≡ length (rank_first L) + length (joined (rank_bytes (layers L)) l.r))
+    (l.here ≡ before L.counts l.r) × (l.n ≡ length (rank_first L) + length (joined (rank_bytes (layers L)) l.r))
     × (l.n ≤ 8 * width * width * (l.r + 1))

@@ -21,5 +21,5 @@ overflow_add-here c =
 
 pub loop-r-preserved : goal.loop-r-preserved
 loop-r-preserved c =
-    let i = c.loop-r.invariant in
-    (omega (arith, before_next c.args.cell.slices.counts.now c.loop-r.r), parts_next _ _ _ _ _ _ i.1 _ _ c.put_rank-p.ensures)
+    let w = parts_next _ _ _ _ _ _ c.loop-r.invariant.1 _ _ c.put_rank-p.ensures in
+    (omega (arith, before_next c.args.cell.slices.counts.now c.loop-r.r), w)
