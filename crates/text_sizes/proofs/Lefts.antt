@@ -17,8 +17,8 @@ use Rattle.listing.specs.Told.{answer_of}
 use Rattle.listing.proofs.Told.{refuses, halts}
 use Rattle.listing.proofs.Answers.{or_fine, or_stop, of_next, of_stop}
 use Rattle.text_theory.specs.Text.{Line, count_key, subs_key, line_of, line_count}
-use Rattle.text_theory.specs.Said.{from_line, after_line, count_line, said, value, values, form_test, Bound, bound_of, bound_test}
-use Rattle.text_theory.specs.Said.{line_test, incidences_to}
+use Rattle.text_theory.specs.Said.{from_line, after_line, count_line, said, value, values, form_test}
+use Rattle.text_theory.specs.Said.{Bound, bound_of, bound_test, line_test, incidences_to}
 use Rattle.text_theory.proofs.Spots.{said_size, said_under, count_below, count_test, list_below, list_test}
 use Rattle.text_lines.specs.Lines.{form_of}
 use Rattle.text_sizes.specs.Measure.{left_test}
@@ -77,7 +77,8 @@ here_next t k at next h e = e ∙ ap after_line h
 
 -- ---- the line with the count of a rank
 
-module _ (m : Limits) (t : List ℕ) (r at : ℕ) (h : r ≤ (said t).top) (e : drop at t ≡ from_line t (count_line t r)) where
+module _ (m : Limits) (t : List ℕ) (r at : ℕ) (h : r ≤ (said t).top)
+    (e : drop at t ≡ from_line t (count_line t r)) where
   count_stands : LineAt m t (count_line t r) at (line_of (said t) (r, 0)) (bound_of m (said t) (r, 0))
   count_stands = record { below = count_below t r h; here = e; test = count_test t r h m }
 

@@ -23,7 +23,8 @@ use Rattle.listing_outputs.specs.declared.outputs.Room.{Room}
 use Rattle.listing_outputs.specs.Output.{need_of}
 use Rattle.listing_sups.specs.Sups.{Counted}
 use Rattle.text_theory.specs.Text.{line_count}
-use Rattle.text_theory.specs.Said.{from_line, count_line, said, listing_in, size_below, incidences_to, line_test, text_test}
+use Rattle.text_theory.specs.Said.{from_line, count_line, said, listing_in, size_below, incidences_to, line_test}
+use Rattle.text_theory.specs.Said.{text_test}
 use Rattle.text_theory.specs.Notes.{subs_to, Noted}
 use Rattle.text_sizes.specs.declared.measure.Headway.{Headway}
 

@@ -1,4 +1,5 @@
-// What is noted down of a text while it is read: its listing is written from these notes, and the text is not read again.
+// What is noted down of a text while it is read. Its listing is written from these notes, and the text is not read
+// again.
 use listing::{Index, limit};
 
 #[derive(Drop)]
