@@ -20,7 +20,7 @@ ghost use Rattle.flag.specs.Orientations.{of_byte, sign_of};
 ghost use Rattle.search.specs.SearchedBy.{searched_by, table_after, bytes_after};
 ghost use Rattle.body.specs.Body.{body_by, body_table_after, body_bytes_after};
 ghost use Rattle.dual.specs.Duals.{DualMade};
-ghost use Rattle.volume.specs.Volumes.{volume_by, volume_table_after, volume_bytes_after, measured_of};
+ghost use Rattle.volume.specs.Volumes.{volume_by, volume_table_after, volume_bytes_after};
 
 use flag::Changed;
 use listing::{Answer, Built, Index, Number};
@@ -178,8 +178,8 @@ pub extern "C" fn fd_six_volume(
     table: &mut [Index],
     orientations: &mut [u8],
 ) -> Measured
-    ensures value { result ≡ measured_of (volume_by limits (listing counts.now ends.now inc.now)
-        first.now coordinates.now table.old orientations.old) }
+    ensures value { result ≡ volume_by limits (listing counts.now ends.now inc.now)
+        first.now coordinates.now table.old orientations.old }
     ensures table_after { table.new ≡ volume_table_after limits (listing counts.now ends.now inc.now)
         first.now table.old orientations.old }
     ensures orientations_after { orientations.new ≡ volume_bytes_after limits
