@@ -21,7 +21,8 @@ use Rattle.valid_incidence.proofs.Entries.{lower, upper}
 use Rattle.valid_incidence.proofs.IncidenceExact.{Refuses, down_refuses, up_refuses, LeadsBack, entry_exact, below_is}
 use Rattle.valid_incidence.proofs.IncidenceExact.{lower_exact, element_exact}
 use Rattle.promises.specs.Named.{FirstAt, FirstIn, Named}
-use Rattle.promises.specs.Named.{named_no_subs, named_no_sups, named_sub_not_back, named_sup_not_back, named_sub_missing, named_sup_missing}
+use Rattle.promises.specs.Named.{named_no_subs, named_no_sups, named_sub_not_back, named_sup_not_back}
+use Rattle.promises.specs.Named.{named_sub_missing, named_sup_missing}
 use Rattle.promises.proofs.Firsts.{Tells, tells_or, tells_on, tells_cond, tells_in, tells_elements}
 
 -- ---- small laws

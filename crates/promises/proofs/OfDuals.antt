@@ -31,7 +31,7 @@ use Rattle.dual_theory.proofs.DualProducts.{product_turned_over}
 use Rattle.dual.specs.Duals.{dual_test, DualMade}
 use Rattle.dual.specs.Rules.{dual_rules}
 use Rattle.dual.proofs.DualBroken.{dual_broken}
-use Rattle.dual.proofs.dual.Reads as dual
+use Rattle.flumedrac.proofs.fd_dual.Reads as dual
 use Rattle.promises.specs.Entries.{Call, Three, ThreeWritten, lent, right, outputs}
 use Rattle.promises.specs.OfDuals.{turned_by, built_by, BothSides, DualsTaken, DualsRefuse, DualsAnswer, DualsKeep}
 use Rattle.promises.specs.OfDuals.{DualsOnce}
@@ -135,8 +135,8 @@ law min max a b e d f =
 -- the five calls, of products told by min and max
 module _ (min max : Bool) {K L A C X Y : Type 0}
     {P : K → Three (Three (ThreeWritten A)) → Built → Three (Three (ThreeWritten X)) → Type 0}
-    {Q : L → Three (Three (ThreeWritten C)) → Built → Three (Three (ThreeWritten Y)) → Type 0} (p : Call P) (d a b : Call dual.Post)
-    (q : Call Q) (s : BothSides p d a b q) where
+    {Q : L → Three (Three (ThreeWritten C)) → Built → Three (Three (ThreeWritten Y)) → Type 0}
+    (p : Call P) (d a b : Call dual.Post) (q : Call Q) (s : BothSides p d a b q) where
   both_sides : Outcome limits min max (lent p.args) (right p.args) (outputs p.args) (outputs p.exit)
       p.answer
       → Outcome limits max min (lent q.args) (right q.args) (outputs q.args) (outputs q.exit) q.answer

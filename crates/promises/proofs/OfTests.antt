@@ -106,7 +106,8 @@ counted_value (c ∷ counts) n =
 
 -- the facets are the elements of the rank below the top; where there are fewer than two ranks there are none
 facets_counted : (counts : List ℕ)
-    → ((facet_count_of counts).no ≡ 0 → 2 ≤ length counts → (facet_count_of counts).value ≡ get_or counts (length counts - 2) 0)
+    → ((facet_count_of counts).no ≡ 0 → 2 ≤ length counts
+    → (facet_count_of counts).value ≡ get_or counts (length counts - 2) 0)
     × (length counts ≤ 1 → (facet_count_of counts).value ≡ 0)
 unfolding facet_count_of facets counted
 facets_counted counts = (

@@ -62,7 +62,8 @@ module _ (t : List ℕ) {old new : Listing} {r : Built} (d : WasRead t old new r
   long : r.answer.no ≡ long_text ↔ (limits.text < length t)
   long =
       rw (made_answer d)
-      (Iff.trans (read_exact limits t _ _ _ long_text (λ e. omega arith) (λ e. omega arith)) (places.over_long limits t))
+      (Iff.trans (read_exact limits t _ _ _ long_text (λ e. omega arith) (λ e. omega arith))
+      (places.over_long limits t))
 
   first : length t ≤ limits.text
       → ((n : ℕ) → n ≢ 0 → n ≢ output_short → r.answer.no ≡ n ↔ FirstPlace limits t n)

@@ -1,5 +1,6 @@
--- How a promise speaks of an entry: through P, the reading of its contract that the prover makes from the source. P k a
--- b x says that the contract admits the answer b and the parameters x at exit for the arguments a; k are the lifetimes.
+-- How a promise speaks of an entry: through P, the reading that the prover makes of a contract in the source. P k a b x
+-- says that the contract admits the answer b and the parameters x at exit for the arguments a; k are the lifetimes. The
+-- contract is that of the fd_ function of the entry's name, where there is one; OfBoundary says the same of the entry.
 --
 -- Takes         the contract asks nothing: R k a, the reading of what it asks of a caller, holds for any arguments
 -- Says          whatever the contract admits has a property of arguments, answer and exit
@@ -10,6 +11,7 @@
 -- Call          a call of an entry, as its contract admits it: for promises that speak of more calls than three
 -- PassesOn      whatever one contract admits another admits too, for the same arguments
 -- PassesAs      whatever one contract admits is, as f has it, an answer that another admits, for the same arguments
+-- PassesBack    whatever the other contract admits the first admits as f has it, for the same arguments
 -- Slice         a lent slice of numbers
 -- Written       a slice of numbers that is lent to be written
 -- Three         three slices, and the parameters after them
@@ -71,6 +73,9 @@ module _ {K A B X : Type 0} (P Q : K → A → B → X → Type 0) where
 module _ {K A B C X : Type 0} (f : C → B) (P : K → A → B → X → Type 0) (Q : K → A → C → X → Type 0) where
   abbrev pub PassesAs : Type 0
   PassesAs = (k : K) (a : A) (b : B) (x : X) → P k a b x → (c : C) × Q k a c x × (b ≡ f c)
+
+  abbrev pub PassesBack : Type 0
+  PassesBack = (k : K) (a : A) (c : C) (x : X) → Q k a c x → P k a (f c) x
 
 abbrev pub Slice : Type 0
 Slice = Bor (List ℕ)

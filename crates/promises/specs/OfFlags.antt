@@ -12,14 +12,14 @@
 -- FlagsNamed    what each refusal says
 -- FlagsAnswer   what changes, searches, orientations and events are
 -- FlagsOnce     no second answer fits
-use Rattle.std.specs.Prelude.{◌≡◌, ◌≢◌, ◌↔◌, List, [], ◌∷◌, ◌++◌, map, ℕ, ◌+◌, ◌-◌, ◌≤◌, pos, neg_ℤ, Float, length, get_or, take, replicate}
+use Rattle.std.specs.Prelude.{◌≡◌, ◌≢◌, ◌↔◌, List, [], ◌∷◌, ◌++◌, map, ℕ, ◌+◌, ◌-◌, ◌≤◌}
+use Rattle.std.specs.Prelude.{pos, neg_ℤ, Float, length, get_or, take, replicate}
 use Rattle.std.specs.Float.{binary64}
 use Rattle.std.specs.Float.Ieee.{of_int}
 use Rattle.order.specs.Diamond.{TheTwo}
 use Rattle.listing.specs.Answers.{fine}
 use Rattle.listing.specs.Listing.{Listing, limits, rank}
 use Rattle.listing.specs.Rules.{FirstBroken}
-use Rattle.valid.proofs.closed.Reads as closed
 use Rattle.flag_change.specs.Change.{Changes, Replaces, HasUnder, change_at, padded}
 use Rattle.flag.specs.Orientations.{byte_of}
 use Rattle.flag.specs.Rules.{change_rules}
@@ -30,17 +30,18 @@ use Rattle.search_events.specs.declared.Event.{Event}
 use Rattle.search_events.specs.declared.Event.TheVariants.{Nothing}
 use Rattle.search_events.specs.declared.Said.{Said}
 use Rattle.search_events.specs.Events.{events, events_of, said_of, Stepped, SaidStep}
-use Rattle.flag.proofs.change.Reads as change
 use Rattle.flag.proofs.Orientation.flip.Reads as flip
 use Rattle.flag.proofs.Orientation.sign.Reads as sign
 use Rattle.flag.proofs.Orientation.byte.Reads as byte
 use Rattle.flag.proofs.Orientation.of_byte.Reads as of_byte
-use Rattle.search.proofs.search.Reads as search
 use Rattle.search_events.proofs.is_marked.Reads as is_marked
 use Rattle.search_events.proofs.event_at.Reads as event_at
 use Rattle.search_events.proofs.events_in.Reads as events_in
 use Rattle.search_events.proofs.next_at.Reads as next_at
 use Rattle.search_events.proofs.numbers.Reads as numbers
+use Rattle.flumedrac.proofs.fd_closed.Reads as closed
+use Rattle.flumedrac.proofs.fd_change.Reads as change
+use Rattle.flumedrac.proofs.fd_search.Reads as search
 use Rattle.promises.specs.Entries.{Takes, Says, SaysOfTwo, OneAnswer, OneOutcome, lent, flag, asked, tables}
 use Rattle.promises.specs.Named.{Named}
 

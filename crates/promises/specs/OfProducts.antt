@@ -15,11 +15,11 @@ use Rattle.std.specs.Prelude.{◌≡◌, Bool, true, false}
 use Rattle.listing.specs.declared.Built.{Built}
 use Rattle.listing.specs.Answers.{plain}
 use Rattle.listing_outputs.specs.Output.{prefix}
-use Rattle.product.proofs.duopyramid.Reads as duopyramid
-use Rattle.product.proofs.duoprism.Reads as duoprism
-use Rattle.product.proofs.duotegum.Reads as duotegum
-use Rattle.product.proofs.duocomb.Reads as duocomb
 use Rattle.product.proofs.make.make.Reads as make
+use Rattle.flumedrac.proofs.fd_duopyramid.Reads as duopyramid
+use Rattle.flumedrac.proofs.fd_duoprism.Reads as duoprism
+use Rattle.flumedrac.proofs.fd_duotegum.Reads as duotegum
+use Rattle.flumedrac.proofs.fd_duocomb.Reads as duocomb
 use Rattle.promises.specs.Entries.{Takes, Says, SaysOfTwo, OneOutcome, Three, ThreeWritten, lent, right, outputs}
 use Rattle.promises.specs.Products.{Produces, Kept, Exchange}
 

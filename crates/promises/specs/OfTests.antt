@@ -27,16 +27,16 @@ use Rattle.valid.specs.Closed.{Closed}
 use Rattle.valid.specs.Rules.{bounded_rules, incident_rules, dyadic_rules, valid_rules, closed_rules}
 use Rattle.listing_shape.proofs.class.Reads as class
 use Rattle.listing_shape.proofs.band_number.Reads as band_number
-use Rattle.listing_shape.proofs.rank.Reads as rank_count
-use Rattle.listing_shape.proofs.el_count.Reads as el_count
-use Rattle.listing_shape.proofs.vertex_count.Reads as vertex_count
-use Rattle.listing_shape.proofs.facet_count.Reads as facet_count
 use Rattle.listing_shape.proofs.shape.Reads as shape
-use Rattle.valid.proofs.bounded.Reads as bounded
-use Rattle.valid.proofs.check_incidences.Reads as check_incidences
-use Rattle.valid.proofs.is_dyadic.Reads as is_dyadic
-use Rattle.valid.proofs.is_valid.Reads as is_valid
-use Rattle.valid.proofs.closed.Reads as closed
+use Rattle.flumedrac.proofs.fd_rank.Reads as rank_count
+use Rattle.flumedrac.proofs.fd_el_count.Reads as el_count
+use Rattle.flumedrac.proofs.fd_vertex_count.Reads as vertex_count
+use Rattle.flumedrac.proofs.fd_facet_count.Reads as facet_count
+use Rattle.flumedrac.proofs.fd_bounded.Reads as bounded
+use Rattle.flumedrac.proofs.fd_check_incidences.Reads as check_incidences
+use Rattle.flumedrac.proofs.fd_is_dyadic.Reads as is_dyadic
+use Rattle.flumedrac.proofs.fd_is_valid.Reads as is_valid
+use Rattle.flumedrac.proofs.fd_closed.Reads as closed
 use Rattle.promises.specs.Entries.{Takes, Says, OneAnswer, Slice, Three, lent}
 use Rattle.promises.specs.Named.{Named, BetweenNamed}
 

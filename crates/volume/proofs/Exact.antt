@@ -13,29 +13,28 @@ use Rattle.volume_theory.specs.Six.{face_at, even_flags, six_of}
 use Rattle.volume_theory.proofs.Vertices.{face_there, other_end}
 use Rattle.volume_theory.proofs.Lowest.{lowest_in}
 use Rattle.volume_theory.proofs.Exactly.{six_whole, six_no_rounding, six_exact}
-use Rattle.volume.specs.declared.Volume.{Volume}
-use Rattle.volume.specs.declared.Volume.TheVariants.{Six}
-use Rattle.volume.specs.Volumes.{number_of, volume_test, volume_by, volume_table_after, volume_bytes_after}
+use Rattle.volume.specs.declared.Measured.{Measured}
+use Rattle.volume.specs.Volumes.{measured, volume_test, measured_by, volume_table_after, volume_bytes_after}
 use Rattle.volume.specs.Promised.{Summed, VolumePromised}
 use Rattle.volume.proofs.Cases.{said, Answered, answered, evens_left, evens_flags, few}
 use Rattle.volume.proofs.VolumeBroken.{number_is, volume_broken, as_searched, searched_first}
 
 module _ (L : Listing) (first : List ℕ) (xs : List Float) (table bytes : List ℕ) where
-  abbrev r : Volume
-  r = volume_by limits L first xs table bytes
+  abbrev r : Measured
+  r = measured_by limits L first xs table bytes
 
   abbrev E : List (List ℕ)
   E = even_flags L first (room_in limits L table bytes)
 
   -- Where nothing is refused, the answer is the sum over the even flags.
-  pub six_answered : number_of r ≡ 0 → Answered L first xs table bytes × (r ≡ Six (of_int binary64 (six_of L xs E)))
-  unfolding volume_by
+  pub six_answered : r.no ≡ 0 → Answered L first xs table bytes × (r ≡ measured (of_int binary64 (six_of L xs E)))
+  unfolding measured_by
   six_answered z =
       let h : (volume_test L.counts xs (said L first xs table bytes)).no ≡ 0 =
       sym (number_is L first xs table bytes) ∙ z in
       (answered L first xs table bytes h, rw h)
 
-  summed : number_of r ≡ 0 → Summed L xs E r
+  summed : r.no ≡ 0 → Summed L xs E r
   summed z =
       let a = six_answered z in
       let A = a.0 in
@@ -45,8 +44,8 @@ module _ (L : Listing) (first : List ℕ) (xs : List Float) (table bytes : List 
       let n = few L first xs table bytes A in
       record {
         exact = a.1;
-        positive = λ e. a.1 ∙ ap (λ y. Six (of_int binary64 y)) e ∙ ap Six (sym zero_literal);
-        worked_out = a.1 ∙ ap Six (sym (six_exact C R xs A.metres A.three_each E flag n));
+        positive = λ e. a.1 ∙ ap (λ y. measured (of_int binary64 y)) e ∙ ap measured (sym zero_literal);
+        worked_out = a.1 ∙ ap measured (sym (six_exact C R xs A.metres A.three_each E flag n));
         whole = six_whole L xs E;
         no_rounding = six_no_rounding C R xs A.metres A.three_each E flag n;
         lowest = λ f m. lowest_in L C.incident (face_at f) (face_there C R (flag f m));

@@ -12,31 +12,29 @@ use Rattle.volume_metres.specs.Points.{Site}
 use Rattle.volume_metres.proofs.Running.{neg_of_int}
 use Rattle.volume_theory.specs.Six.{cell_rank, even_flags, six_of, Shifted}
 use Rattle.volume_theory.proofs.Changed.{six_negated, six_moved}
-use Rattle.volume.specs.declared.Volume.{Volume}
-use Rattle.volume.specs.declared.Volume.TheVariants.{Six}
-use Rattle.volume.specs.Volumes.{number_of, six_fold, volume_by}
+use Rattle.volume.specs.declared.Measured.{Measured}
+use Rattle.volume.specs.Volumes.{measured, measured_by}
 use Rattle.volume.specs.Promised.{Negated}
 use Rattle.volume.proofs.Cases.{oriented}
 use Rattle.volume.proofs.Exact.{six_answered}
 
 -- an integer and its negative as answers
-negated : (z y : ℤ) → y ≡ neg_ℤ z → {r s : Volume} → r ≡ Six (of_int binary64 z) → s ≡ Six (of_int binary64 y)
-    → Negated r s
-unfolding six_fold
+negated : (z y : ℤ) → y ≡ neg_ℤ z → {r s : Measured} → r ≡ measured (of_int binary64 z)
+    → s ≡ measured (of_int binary64 y) → Negated r s
 negated z y e a b = record {
   six = z;
   this = a;
-  other = b ∙ ap (λ x. Six (of_int binary64 x)) e;
+  other = b ∙ ap (λ x. measured (of_int binary64 x)) e;
   opposite = λ n.
-      ap six_fold b ∙ ap (of_int binary64) e ∙ neg_of_int z n ∙ ap neg (sym (ap six_fold a));
+      ap (λ v. v.six) b ∙ ap (of_int binary64) e ∙ neg_of_int z n ∙ ap neg (sym (ap (λ v. v.six) a));
 }
 
 module _ (L : Listing) (first : List ℕ) (xs : List Float) (table bytes : List ℕ)
-    (z : number_of (volume_by limits L first xs table bytes) ≡ 0) where
+    (z : (measured_by limits L first xs table bytes).no ≡ 0) where
   -- From a flag one change away the answer is negated.
   pub volume_negated : (q : ℕ) → 0 < q → q < cell_rank → (t b : List ℕ)
-      → number_of (volume_by limits L (change_at L q first) xs t b) ≡ 0
-      → Negated (volume_by limits L first xs table bytes) (volume_by limits L (change_at L q first) xs t b)
+      → (measured_by limits L (change_at L q first) xs t b).no ≡ 0
+      → Negated (measured_by limits L first xs table bytes) (measured_by limits L (change_at L q first) xs t b)
   volume_negated q h k t b y =
       let a = six_answered L first xs table bytes z in
       let c = six_answered L (change_at L q first) xs t b y in
@@ -48,12 +46,12 @@ module _ (L : Listing) (first : List ℕ) (xs : List Float) (table bytes : List 
 
   -- With all vertices moved alike it is the same.
   pub volume_moved : (m : Site) (ys : List Float) → Shifted L m xs ys → (t b : List ℕ)
-      → number_of (volume_by limits L first ys t b) ≡ 0
-      → volume_by limits L first ys t b ≡ volume_by limits L first xs table bytes
+      → (measured_by limits L first ys t b).no ≡ 0
+      → measured_by limits L first ys t b ≡ measured_by limits L first xs table bytes
   volume_moved m ys S t b y =
       let a = six_answered L first xs table bytes z in
       let c = six_answered L first ys t b y in
       c.1
-      ∙ ap (λ x. Six (of_int binary64 x))
+      ∙ ap (λ x. measured (of_int binary64 x))
       (six_moved (oriented L first xs table bytes a.0) a.0.is_cell xs m ys S (oriented L first ys t b c.0))
       ∙ sym a.1

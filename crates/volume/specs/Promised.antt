@@ -24,31 +24,30 @@ use Rattle.search.specs.Promised.{room_in, Promised}
 use Rattle.volume_metres.specs.Formulas.{in_floats, in_whole, NoRounding}
 use Rattle.volume_theory.specs.Six.{vertex_at, edge_at, face_at, other_vertex, lowest_of, six_of, six_formula}
 use Rattle.volume_theory.specs.Six.{OtherEnd, LowestIn}
-use Rattle.volume.specs.declared.Volume.{Volume}
-use Rattle.volume.specs.declared.Volume.TheVariants.{Six}
-use Rattle.volume.specs.Volumes.{number_of, six_fold}
+use Rattle.volume.specs.declared.Measured.{Measured}
+use Rattle.volume.specs.Volumes.{measured}
 use Rattle.volume.specs.Rules.{volume_rules}
 
-pub record Summed (L : Listing) (xs : List Float) (flags : List (List ℕ)) (r : Volume) : Type 0 where
-  pub exact : r ≡ Six (of_int binary64 (six_of L xs flags))
-  pub positive : six_of L xs flags ≡ pos 0 → r ≡ Six (of_bits binary64 0)
-  pub worked_out : r ≡ Six (in_floats xs (six_formula L flags))
+pub record Summed (L : Listing) (xs : List Float) (flags : List (List ℕ)) (r : Measured) : Type 0 where
+  pub exact : r ≡ measured (of_int binary64 (six_of L xs flags))
+  pub positive : six_of L xs flags ≡ pos 0 → r ≡ measured (of_bits binary64 0)
+  pub worked_out : r ≡ measured (in_floats xs (six_formula L flags))
   pub whole : in_whole xs (six_formula L flags) ≡ six_of L xs flags
   pub no_rounding : NoRounding xs (six_formula L flags)
   pub lowest : (f : List ℕ) → Memᴰ f flags → LowestIn L (face_at f) (lowest_of L (face_at f))
   pub other : (f : List ℕ) → Memᴰ f flags → OtherEnd L (edge_at f) (vertex_at f) (other_vertex L f)
 
 pub record VolumePromised (m : Limits) (L : Listing) (first : List ℕ) (xs : List Float) (table bytes : List ℕ)
-    (r : Volume) (table' bytes' : List ℕ) : Type 0 where
-  pub refusals : FirstBroken (volume_rules m L first xs (room_in m L table bytes)) (number_of r)
+    (r : Measured) (table' bytes' : List ℕ) : Type 0 where
+  pub refusals : FirstBroken (volume_rules m L first xs (room_in m L table bytes)) r.no
   pub search : Searched
   pub searched : Promised m L first (every_rank (rank L)) table bytes search table' bytes'
-  pub as_searched : number_of r < not_rank_four → number_of r ≡ search.answer.no
-  pub found : not_rank_four ≤ number_of r → search.answer.no ≡ 0
-  pub sum : number_of r ≡ 0 → Summed L xs (evens (rows (rank L + 1) table' search.count) bytes') r
+  pub as_searched : r.no < not_rank_four → r.no ≡ search.answer.no
+  pub found : not_rank_four ≤ r.no → search.answer.no ≡ 0
+  pub sum : r.no ≡ 0 → Summed L xs (evens (rows (rank L + 1) table' search.count) bytes') r
 
-pub record Negated (r s : Volume) : Type 0 where
+pub record Negated (r s : Measured) : Type 0 where
   pub six : ℤ
-  pub this : r ≡ Six (of_int binary64 six)
-  pub other : s ≡ Six (of_int binary64 (neg_ℤ six))
-  pub opposite : six ≢ pos 0 → six_fold s ≡ neg (six_fold r)
+  pub this : r ≡ measured (of_int binary64 six)
+  pub other : s ≡ measured (of_int binary64 (neg_ℤ six))
+  pub opposite : six ≢ pos 0 → s.six ≡ neg r.six

@@ -5,9 +5,13 @@
 -- measured_of          an answer as these two numbers
 -- volume_test          the refusals in their order: that of a search with every change that answered s, then 50, 51,
 --                      52, 53
+-- measured             a volume as these two numbers
+-- unmeasured           a refusal as these two numbers
 -- volume_as            the answer by its refusal: a refusal's number, or a volume as a float
+-- measured_as          the same as two numbers
 -- volume_by            the answer, with a table and orientations lent: the volume is the whole number `six_of`, over
 --                      the even flags found, and where it is 0, the positive zero
+-- measured_by          the same as two numbers
 -- volume_table_after   what the table holds afterwards
 -- volume_bytes_after   what the orientations are afterwards
 use Rattle.std.specs.Prelude.{not, List, ℕ, ◌-◌, ◌*◌, eqb, length, get_or, pos, Float}
@@ -39,6 +43,12 @@ unfoldable pub measured_of : Volume → Measured
 unfolding number_of six_fold
 measured_of v = record { no = number_of v; six = six_fold v }
 
+abbrev pub measured : Float → Measured
+measured x = record { no = 0; six = x }
+
+abbrev pub unmeasured : ℕ → Measured
+unmeasured n = record { no = n; six = of_int binary64 (pos 0) }
+
 unfoldable pub volume_test : List ℕ → List Float → Searched → Answer
 volume_test counts xs s =
     s.answer or_else
@@ -50,11 +60,21 @@ volume_test counts xs s =
 abbrev pub volume_as : Answer → Float → Volume
 volume_as a x = if_zero a.no (Six x) (Refused a.no)
 
+abbrev pub measured_as : Answer → Float → Measured
+measured_as a x = if_zero a.no (measured x) (unmeasured a.no)
+
 unfoldable pub volume_by : Limits → Listing → List ℕ → List Float → List ℕ → List ℕ → Volume
 unfolding volume_test
 volume_by m L first xs table bytes =
     let s = searched_by m L first (every_rank (rank L)) table bytes in
     volume_as (volume_test L.counts xs s) (of_int binary64 (six_of L xs (even_flags L first (room_in m L table bytes))))
+
+unfoldable pub measured_by : Limits → Listing → List ℕ → List Float → List ℕ → List ℕ → Measured
+unfolding volume_test
+measured_by m L first xs table bytes =
+    let s = searched_by m L first (every_rank (rank L)) table bytes in
+    measured_as (volume_test L.counts xs s)
+    (of_int binary64 (six_of L xs (even_flags L first (room_in m L table bytes))))
 
 abbrev pub volume_table_after : Limits → Listing → List ℕ → List ℕ → List ℕ → List ℕ
 volume_table_after m L first table bytes = table_after m L first (every_rank (rank L)) table bytes
