@@ -1,13 +1,15 @@
 -- Test 2: a refusal is true of the element and the entry that it names, and all before it are good.
 -- Assumes nothing.
-use mathlib.Core.Path.{◌≡◌, refl, sym}
-use mathlib.Core.Bool.{Bool, true, false, not, ◌&&◌}
-use mathlib.Core.List.{List, [], ◌∷◌}
+use mathlib.Core.Path.{◌≡◌}
+use mathlib.Core.Bool.{Bool, true, not, ◌&&◌}
+use mathlib.Core.List.{List, []}
 use Prim.Native.Nat.{ℕ, ◌-◌, ◌≤◌, ◌<◌}
 use native.Mathlib.Omega.{arith}
 use borrow.Author.Tests.{eqb-true, ltb-true, ltb-false}
 use lib.Dec.{ltb, eqb}
 use lib.ListN.{length}
+use Rattle.std.proofs.lemmas.Bool.{not-true}
+use Rattle.std.proofs.lemmas.List.{nil_from_length}
 use Rattle.order.specs.Lists.{In, has}
 use Rattle.order.proofs.Lists.{has_no}
 use Rattle.order.proofs.Tests.{and_true}
@@ -27,16 +29,8 @@ use Rattle.promises.proofs.Firsts.{Tells, tells_or, tells_on, tells_cond, tells_
 
 -- ---- small laws
 
-not_true : (b : Bool) → not b ≡ true → b ≡ false
-not_true true e = sym e
-not_true false e = refl
-
 not_less : {a b : ℕ} → ¬ (a < b) → b ≤ a
 not_less n = omega arith
-
-none_in : (l : List ℕ) → length l ≡ 0 → l ≡ []
-none_in [] e = refl
-none_in (x ∷ l) e = absurd (omega arith)
 
 first_map : {P R : ℕ → Type 0} {x : ℕ} {l : List ℕ} → ((y : ℕ) → P y → R y) → FirstIn P x l → FirstIn R x l
 first_map g f = record {
@@ -63,7 +57,7 @@ module _ (h : ℕ) (L : Listing) where
     entry_tells x one miss =
         let l = back L.ends L.inc w x in
         tells_cond N (ltb x w.size) _ _
-        (λ e. tells_on N (not (has l i)) _ (λ f. one (ltb-true _ _ e) ((has_no i l).0 (not_true _ f))))
+        (λ e. tells_on N (not (has l i)) _ (λ f. one (ltb-true _ _ e) ((has_no i l).0 (not-true _ f))))
         (λ e z. miss (ltb-false _ _ e))
 
     -- along a list: what the refusals come to
@@ -82,7 +76,7 @@ module _ (h : ℕ) (L : Listing) where
       → Tell (on (t && eqb (length list) 0) a)
   none_tells t list a g =
       tells_on N (t && eqb (length list) 0) a
-      (λ e. let p = and_true _ _ e in g p.0 (none_in list (eqb-true _ _ p.1)))
+      (λ e. let p = and_true _ _ e in g p.0 (nil_from_length list (eqb-true _ _ p.1)))
 
   module _ (r i : ℕ) (F : FirstAt L 0 (IncidentAt L) r i) where
     lower_tells : Tell (lower L r i)
