@@ -1,7 +1,9 @@
-// From two texts to the text of a product. Each step lends what it has on to the next: a function with many arrays is
-// slow to check.
+// From two texts to the text of a product. Each cell is read into arrays of its own and lent on.
+ghost use Rattle.std.specs.Prelude.{◌<◌};
+
 use crate::say;
-use listing::{Built, Index, inner, limit, refusal};
+use listing::{Index, Refusal, Slices, limit};
+use listing_outputs::outputs;
 use product::make;
 use product_places::Poles;
 use std::io;
@@ -10,171 +12,80 @@ use std::io;
 const ROOM: usize = 2 * limit::TEXT;
 
 // The text of a cell, or why it has none.
-fn written(rt: &impl Print, counts: &[Index], ends: &[Index], inc: &[Index]) -> io::Result<()> {
+fn written(rt: &impl Print, slices: Slices<'_>) -> io::Result<()> {
     let mut text: [u8; ROOM] = [0; ROOM];
-    let w = text::write_text(counts, ends, inc, &mut text);
-    if w.answer.no != 0 {
-        return say::of_cell(rt, w.answer, counts);
+    match text::write_text(slices, &mut text) {
+        Ok(n) => rt.write_all(&text[..n]),
+        Err(why) => say::of_cell(rt, why, slices.counts),
     }
-    rt.write_all(&text[..w.length])
-}
-
-// The text of what a product left in its slices.
-fn built(
-    rt: &impl Print,
-    b: Built,
-    counts: &[Index],
-    ends: &[Index],
-    inc: &[Index],
-) -> io::Result<()> {
-    written(
-        rt,
-        inner::front(counts, b.counts as usize),
-        inner::front(ends, b.ends as usize),
-        inner::front(inc, b.inc as usize),
-    )
 }
 
 // Why a product is refused: where it is for a factor, with what is_valid says of it.
-fn refused(
-    rt: &impl Print,
-    b: Built,
-    pcounts: &[Index],
-    pends: &[Index],
-    pinc: &[Index],
-    qcounts: &[Index],
-    qends: &[Index],
-    qinc: &[Index],
-) -> io::Result<()> {
-    let no = b.answer.no;
-    if no == refusal::LEFT_INVALID {
-        say::of_factor(
+fn refused(rt: &impl Print, why: Refusal, p: Slices<'_>, q: Slices<'_>) -> io::Result<()> {
+    match why {
+        Refusal::LeftInvalid => say::of_factor(
             rt,
-            no,
+            why,
             b" the first cell is not valid: ",
-            valid::is_valid(pcounts, pends, pinc),
-            pcounts,
-        )
-    } else if no == refusal::RIGHT_INVALID {
-        say::of_factor(
+            valid::is_valid(p),
+            p.counts,
+        ),
+        Refusal::RightInvalid => say::of_factor(
             rt,
-            no,
+            why,
             b" the second cell is not valid: ",
-            valid::is_valid(qcounts, qends, qinc),
-            qcounts,
-        )
-    } else {
-        say::of_cell(rt, b.answer, pcounts)
+            valid::is_valid(q),
+            q.counts,
+        ),
+        _ => say::of_cell(rt, why, p.counts),
     }
 }
 
 // The product of two cells.
-fn product(
-    rt: &impl Print,
-    poles: Poles,
-    pcounts: &[Index],
-    pends: &[Index],
-    pinc: &[Index],
-    qcounts: &[Index],
-    qends: &[Index],
-    qinc: &[Index],
-) -> io::Result<()> {
+fn product(rt: &impl Print, poles: Poles, p: Slices<'_>, q: Slices<'_>) -> io::Result<()> {
     let mut counts: [Index; limit::RANKS] = [0; limit::RANKS];
     let mut ends: [Index; limit::ENDS] = [0; limit::ENDS];
     let mut inc: [Index; limit::INCIDENCES] = [0; limit::INCIDENCES];
-    let b = make::make(
-        poles.min,
-        poles.max,
-        pcounts,
-        pends,
-        pinc,
-        qcounts,
-        qends,
-        qinc,
-        &mut counts,
-        &mut ends,
-        &mut inc,
-    );
-    if b.answer.no != 0 {
-        refused(rt, b, pcounts, pends, pinc, qcounts, qends, qinc)
-    } else {
-        built(rt, b, &counts, &ends, &inc)
+    match make::make(poles, p, q, &mut counts, &mut ends, &mut inc) {
+        Ok(n) => {
+            let slices = Slices {
+                counts: &counts,
+                ends: &ends,
+                inc: &inc,
+            };
+            written(rt, outputs::written(slices, n))
+        }
+        Err(why) => refused(rt, why, p, q),
     }
 }
 
-// The product of a cell, and of what was read of the second text.
-fn with_second(
-    rt: &impl Print,
-    poles: Poles,
-    pcounts: &[Index],
-    pends: &[Index],
-    pinc: &[Index],
-    b: Built,
-    counts: &[Index],
-    ends: &[Index],
-    inc: &[Index],
-) -> io::Result<()> {
-    product(
-        rt,
-        poles,
-        pcounts,
-        pends,
-        pinc,
-        inner::front(counts, b.counts as usize),
-        inner::front(ends, b.ends as usize),
-        inner::front(inc, b.inc as usize),
-    )
-}
-
-// The product of a cell, and of the one in the second text.
-fn second(
-    rt: &impl Print,
-    poles: Poles,
-    pcounts: &[Index],
-    pends: &[Index],
-    pinc: &[Index],
-    said: &[u8],
-) -> io::Result<()> {
+// Lends the cell in a text, which is called so; or says why there is none.
+fn with_cell<F>(rt: &impl Print, said: &[u8], called: &[u8], lend: F) -> io::Result<()>
+where
+    F: FnOnce(Slices<'_>) -> io::Result<()>,
+    requires { F.IsAlwaysCallable lend }
+{
     let mut counts: [Index; limit::RANKS] = [0; limit::RANKS];
     let mut ends: [Index; limit::ENDS] = [0; limit::ENDS];
     let mut inc: [Index; limit::INCIDENCES] = [0; limit::INCIDENCES];
-    let b = text::read_text(said, &mut counts, &mut ends, &mut inc);
-    if b.answer.no != 0 {
-        say::of_text(rt, b" the second text: ", b.answer)
-    } else {
-        with_second(rt, poles, pcounts, pends, pinc, b, &counts, &ends, &inc)
+    match text::read_text(said, &mut counts, &mut ends, &mut inc) {
+        Ok(n) => {
+            let slices = Slices {
+                counts: &counts,
+                ends: &ends,
+                inc: &inc,
+            };
+            lend(outputs::written(slices, n))
+        }
+        Err(why) => say::of_text(rt, called, why),
     }
-}
-
-// The product of what was read of the first text, and of the cell in the second.
-fn with_first(
-    rt: &impl Print,
-    poles: Poles,
-    b: Built,
-    counts: &[Index],
-    ends: &[Index],
-    inc: &[Index],
-    other: &[u8],
-) -> io::Result<()> {
-    second(
-        rt,
-        poles,
-        inner::front(counts, b.counts as usize),
-        inner::front(ends, b.ends as usize),
-        inner::front(inc, b.inc as usize),
-        other,
-    )
 }
 
 // The product of the cells in two texts.
-pub fn first(rt: &impl Print, poles: Poles, said: &[u8], other: &[u8]) -> io::Result<()> {
-    let mut counts: [Index; limit::RANKS] = [0; limit::RANKS];
-    let mut ends: [Index; limit::ENDS] = [0; limit::ENDS];
-    let mut inc: [Index; limit::INCIDENCES] = [0; limit::INCIDENCES];
-    let b = text::read_text(said, &mut counts, &mut ends, &mut inc);
-    if b.answer.no != 0 {
-        say::of_text(rt, b" the first text: ", b.answer)
-    } else {
-        with_first(rt, poles, b, &counts, &ends, &inc, other)
-    }
+pub fn of_texts(rt: &impl Print, poles: Poles, first: &[u8], second: &[u8]) -> io::Result<()> {
+    with_cell(rt, first, b" the first text: ", |p| {
+        with_cell(rt, second, b" the second text: ", |q| {
+            product(rt, poles, p, q)
+        })
+    })
 }

@@ -21,7 +21,7 @@ const NAME: usize = 16;
 // The two texts, told apart, and the product of their cells.
 fn of_two(rt: &impl Print, poles: Poles, both: &[u8]) -> io::Result<()> {
     let at = two::first_of_two(both);
-    build::first(rt, poles, &both[0..at], &both[at..])
+    build::of_texts(rt, poles, &both[..at], &both[at..])
 }
 
 // What standard input has.

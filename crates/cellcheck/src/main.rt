@@ -2,7 +2,7 @@
 // answers: 0 where the text says a closed listing.
 #![tactic(auto)]
 
-use listing::limit;
+use listing::{Answer, limit};
 use std::io;
 
 // So many bytes are read: one more than a text may have, so that a longer one is refused.
@@ -11,8 +11,8 @@ const ROOM: usize = limit::TEXT + 1;
 fn main(rt: HostRuntime) -> io::Result<()> {
     let mut room: [u8; ROOM] = [0; ROOM];
     let n = lent_input::read_full(&mut rt.stdin(), &mut room);
-    let no = text::check_text(&room[..n]);
+    let checked = Answer::from(text::check_text(&room[..n]));
     rt.write_all(b"closed=")?;
-    rt.print(no as u64)?;
+    rt.print(checked.no)?;
     rt.write_all(b"\n")
 }

@@ -1,13 +1,15 @@
 -- A dual answers the number of the first rule that is broken; where none is, the listing is closed and there is room.
 -- Assumes nothing.
-use mathlib.Core.Path.{◌≡◌, sym, ap, ◌∙◌}
+use mathlib.Core.Path.{◌≡◌, refl, sym, ap, ◌∙◌}
 use Prim.Native.Nat.{ℕ}
 use native.Mathlib.Omega.{arith}
 use Rattle.listing.specs.declared.Answer.{Answer}
 use Rattle.listing.specs.Listing.{Listing, Limits, limits}
 use Rattle.listing.specs.Shape.{Shaped}
 use Rattle.listing.specs.Rules.{FirstBroken}
-use Rattle.listing.proofs.Answers.{or_no, no_of, then_go}
+use Rattle.listing.specs.Answers.{fine}
+use Rattle.listing.proofs.Answers.{or_no, no_of}
+use Rattle.listing.proofs.Told.{then_ok}
 use Rattle.listing.proofs.Broken.{broken_last}
 use Rattle.listing_outputs.specs.declared.outputs.Room.{Room}
 use Rattle.listing_outputs.specs.Output.{Fits, need_of, short_test}
@@ -44,22 +46,22 @@ module _ (L : Listing) (S : Shaped limits L) where
       λ u. record { counts = sym n u; ends = sym e u; inc = sym i u }
 
 -- the shape, once `closed` lets the listing pass
-pub passed_shaped : (L : Listing) (c : Answer) → c ≡ closed limits L → c.no ≡ 0 → Shaped limits L
-passed_shaped L c e z = ((closed_exact limits L).0 (no_of e z)).shaped
+pub passed_shaped : (L : Listing) → fine ≡ closed limits L → Shaped limits L
+passed_shaped L e = ((closed_exact limits L).0 (no_of e refl)).shaped
 
 -- with that, the room test is what is answered
-module _ (L : Listing) (c t : Answer) (room : Room) (ec : c ≡ closed limits L) (zc : c.no ≡ 0)
+module _ (L : Listing) (t : Answer) (room : Room) (ec : fine ≡ closed limits L)
     (et : t ≡ short_test (need_of L) room) where
   pub room_answered : t ≡ dual_test limits L room.counts room.ends room.inc
   unfolding dual_test
   room_answered =
-      then_go ec zc (et ∙ ap (λ (n : Room). short_test n room) (same_need L (passed_shaped L c ec zc)))
+      then_ok _ ec t (et ∙ ap (λ (n : Room). short_test n room) (same_need L (passed_shaped L ec)))
 
   -- and where it lets it pass, the listing itself would fit
   pub room_there : t.no ≡ 0 → Fits L room.counts room.ends room.inc
   room_there z =
       let f = (dual_passed limits L _ _ _ (no_of room_answered z)).1 in
-      let S = passed_shaped L c ec zc in (
+      let S = passed_shaped L ec in (
         omega (arith, f.0, dual_counts_length L S),
         omega (arith, f.1, dual_ends_length L S),
         omega (arith, f.2, dual_inc_length L S),

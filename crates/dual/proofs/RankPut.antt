@@ -9,12 +9,11 @@ use lib.ListN.{length, get_or}
 use Rattle.order.specs.Sums.{sum}
 use Rattle.order.specs.Lists.{over}
 use Rattle.order.proofs.Sums.{sum_none, sum_le, sum_same}
-use Rattle.listing.specs.Listing.{Listing, rank, before, width, limits, Ends}
+use Rattle.listing.specs.Listing.{Listing, rank, before, width, limits}
 use Rattle.listing.specs.Shape.{Shaped}
 use Rattle.listing.specs.Written.{lengths, written}
 use Rattle.listing.proofs.Listing.{before_next}
 use Rattle.listing.proofs.Places.{rank_fits}
-use Rattle.listing.proofs.ShapeExact.{shaped_ends}
 use Rattle.listing.proofs.Written.{lists}
 use Rattle.dual_theory.specs.Dual.{dual_size, dual_layers, dual_of}
 use Rattle.dual_theory.proofs.DualLists.{dual_next, dual_elements, dual_lists, dual_lengths}
@@ -64,8 +63,8 @@ module _ (L : Listing) (S : Shaped limits L) (k here w n : ℕ) (h : k < length 
   module _ (ends inc ends' inc' : List ℕ) (p : Place)
       (a : ListsPut (dual_list L) (put_of L (k + 1)) none ends inc ends' inc' p) where
     -- there is room for it
-    pub rank_ends : Ends L.ends L.inc × (2 * (here - w + n) ≤ length L.ends)
-    rank_ends = (shaped_ends L S, omega (arith, rank_fits L S k, begins))
+    pub rank_there : 2 * (here - w + n) ≤ length L.ends
+    rank_there = omega (arith, rank_fits L S k, begins)
 
     pub rank_ends_room : length L.ends ≤ length ends → p.ends + 2 * n ≤ length ends'
     rank_ends_room r = ends_room (dual_list L) _ _ _ _ _ _ _ a (2 * n) _ few (omega arith)

@@ -1,15 +1,14 @@
-// The dual of a shaped listing, written into lent slices that have room for it: the counts, and then, rank by rank from
+// The dual of a cell, written into lent slices that have room for it: the counts, and then, rank by rank from
 // the highest down, the sups and the subs of each element.
 ghost use Rattle.std.specs.Prelude.{◌≡◌, ◌+◌, ◌*◌, ◌≤◌, ◌<◌, length};
 ghost use Rattle.order.specs.Sums.{sum};
 ghost use Rattle.order.specs.Lists.{over};
-ghost use Rattle.listing.specs.Listing.{held, width, limits, Ends};
-ghost use Rattle.listing.specs.Shape.{Shaped};
+ghost use Rattle.listing.specs.Listing.{held, width};
 ghost use Rattle.listing.specs.Written.{lengths};
 ghost use Rattle.dual_theory.specs.Dual.{dual_of};
 ghost use Rattle.dual.specs.Writing.{reversed, turned_from, ListsPut};
 
-use listing::{Index, inner};
+use listing::{Cell, Index};
 
 // How many ends stand, and how many numbers of lists.
 #[derive(Clone, Copy)]
@@ -36,72 +35,55 @@ fn put_list(list: &[Index], ends: &mut [Index], inc: &mut [Index], p: Place) -> 
 }
 
 // Writes the lists of an element of the dual: the sups and then the subs of the one at place `at`.
-fn put_element(
-    pends: &[Index],
-    pinc: &[Index],
-    at: usize,
-    ends: &mut [Index],
-    inc: &mut [Index],
-    p: Place,
-) -> Place
-    requires ends { Ends pends.now pinc.now × (2 * at + 1 < length pends.now) }
+fn put_element(cell: Cell<'_>, at: usize, ends: &mut [Index], inc: &mut [Index], p: Place) -> Place
+    requires at_there { 2 * at + 1 < length cell.slices.ends.now }
     requires ends_in_bounds { p.ends + 2 ≤ length ends.old }
-    requires at_in_bounds { (p.inc + sum (lengths (turned_from pends.now pinc.now at)) 2 ≤ length inc.old)
-        × (p.inc + sum (lengths (turned_from pends.now pinc.now at)) 2 < width) }
-    ensures { ListsPut (turned_from pends.now pinc.now at) 2 p
+    requires at_in_bounds { (p.inc + sum (lengths (turned_from cell.slices.ends.now cell.slices.inc.now at)) 2 ≤ length inc.old)
+        × (p.inc + sum (lengths (turned_from cell.slices.ends.now cell.slices.inc.now at)) 2 < width) }
+    ensures { ListsPut (turned_from cell.entry.slices.ends.now cell.entry.slices.inc.now at) 2 p
         ends.old inc.old ends.new inc.new result }
 {
-    let sups = inner::list_of(pends, pinc, 2 * at + 1);
-    let subs = inner::list_of(pends, pinc, 2 * at);
-    let q = put_list(sups, &mut *ends, &mut *inc, p);
-    put_list(subs, &mut *ends, &mut *inc, q)
+    let sups = cell.list_of(2 * at + 1);
+    let subs = cell.list_of(2 * at);
+    let q = put_list(sups, ends, inc, p);
+    put_list(subs, ends, inc, q)
 }
 
 // Writes the lists of the n elements that stand from place `here` on, the first of them first.
 fn put_rank(
-    pends: &[Index],
-    pinc: &[Index],
+    cell: Cell<'_>,
     here: usize,
     n: Index,
     ends: &mut [Index],
     inc: &mut [Index],
     p: Place,
 ) -> Place
-    requires ends { Ends pends.now pinc.now × (2 * (here + n) ≤ length pends.now) }
+    requires n_there { 2 * (here + n) ≤ length cell.slices.ends.now }
     requires n_in_bounds { p.ends + 2 * n ≤ length ends.old }
-    requires n_in_bounds_2 { (p.inc + sum (lengths (turned_from pends.now pinc.now here)) (2 * n) ≤ length inc.old)
-        × (p.inc + sum (lengths (turned_from pends.now pinc.now here)) (2 * n) < width) }
-    ensures { ListsPut (turned_from pends.now pinc.now here) (2 * n) p
+    requires n_in_bounds_2 { (p.inc + sum (lengths (turned_from cell.slices.ends.now cell.slices.inc.now here)) (2 * n) ≤ length inc.old)
+        × (p.inc + sum (lengths (turned_from cell.slices.ends.now cell.slices.inc.now here)) (2 * n) < width) }
+    ensures { ListsPut (turned_from cell.entry.slices.ends.now cell.entry.slices.inc.now here) (2 * n) p
         ends.old inc.old ends.new inc.new result }
 {
     let mut q = p;
     for k in 0..n {
-        let at = here + inner::wide(k);
-        q = put_element(pends, pinc, at, &mut *ends, &mut *inc, q);
+        let at = here + usize::from(k);
+        q = put_element(cell, at, ends, inc, q);
     }
     q
 }
 
 // Writes all lists, from the highest rank down.
-pub fn put_lists(
-    pcounts: &[Index],
-    pends: &[Index],
-    pinc: &[Index],
-    ends: &mut [Index],
-    inc: &mut [Index],
-)
-    requires shaped { Shaped limits (held pcounts pends pinc) }
-    requires pends_in_bounds { (length pends.now ≤ length ends.old) × (length pinc.now ≤ length inc.old) }
-    ensures ends_after { ends.new
-        ≡ over (dual_of (held pcounts.entry pends.entry pinc.entry)).ends ends.old }
-    ensures inc_after { inc.new
-        ≡ over (dual_of (held pcounts.entry pends.entry pinc.entry)).inc inc.old }
+pub fn put_lists(cell: Cell<'_>, ends: &mut [Index], inc: &mut [Index])
+    requires { (length cell.slices.ends.now ≤ length ends.old) × (length cell.slices.inc.now ≤ length inc.old) }
+    ensures ends_after { ends.new ≡ over (dual_of (held cell.entry.slices)).ends ends.old }
+    ensures inc_after { inc.new ≡ over (dual_of (held cell.entry.slices)).inc inc.old }
 {
     let mut p = Place { ends: 0, inc: 0 };
-    let mut here = pends.len() / 2;
-    for &n in pcounts.iter().rev() {
-        here -= inner::wide(n);
-        p = put_rank(pends, pinc, here, n, &mut *ends, &mut *inc, p);
+    let mut here = cell.slices.ends.len() / 2;
+    for &n in cell.slices.counts.iter().rev() {
+        here -= usize::from(n);
+        p = put_rank(cell, here, n, ends, inc, p);
     }
 }
 

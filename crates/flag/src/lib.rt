@@ -1,19 +1,22 @@
 // Flags: chains of elements from the lowest rank to the highest. Here are the change of a flag and its orientation.
 #![tactic(auto)]
 
+pub mod crossing;
 pub mod made;
 pub mod parity;
 
-ghost use Rattle.std.specs.Prelude.{◌≡◌};
+ghost use Rattle.std.specs.Prelude.{◌≡◌, IfOk};
 ghost use Rattle.listing.specs.Listing.{held, limits};
-ghost use Rattle.flag.specs.Changed.{change_test, changed_of};
+ghost use Rattle.listing.specs.Told.{told};
+ghost use Rattle.flag.specs.Changed.{change_test, changed_of, told_changed};
 ghost use Rattle.flag.specs.Orientations.{byte_of, of_byte, flip_of, sign_of};
 
+use crate::made::Change;
 use flag_change::chain;
-use listing::{Answer, Index, inner, limit, refusal};
+use listing::{Answer, Index, Refusal, Slices, limit};
+use valid::ClosedCell;
 
-// What a change answers: a refusal or 0; the new flag, 0 above the top; and what was replaced, the index that the
-// change took out and the one that it put in.
+// What a change answers: a refusal or 0; and the numbers of the change, all 0 on a refusal.
 #[repr(C)]
 #[derive(Clone, Copy)]
 pub struct Changed {
@@ -24,41 +27,27 @@ pub struct Changed {
 }
 
 // The refusals of a change: those of the closed test, 20, 21.
-fn check_change(counts: &[Index], ends: &[Index], inc: &[Index], flag: &[Index], r: u16) -> Answer
-    ensures { result ≡ change_test limits (held counts.entry ends.entry inc.entry)
-        flag.now r }
+#[tactic(auto, using(listing::proofs::Told::steps, crate::proofs::ChangeAnswers::ranks), unfolding(crate::specs::Changed::change_test))]
+fn check_change<'a>(slices: Slices<'a>, flag: &[Index], r: u16) -> Result<ClosedCell<'a>, Refusal>
+    ensures value { told result ≡ change_test limits (held slices.entry) flag.now r }
+    ensures same { IfOk result (λ cell. cell.slices ≡ slices.entry) }
 {
-    let a = chain::check_flag(counts, ends, inc, flag);
-    if a.no != 0 {
-        return a;
+    let cell = chain::check_flag(slices, flag)?;
+    let rank = slices.counts.len() - 1;
+    if r == 0 || rank <= usize::from(r) {
+        return Err(Refusal::OutsideRanks);
     }
-    let rank = counts.len() - 1;
-    if r == 0 {
-        return inner::plain(refusal::OUTSIDE_RANKS);
-    }
-    if rank <= inner::wide(r) {
-        return inner::plain(refusal::OUTSIDE_RANKS);
-    }
-    inner::plain(0)
+    Ok(cell)
 }
 
 // The change of a flag at rank r: of the two elements between those at the ranks r - 1 and r + 1, the other one is put
-// in. The new flag has room for the most ranks, 0 above the top; on a refusal all numbers are 0.
-pub fn change(counts: &[Index], ends: &[Index], inc: &[Index], flag: &[Index], r: u16) -> Changed
-    ensures { result ≡ changed_of limits (held counts.entry ends.entry inc.entry)
-        flag.now r }
+// in. The new flag has room for the most ranks, 0 above the top.
+#[tactic(auto, using(crate::proofs::ChangeAnswers::answers))]
+pub fn change(slices: Slices<'_>, flag: &[Index], r: u16) -> Result<Change, Refusal>
+    ensures { told_changed result ≡ changed_of limits (held slices.entry) flag.now r }
 {
-    let answer = check_change(counts, ends, inc, flag, r);
-    if answer.no != 0 {
-        let none: [Index; limit::RANKS] = [0; limit::RANKS];
-        return Changed {
-            answer,
-            flag: none,
-            taken: 0,
-            put: 0,
-        };
-    }
-    made::changed_at(counts, ends, inc, flag, inner::wide(r))
+    let cell = check_change(slices, flag, r)?;
+    Ok(made::changed_at(cell, flag, usize::from(r)))
 }
 
 // The parity of a flag, which each change flips.
@@ -89,24 +78,28 @@ impl Orientation {
             Orientation::Odd => -1.0,
         }
     }
+}
 
-    // Its byte, as a search stores it.
+// The byte of a parity, as a search stores it.
+impl From<Orientation> for u8 {
     #[tactic(auto, unfolding(crate::specs::Orientations::byte_of))]
-    pub fn byte(self) -> u8
-        ensures { result ≡ byte_of self }
+    fn from(parity: Orientation) -> u8
+        ensures { result ≡ byte_of parity }
     {
-        match self {
+        match parity {
             Orientation::Even => 0,
             Orientation::Odd => 1,
         }
     }
+}
 
-    // The parity that a byte stands for: 0 even, any other odd.
+// The parity that a byte stands for: 0 even, any other odd.
+impl From<u8> for Orientation {
     #[tactic(auto, unfolding(crate::specs::Orientations::of_byte))]
-    pub fn of_byte(b: u8) -> Orientation
-        ensures { result ≡ of_byte b }
+    fn from(byte: u8) -> Orientation
+        ensures { result ≡ of_byte byte }
     {
-        if b == 0 {
+        if byte == 0 {
             return Orientation::Even;
         }
         Orientation::Odd

@@ -8,5 +8,5 @@ use crate::Orientation;
 pub fn flipped(byte: u8) -> u8
     ensures { result ≡ 1 - byte }
 {
-    Orientation::of_byte(byte).flip().byte()
+    u8::from(Orientation::from(byte).flip())
 }

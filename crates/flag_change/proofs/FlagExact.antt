@@ -12,8 +12,9 @@ use lib.ListN.{length, get_or}
 use Rattle.order.specs.Lists.{has}
 use Rattle.order.proofs.Lists.{has_yes}
 use Rattle.order.specs.Tests.{every}
-use Rattle.order.proofs.Tests.{and_true, every_each, every_all}
+use Rattle.order.proofs.Tests.{and_true, every_next, every_each, every_all, every_stop}
 use Rattle.listing.specs.Listing.{Listing, count, subs}
+use Rattle.listing.proofs.Listing.{before_zero, before_next}
 use Rattle.flag_change.specs.Flags.{flag_at, flag_test, IsFlag}
 
 -- ---- the test at one rank, and as a whole
@@ -39,6 +40,11 @@ module _ (L : Listing) (f : List ℕ) where
   pub same_length : length f ≡ length L.counts → flag_test L f ≡ every (flag_at L f) (length L.counts)
   unfolding flag_test
   same_length h = rw (eq-eqb _ _ h)
+
+  -- a rank at which it fails
+  pub stops_at : length f ≡ length L.counts → (r : ℕ) → r < length L.counts → flag_at L f r ≡ false
+      → flag_test L f ≡ false
+  stops_at e r h z = same_length e ∙ every_stop (flag_at L f) (length L.counts) r h z
 
   -- ---- exactness
 
@@ -84,5 +90,8 @@ module _ (L : Listing) (f : List ℕ) where
   pub flag_exact : flag_test L f ≡ true ↔ IsFlag L f
   flag_exact = (is_flag_by, flag_by)
 
--- what the test answers at one rank, and on the way along the ranks
-pub ruleset flag_answers = (missing_at, lowest_at, higher_at, other_length, same_length)
+-- what the test answers at one rank
+pub ruleset flag_answers = (missing_at, lowest_at, higher_at)
+
+-- what it answers on the way along the ranks
+pub ruleset flag_walk = (other_length, same_length, stops_at, every_next, before_zero, before_next)

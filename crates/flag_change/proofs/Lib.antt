@@ -2,6 +2,7 @@ pub mod FlagExact
 pub mod StartExact
 pub mod Common
 pub mod Padding
+pub mod Neighbours
 pub mod Replaced
 pub mod Changes
 pub mod Across

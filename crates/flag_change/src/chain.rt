@@ -1,15 +1,14 @@
-// What the entries, and the crates above, call to test a chain of elements and to change it at one rank. Some of these
-// functions ask that the listing is known to be shaped.
-ghost use Rattle.std.specs.Prelude.{◌≡◌, ◌+◌, ◌-◌, ◌≤◌, ◌<◌, length};
+// What the entries, and the crates above, call to test a chain of elements and to change it at one rank.
+ghost use Rattle.std.specs.Prelude.{◌≡◌, ◌+◌, ◌-◌, ◌≤◌, ◌<◌, length, IfOk};
 ghost use Rattle.order.specs.Lists.{Ascending};
 ghost use Rattle.listing.specs.Listing.{held, limits, before};
-ghost use Rattle.listing.specs.Shape.{Shaped};
-ghost use Rattle.valid.specs.Ascent.{Ascends};
+ghost use Rattle.listing.specs.Told.{told};
 ghost use Rattle.flag_change.specs.Flags.{flag_at, flag_test, start_test};
 ghost use Rattle.flag_change.specs.Change.{common, other, replaced_at, padded, Flanked};
 
-use listing::{Answer, Index, inner, limit, refusal};
+use listing::{Cell, Index, Refusal, Side, Slices, limit};
 use listing_membership::members;
+use valid::ClosedCell;
 
 // What a change replaces: the index that it takes out of a flag, and the one that it puts in.
 #[derive(Clone, Copy)]
@@ -19,69 +18,55 @@ pub struct Replaced {
 }
 
 // Whether an index that exists stands in the flag at rank r, which begins at place here, and over what stands below it.
-#[tactic(auto, using(crate::proofs::FlagExact::flag_answers))]
-fn stands_at(
-    counts: &[Index],
-    ends: &[Index],
-    inc: &[Index],
-    flag: &[Index],
-    here: usize,
-    r: usize,
-) -> bool
-    requires shaped { Shaped limits (held counts ends inc) }
-    requires here_value { (here ≡ before counts.now r) × (r < length counts.now) }
-    requires flag_len { length flag.now ≡ length counts.now }
-    ensures { result ≡ flag_at (held counts.entry ends.entry inc.entry)
-        flag.now r }
+#[tactic(auto, using(listing::proofs::InCell::places, crate::proofs::FlagExact::flag_answers))]
+fn stands_at(cell: Cell<'_>, flag: &[Index], here: usize, r: usize) -> bool
+    requires here_value { (here ≡ before cell.slices.counts.now r) × (r < length cell.slices.counts.now) }
+    requires flag_len { length flag.now ≡ length cell.slices.counts.now }
+    ensures { result ≡ flag_at (held cell.entry.slices) flag.now r }
 {
     let x = flag[r];
-    if counts[r] <= x {
+    if cell.slices.counts[r] <= x {
         return false;
     }
     if r == 0 {
         return true;
     }
-    members::contains(inner::side_of(ends, inc, here, x, 0), flag[r - 1])
+    members::contains(cell.side_of(here, x, Side::Subs), flag[r - 1])
 }
 
 // Whether the numbers are a flag: one existing index per rank, each a sub of the next.
-#[tactic(auto, using(crate::proofs::FlagExact::flag_answers))]
-pub fn is_flag(counts: &[Index], ends: &[Index], inc: &[Index], flag: &[Index]) -> bool
-    requires { Shaped limits (held counts ends inc) }
-    ensures { result ≡ flag_test (held counts.entry ends.entry inc.entry)
-        flag.now }
+#[tactic(auto, using(listing::proofs::InCell::places, crate::proofs::FlagExact::flag_walk), unfolding(order::specs::Tests::every))]
+pub fn is_flag(cell: Cell<'_>, flag: &[Index]) -> bool
+    ensures { result ≡ flag_test (held cell.entry.slices) flag.now }
 {
+    let counts = cell.slices.counts;
     if flag.len() != counts.len() {
         return false;
     }
     let mut here: usize = 0;
     for (r, &size) in counts.iter().enumerate() {
-        if !stands_at(counts, ends, inc, flag, here, r) {
+        if !stands_at(cell, flag, here, r) {
             return false;
         }
-        here += inner::wide(size);
+        here += usize::from(size);
     }
     true
 }
 
 // What a change or a search asks before all else: the closed test, and that the numbers are a flag.
-#[tactic(auto, using(crate::proofs::StartExact::start_answers))]
-pub fn check_flag(counts: &[Index], ends: &[Index], inc: &[Index], flag: &[Index]) -> Answer
-    ensures { result ≡ start_test limits (held counts.entry ends.entry inc.entry)
-        flag.now }
+#[tactic(auto, using(listing::proofs::Told::steps), unfolding(crate::specs::Flags::start_test))]
+pub fn check_flag<'a>(slices: Slices<'a>, flag: &[Index]) -> Result<ClosedCell<'a>, Refusal>
+    ensures value { told result ≡ start_test limits (held slices.entry) flag.now }
+    ensures same { IfOk result (λ closed. closed.slices ≡ slices.entry) }
 {
-    let a = valid::closed(counts, ends, inc);
-    if a.no != 0 {
-        return a;
+    let closed = valid::closed(slices)?;
+    if !is_flag(closed.cell(), flag) {
+        return Err(Refusal::NotAFlag);
     }
-    if is_flag(counts, ends, inc, flag) {
-        return inner::plain(0);
-    }
-    inner::plain(refusal::NOT_A_FLAG)
+    Ok(closed)
 }
 
 // The first number of one list that another, ascending one holds too and that is not e; 0 where there is none.
-
 fn other_among(short: &[Index], long: &[Index], e: Index) -> Index
     requires { Ascending long.now }
     ensures { result ≡ other e (common short.now long.now) }
@@ -108,24 +93,21 @@ fn other_between(below: &[Index], above: &[Index], e: Index) -> Index
 
 // What the change at rank r replaces: the flag's own element there, and the other of the two between those at the ranks
 // r - 1, which begins at place low, and r + 1, which begins at place high.
+#[tactic(auto, using(crate::proofs::Neighbours::neighbours))]
 pub fn replaced_at(
-    counts: &[Index],
-    ends: &[Index],
-    inc: &[Index],
+    cell: ClosedCell<'_>,
     flag: &[Index],
     r: usize,
     low: usize,
     high: usize,
 ) -> Replaced
-    requires shaped { Shaped limits (held counts ends inc) }
-    requires ascends { Ascends (held counts ends inc) }
-    requires low_value { (low ≡ before counts.now (r - 1)) × (high ≡ before counts.now (r + 1)) }
-    requires flanked { Flanked (held counts ends inc) flag.now r }
-    ensures { result ≡ replaced_at (held counts.entry ends.entry inc.entry) r
-        flag.now }
+    requires low_value { (low ≡ before cell.slices.counts.now (r - 1))
+        × (high ≡ before cell.slices.counts.now (r + 1)) }
+    requires flanked { Flanked (held cell.slices) flag.now r }
+    ensures { result ≡ replaced_at (held cell.entry.slices) r flag.now }
 {
-    let below = inner::side_of(ends, inc, low, flag[r - 1], 1);
-    let above = inner::side_of(ends, inc, high, flag[r + 1], 0);
+    let below = cell.slices.side_of(low, flag[r - 1], Side::Sups);
+    let above = cell.slices.side_of(high, flag[r + 1], Side::Subs);
     let taken = flag[r];
     let put = other_between(below, above, taken);
     Replaced { taken, put }

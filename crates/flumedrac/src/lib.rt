@@ -5,7 +5,7 @@
 ghost use Rattle.std.specs.Prelude.{◌≡◌, true, false, length};
 ghost use Rattle.listing.specs.Refusals.{band, band_no};
 ghost use Rattle.listing_shape.specs.Counts.{rank_of, el_count_of, vertex_count_of, facet_count_of};
-ghost use Rattle.listing.specs.Listing.{listing, held, limits};
+ghost use Rattle.listing.specs.Listing.{listing, limits};
 ghost use Rattle.listing.specs.Layers.{layers};
 ghost use Rattle.listing_outputs.specs.Output.{Made};
 ghost use Rattle.valid.specs.Tests as tests;
@@ -22,8 +22,10 @@ ghost use Rattle.body.specs.Body.{body_by, body_table_after, body_bytes_after};
 ghost use Rattle.dual.specs.Duals.{DualMade};
 ghost use Rattle.volume.specs.Volumes.{volume_by, volume_table_after, volume_bytes_after, measured_of};
 
-use flag::Changed;
-use listing::{Answer, Built, Index, Number};
+use flag::{Changed, Orientation};
+use listing::{Answer, Built, Index, Number, Slices};
+use product::make;
+use product_places::Poles;
 use search::Searched;
 use search_events::{Cursor, Said};
 use text::Written;
@@ -32,25 +34,25 @@ use volume::Measured;
 pub fn fd_rank(counts: &[Index]) -> Number
     ensures { result ≡ rank_of counts.now }
 {
-    listing_shape::rank(counts)
+    Number::from(listing_shape::rank(counts))
 }
 
 pub fn fd_el_count(counts: &[Index], rank: usize) -> Number
     ensures { result ≡ el_count_of counts.now rank }
 {
-    listing_shape::el_count(counts, rank)
+    Number::from(listing_shape::el_count(counts, rank))
 }
 
 pub fn fd_vertex_count(counts: &[Index]) -> Number
     ensures { result ≡ vertex_count_of counts.now }
 {
-    listing_shape::vertex_count(counts)
+    Number::from(listing_shape::vertex_count(counts))
 }
 
 pub fn fd_facet_count(counts: &[Index]) -> Number
     ensures { result ≡ facet_count_of counts.now }
 {
-    listing_shape::facet_count(counts)
+    Number::from(listing_shape::facet_count(counts))
 }
 
 // The class of a refusal's number: 0 nothing, 1 shape, 2 structure, 3 flags, 4 products.
@@ -61,42 +63,42 @@ pub fn fd_class(no: u16) -> u16
 }
 
 pub fn fd_bounded(counts: &[Index], ends: &[Index], inc: &[Index]) -> Answer
-    ensures { result ≡ tests.bounded limits (held counts.entry ends.entry inc.entry) }
+    ensures { result ≡ tests.bounded limits (listing counts.now ends.now inc.now) }
 {
-    valid::bounded(counts, ends, inc)
+    Answer::from(valid::bounded(Slices { counts, ends, inc }))
 }
 
 pub fn fd_check_incidences(counts: &[Index], ends: &[Index], inc: &[Index]) -> Answer
     ensures { result ≡ tests.check_incidences limits
-        (held counts.entry ends.entry inc.entry) }
+        (listing counts.now ends.now inc.now) }
 {
-    valid::check_incidences(counts, ends, inc)
+    Answer::from(valid::check_incidences(Slices { counts, ends, inc }))
 }
 
 pub fn fd_is_dyadic(counts: &[Index], ends: &[Index], inc: &[Index]) -> Answer
     ensures { result ≡ tests.is_dyadic limits
-        (held counts.entry ends.entry inc.entry) }
+        (listing counts.now ends.now inc.now) }
 {
-    valid::is_dyadic(counts, ends, inc)
+    Answer::from(valid::is_dyadic(Slices { counts, ends, inc }))
 }
 
 pub fn fd_is_valid(counts: &[Index], ends: &[Index], inc: &[Index]) -> Answer
-    ensures { result ≡ tests.is_valid limits (held counts.entry ends.entry inc.entry) }
+    ensures { result ≡ tests.is_valid limits (listing counts.now ends.now inc.now) }
 {
-    valid::is_valid(counts, ends, inc)
+    Answer::from(valid::is_valid(Slices { counts, ends, inc }))
 }
 
 pub fn fd_closed(counts: &[Index], ends: &[Index], inc: &[Index]) -> Answer
-    ensures { result ≡ tests.closed limits (held counts.entry ends.entry inc.entry) }
+    ensures { result ≡ tests.closed limits (listing counts.now ends.now inc.now) }
 {
-    valid::closed(counts, ends, inc)
+    Answer::from(valid::closed(Slices { counts, ends, inc }))
 }
 
 pub fn fd_change(counts: &[Index], ends: &[Index], inc: &[Index], flag: &[Index], r: u16) -> Changed
-    ensures { result ≡ changed_of limits (held counts.entry ends.entry inc.entry)
+    ensures { result ≡ changed_of limits (listing counts.now ends.now inc.now)
         flag.now r }
 {
-    flag::change(counts, ends, inc, flag, r)
+    Changed::from(flag::change(Slices { counts, ends, inc }, flag, r))
 }
 
 // Writes the table and the orientations, which overlap no other slice that is lent here.
@@ -109,16 +111,22 @@ pub fn fd_search(
     table: &mut [Index],
     orientations: &mut [u8],
 ) -> Searched
-    ensures value { result ≡ searched_by limits (held counts.entry ends.entry inc.entry)
+    ensures value { result ≡ searched_by limits (listing counts.now ends.now inc.now)
         first.now mask table.old orientations.old }
     ensures table_after { table.new ≡ table_after limits
-        (held counts.entry ends.entry inc.entry) first.now mask
+        (listing counts.now ends.now inc.now) first.now mask
         table.old orientations.old }
     ensures orientations_after { orientations.new ≡ bytes_after limits
-        (held counts.entry ends.entry inc.entry) first.now mask
+        (listing counts.now ends.now inc.now) first.now mask
         table.old orientations.old }
 {
-    search::search(counts, ends, inc, first, mask, table, orientations)
+    Searched::from(search::search(
+        Slices { counts, ends, inc },
+        first,
+        mask,
+        table,
+        orientations,
+    ))
 }
 
 // Writes the table and the orientations, which overlap no other slice that is lent here.
@@ -129,14 +137,14 @@ pub fn fd_one_body(
     table: &mut [Index],
     orientations: &mut [u8],
 ) -> Searched
-    ensures value { result ≡ body_by limits (held counts.entry ends.entry inc.entry) table.old
+    ensures value { result ≡ body_by limits (listing counts.now ends.now inc.now) table.old
         orientations.old }
-    ensures table_after { table.new ≡ body_table_after limits (held counts.entry ends.entry inc.entry)
+    ensures table_after { table.new ≡ body_table_after limits (listing counts.now ends.now inc.now)
         table.old orientations.old }
-    ensures orientations_after { orientations.new ≡ body_bytes_after limits (held counts.entry ends.entry inc.entry)
+    ensures orientations_after { orientations.new ≡ body_bytes_after limits (listing counts.now ends.now inc.now)
         table.old orientations.old }
 {
-    body::one_body(counts, ends, inc, table, orientations)
+    Searched::from(body::one_body(Slices { counts, ends, inc }, table, orientations))
 }
 
 // Writes the table and the orientations, which overlap no other slice that is lent here. The answer crosses as two
@@ -150,22 +158,28 @@ pub fn fd_six_volume(
     table: &mut [Index],
     orientations: &mut [u8],
 ) -> Measured
-    ensures value { result ≡ measured_of (volume_by limits (held counts.entry ends.entry inc.entry)
+    ensures value { result ≡ measured_of (volume_by limits (listing counts.now ends.now inc.now)
         first.now coordinates.now table.old orientations.old) }
-    ensures table_after { table.new ≡ volume_table_after limits (held counts.entry ends.entry inc.entry)
+    ensures table_after { table.new ≡ volume_table_after limits (listing counts.now ends.now inc.now)
         first.now table.old orientations.old }
     ensures orientations_after { orientations.new ≡ volume_bytes_after limits
-        (held counts.entry ends.entry inc.entry) first.now table.old
+        (listing counts.now ends.now inc.now) first.now table.old
         orientations.old }
 {
-    volume::numbers(volume::six_volume(counts, ends, inc, first, coordinates, table, orientations))
+    Measured::from(volume::six_volume(
+        Slices { counts, ends, inc },
+        first,
+        coordinates,
+        table,
+        orientations,
+    ))
 }
 
 // The sign of an orientation byte: 1.0 for 0, -1.0 for any other.
 pub fn fd_sign(orientation: u8) -> f64
     ensures { result ≡ sign_of (of_byte orientation) }
 {
-    flag::Orientation::of_byte(orientation).sign()
+    Orientation::from(orientation).sign()
 }
 
 // The next event as two numbers; the cursor goes on, and stays past the last.
@@ -188,13 +202,21 @@ pub fn fd_duopyramid(
     inc: &mut [Index],
 ) -> Built
     ensures { Outcome limits false false
-        (held pcounts.entry pends.entry pinc.entry)
-        (held qcounts.entry qends.entry qinc.entry)
+        (listing pcounts.now pends.now pinc.now)
+        (listing qcounts.now qends.now qinc.now)
         (listing counts.old ends.old inc.old) (listing counts.new ends.new inc.new) result }
 {
-    product::duopyramid(
-        pcounts, pends, pinc, qcounts, qends, qinc, counts, ends, inc,
-    )
+    let p = Slices {
+        counts: pcounts,
+        ends: pends,
+        inc: pinc,
+    };
+    let q = Slices {
+        counts: qcounts,
+        ends: qends,
+        inc: qinc,
+    };
+    Built::from(make::make(Poles::DUOPYRAMID, p, q, counts, ends, inc))
 }
 
 pub fn fd_duoprism(
@@ -209,13 +231,21 @@ pub fn fd_duoprism(
     inc: &mut [Index],
 ) -> Built
     ensures { Outcome limits true false
-        (held pcounts.entry pends.entry pinc.entry)
-        (held qcounts.entry qends.entry qinc.entry)
+        (listing pcounts.now pends.now pinc.now)
+        (listing qcounts.now qends.now qinc.now)
         (listing counts.old ends.old inc.old) (listing counts.new ends.new inc.new) result }
 {
-    product::duoprism(
-        pcounts, pends, pinc, qcounts, qends, qinc, counts, ends, inc,
-    )
+    let p = Slices {
+        counts: pcounts,
+        ends: pends,
+        inc: pinc,
+    };
+    let q = Slices {
+        counts: qcounts,
+        ends: qends,
+        inc: qinc,
+    };
+    Built::from(make::make(Poles::DUOPRISM, p, q, counts, ends, inc))
 }
 
 pub fn fd_duotegum(
@@ -230,13 +260,21 @@ pub fn fd_duotegum(
     inc: &mut [Index],
 ) -> Built
     ensures { Outcome limits false true
-        (held pcounts.entry pends.entry pinc.entry)
-        (held qcounts.entry qends.entry qinc.entry)
+        (listing pcounts.now pends.now pinc.now)
+        (listing qcounts.now qends.now qinc.now)
         (listing counts.old ends.old inc.old) (listing counts.new ends.new inc.new) result }
 {
-    product::duotegum(
-        pcounts, pends, pinc, qcounts, qends, qinc, counts, ends, inc,
-    )
+    let p = Slices {
+        counts: pcounts,
+        ends: pends,
+        inc: pinc,
+    };
+    let q = Slices {
+        counts: qcounts,
+        ends: qends,
+        inc: qinc,
+    };
+    Built::from(make::make(Poles::DUOTEGUM, p, q, counts, ends, inc))
 }
 
 pub fn fd_duocomb(
@@ -251,13 +289,21 @@ pub fn fd_duocomb(
     inc: &mut [Index],
 ) -> Built
     ensures { Outcome limits true true
-        (held pcounts.entry pends.entry pinc.entry)
-        (held qcounts.entry qends.entry qinc.entry)
+        (listing pcounts.now pends.now pinc.now)
+        (listing qcounts.now qends.now qinc.now)
         (listing counts.old ends.old inc.old) (listing counts.new ends.new inc.new) result }
 {
-    product::duocomb(
-        pcounts, pends, pinc, qcounts, qends, qinc, counts, ends, inc,
-    )
+    let p = Slices {
+        counts: pcounts,
+        ends: pends,
+        inc: pinc,
+    };
+    let q = Slices {
+        counts: qcounts,
+        ends: qends,
+        inc: qinc,
+    };
+    Built::from(make::make(Poles::DUOCOMB, p, q, counts, ends, inc))
 }
 
 // The dual: writes the last three slices, which overlap no other slice that is lent here.
@@ -269,10 +315,15 @@ pub fn fd_dual(
     ends: &mut [Index],
     inc: &mut [Index],
 ) -> Built
-    ensures { DualMade limits (held pcounts.entry pends.entry pinc.entry)
+    ensures { DualMade limits (listing pcounts.now pends.now pinc.now)
         (listing counts.old ends.old inc.old) (listing counts.new ends.new inc.new) result }
 {
-    dual::dual(pcounts, pends, pinc, counts, ends, inc)
+    let p = Slices {
+        counts: pcounts,
+        ends: pends,
+        inc: pinc,
+    };
+    Built::from(dual::dual(p, counts, ends, inc))
 }
 
 // Reads a text, and writes the last three slices, which overlap no other slice that is lent here.
@@ -288,20 +339,20 @@ pub fn fd_read_text(
         (listing_in text.now) (listing counts.old ends.old inc.old)
         (listing counts.new ends.new inc.new) result }
 {
-    text::read_text(text, counts, ends, inc)
+    Built::from(text::read_text(text, counts, ends, inc))
 }
 
 pub fn fd_check_text(text: &[u8]) -> u16
     ensures { result ≡ (check_test limits text.now).no }
 {
-    text::check_text(text)
+    Answer::from(text::check_text(text)).no
 }
 
 // Writes the last slice, which overlaps no other slice that is lent here.
 pub fn fd_write_text(counts: &[Index], ends: &[Index], inc: &[Index], text: &mut [u8]) -> Written
     ensures { TextMade
-        (write_test limits (held counts.entry ends.entry inc.entry) (length text.old))
-        (text_of (layers (held counts.entry ends.entry inc.entry))) text.old text.new result }
+        (write_test limits (listing counts.now ends.now inc.now) (length text.old))
+        (text_of (layers (listing counts.now ends.now inc.now))) text.old text.new result }
 {
-    text::write_text(counts, ends, inc, text)
+    Written::from(text::write_text(Slices { counts, ends, inc }, text))
 }

@@ -5,7 +5,7 @@
 ghost use Rattle.std.specs.Prelude.{◌≡◌, true, false, length};
 ghost use Rattle.listing.specs.Refusals.{band, band_no};
 ghost use Rattle.listing_shape.specs.Counts.{rank_of, el_count_of, vertex_count_of, facet_count_of};
-ghost use Rattle.listing.specs.Listing.{listing, held, limits};
+ghost use Rattle.listing.specs.Listing.{listing, limits};
 ghost use Rattle.listing.specs.Layers.{layers};
 ghost use Rattle.listing_outputs.specs.Output.{Made};
 ghost use Rattle.valid.specs.Tests as tests;
@@ -67,7 +67,7 @@ pub extern "C" fn fd_class(no: u16) -> u16
 
 #[unsafe(no_mangle)]
 pub extern "C" fn fd_bounded(counts: &[Index], ends: &[Index], inc: &[Index]) -> Answer
-    ensures { result ≡ tests.bounded limits (held counts.entry ends.entry inc.entry) }
+    ensures { result ≡ tests.bounded limits (listing counts.now ends.now inc.now) }
 {
     flumedrac::fd_bounded(counts, ends, inc)
 }
@@ -75,7 +75,7 @@ pub extern "C" fn fd_bounded(counts: &[Index], ends: &[Index], inc: &[Index]) ->
 #[unsafe(no_mangle)]
 pub extern "C" fn fd_check_incidences(counts: &[Index], ends: &[Index], inc: &[Index]) -> Answer
     ensures { result ≡ tests.check_incidences limits
-        (held counts.entry ends.entry inc.entry) }
+        (listing counts.now ends.now inc.now) }
 {
     flumedrac::fd_check_incidences(counts, ends, inc)
 }
@@ -83,21 +83,21 @@ pub extern "C" fn fd_check_incidences(counts: &[Index], ends: &[Index], inc: &[I
 #[unsafe(no_mangle)]
 pub extern "C" fn fd_is_dyadic(counts: &[Index], ends: &[Index], inc: &[Index]) -> Answer
     ensures { result ≡ tests.is_dyadic limits
-        (held counts.entry ends.entry inc.entry) }
+        (listing counts.now ends.now inc.now) }
 {
     flumedrac::fd_is_dyadic(counts, ends, inc)
 }
 
 #[unsafe(no_mangle)]
 pub extern "C" fn fd_is_valid(counts: &[Index], ends: &[Index], inc: &[Index]) -> Answer
-    ensures { result ≡ tests.is_valid limits (held counts.entry ends.entry inc.entry) }
+    ensures { result ≡ tests.is_valid limits (listing counts.now ends.now inc.now) }
 {
     flumedrac::fd_is_valid(counts, ends, inc)
 }
 
 #[unsafe(no_mangle)]
 pub extern "C" fn fd_closed(counts: &[Index], ends: &[Index], inc: &[Index]) -> Answer
-    ensures { result ≡ tests.closed limits (held counts.entry ends.entry inc.entry) }
+    ensures { result ≡ tests.closed limits (listing counts.now ends.now inc.now) }
 {
     flumedrac::fd_closed(counts, ends, inc)
 }
@@ -110,7 +110,7 @@ pub extern "C" fn fd_change(
     flag: &[Index],
     r: u16,
 ) -> Changed
-    ensures { result ≡ changed_of limits (held counts.entry ends.entry inc.entry)
+    ensures { result ≡ changed_of limits (listing counts.now ends.now inc.now)
         flag.now r }
 {
     flumedrac::fd_change(counts, ends, inc, flag, r)
@@ -127,13 +127,13 @@ pub extern "C" fn fd_search(
     table: &mut [Index],
     orientations: &mut [u8],
 ) -> Searched
-    ensures value { result ≡ searched_by limits (held counts.entry ends.entry inc.entry)
+    ensures value { result ≡ searched_by limits (listing counts.now ends.now inc.now)
         first.now mask table.old orientations.old }
     ensures table_after { table.new ≡ table_after limits
-        (held counts.entry ends.entry inc.entry) first.now mask
+        (listing counts.now ends.now inc.now) first.now mask
         table.old orientations.old }
     ensures orientations_after { orientations.new ≡ bytes_after limits
-        (held counts.entry ends.entry inc.entry) first.now mask
+        (listing counts.now ends.now inc.now) first.now mask
         table.old orientations.old }
 {
     flumedrac::fd_search(
@@ -156,11 +156,11 @@ pub extern "C" fn fd_one_body(
     table: &mut [Index],
     orientations: &mut [u8],
 ) -> Searched
-    ensures value { result ≡ body_by limits (held counts.entry ends.entry inc.entry) table.old
+    ensures value { result ≡ body_by limits (listing counts.now ends.now inc.now) table.old
         orientations.old }
-    ensures table_after { table.new ≡ body_table_after limits (held counts.entry ends.entry inc.entry)
+    ensures table_after { table.new ≡ body_table_after limits (listing counts.now ends.now inc.now)
         table.old orientations.old }
-    ensures orientations_after { orientations.new ≡ body_bytes_after limits (held counts.entry ends.entry inc.entry)
+    ensures orientations_after { orientations.new ≡ body_bytes_after limits (listing counts.now ends.now inc.now)
         table.old orientations.old }
 {
     flumedrac::fd_one_body(counts, ends, inc, &mut *table, &mut *orientations)
@@ -178,12 +178,12 @@ pub extern "C" fn fd_six_volume(
     table: &mut [Index],
     orientations: &mut [u8],
 ) -> Measured
-    ensures value { result ≡ measured_of (volume_by limits (held counts.entry ends.entry inc.entry)
+    ensures value { result ≡ measured_of (volume_by limits (listing counts.now ends.now inc.now)
         first.now coordinates.now table.old orientations.old) }
-    ensures table_after { table.new ≡ volume_table_after limits (held counts.entry ends.entry inc.entry)
+    ensures table_after { table.new ≡ volume_table_after limits (listing counts.now ends.now inc.now)
         first.now table.old orientations.old }
     ensures orientations_after { orientations.new ≡ volume_bytes_after limits
-        (held counts.entry ends.entry inc.entry) first.now table.old
+        (listing counts.now ends.now inc.now) first.now table.old
         orientations.old }
 {
     flumedrac::fd_six_volume(
@@ -227,8 +227,8 @@ pub extern "C" fn fd_duopyramid(
     inc: &mut [Index],
 ) -> Built
     ensures { Outcome limits false false
-        (held pcounts.entry pends.entry pinc.entry)
-        (held qcounts.entry qends.entry qinc.entry)
+        (listing pcounts.now pends.now pinc.now)
+        (listing qcounts.now qends.now qinc.now)
         (listing counts.old ends.old inc.old) (listing counts.new ends.new inc.new) result }
 {
     flumedrac::fd_duopyramid(
@@ -257,8 +257,8 @@ pub extern "C" fn fd_duoprism(
     inc: &mut [Index],
 ) -> Built
     ensures { Outcome limits true false
-        (held pcounts.entry pends.entry pinc.entry)
-        (held qcounts.entry qends.entry qinc.entry)
+        (listing pcounts.now pends.now pinc.now)
+        (listing qcounts.now qends.now qinc.now)
         (listing counts.old ends.old inc.old) (listing counts.new ends.new inc.new) result }
 {
     flumedrac::fd_duoprism(
@@ -287,8 +287,8 @@ pub extern "C" fn fd_duotegum(
     inc: &mut [Index],
 ) -> Built
     ensures { Outcome limits false true
-        (held pcounts.entry pends.entry pinc.entry)
-        (held qcounts.entry qends.entry qinc.entry)
+        (listing pcounts.now pends.now pinc.now)
+        (listing qcounts.now qends.now qinc.now)
         (listing counts.old ends.old inc.old) (listing counts.new ends.new inc.new) result }
 {
     flumedrac::fd_duotegum(
@@ -317,8 +317,8 @@ pub extern "C" fn fd_duocomb(
     inc: &mut [Index],
 ) -> Built
     ensures { Outcome limits true true
-        (held pcounts.entry pends.entry pinc.entry)
-        (held qcounts.entry qends.entry qinc.entry)
+        (listing pcounts.now pends.now pinc.now)
+        (listing qcounts.now qends.now qinc.now)
         (listing counts.old ends.old inc.old) (listing counts.new ends.new inc.new) result }
 {
     flumedrac::fd_duocomb(
@@ -344,7 +344,7 @@ pub extern "C" fn fd_dual(
     ends: &mut [Index],
     inc: &mut [Index],
 ) -> Built
-    ensures { DualMade limits (held pcounts.entry pends.entry pinc.entry)
+    ensures { DualMade limits (listing pcounts.now pends.now pinc.now)
         (listing counts.old ends.old inc.old) (listing counts.new ends.new inc.new) result }
 {
     flumedrac::fd_dual(pcounts, pends, pinc, &mut *counts, &mut *ends, &mut *inc)
@@ -383,8 +383,8 @@ pub extern "C" fn fd_write_text(
     text: &mut [u8],
 ) -> Written
     ensures { TextMade
-        (write_test limits (held counts.entry ends.entry inc.entry) (length text.old))
-        (text_of (layers (held counts.entry ends.entry inc.entry))) text.old text.new result }
+        (write_test limits (listing counts.now ends.now inc.now) (length text.old))
+        (text_of (layers (listing counts.now ends.now inc.now))) text.old text.new result }
 {
     flumedrac::fd_write_text(counts, ends, inc, &mut *text)
 }

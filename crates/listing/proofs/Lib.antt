@@ -1,7 +1,9 @@
 pub mod Answers
+pub mod Told
 pub mod Listing
 pub mod Elements
 pub mod Places
+pub mod InCell
 pub mod Entries
 pub mod ShapeExact
 pub mod Sequences

@@ -1,14 +1,14 @@
 -- The shape test's answer at each of its tests, and its exactness: it answers 0 exactly if the listing is Shaped.
 -- Assumes nothing.
-use mathlib.Core.Path.{◌≡◌, ap}
-use mathlib.Core.Bool.{true, false, ◌&&◌}
+use mathlib.Core.Path.{◌≡◌, sym, ap, ◌∙◌}
+use mathlib.Core.Bool.{Bool, true, false, ◌&&◌}
 use mathlib.Core.List.{List, [], ◌∷◌}
 use mathlib.Core.Logic.{◌↔◌}
 use Prim.Native.Nat.{ℕ, zero, suc, ◌+◌, ◌*◌, ◌≤◌, ◌<◌}
 use native.Mathlib.Nat.{le_of_suc-le-suc, not-suc-le-zero}
 use native.Mathlib.Numerals.{add-one}
 use native.Mathlib.Omega.{arith}
-use borrow.Author.Tests.{eq-eqb, ne_eqb, lt-ltb, le-ltb, le-leb, eqb-true, eqb-false, leb-true, ltb-false, not-false}
+use borrow.Author.Tests.{eq-eqb, ne_eqb, lt-ltb, lt-leb, le-ltb, le-leb, eqb-true, eqb-false, leb-true, ltb-false, not-false}
 use lib.Dec.{leb, eqb}
 use lib.ListN.{length, get_or, drop, drop_of_length-le}
 use lib.Seq.{drop-cons}
@@ -30,6 +30,19 @@ fills_step l k h from n = rw (add-one, drop-cons l k 0 h)
 pub fills_end : (l : List ℕ) (k : ℕ) → length l ≤ k → (from n : ℕ) → fills from (drop k l) n ≡ eqb from n
 unfolding fills
 fills_end l k h from n = ap (λ (t : List ℕ). fills from t n) (drop_of_length-le l h)
+
+-- the same as a loop over the ends meets it, which keeps that the answer is that for the ends from k on
+module _ (W : Bool) (from : ℕ) (l : List ℕ) (k n : ℕ) (e : W ≡ fills from (drop k l) n) where
+  pub fill_halt : k < length l → get_or l k 0 < from → false ≡ W
+  fill_halt h f = sym (e ∙ fills_step l k h from n ∙ rw (lt-leb _ _ f))
+
+  pub fill_next : k < length l → from ≤ get_or l k 0 → W ≡ fills (get_or l k 0) (drop (k + 1) l) n
+  fill_next h f = e ∙ fills_step l k h from n ∙ rw (le-leb _ _ f)
+
+  pub fill_done : length l ≤ k → eqb from n ≡ W
+  fill_done h = sym (e ∙ fills_end l k h from n)
+
+pub ruleset filling = (fill_halt, fill_next, fill_done)
 
 -- ---- the first test that fails decides
 
@@ -149,3 +162,12 @@ shaped_ends L s =
       rising = s.rising;
       inside = λ k h. omega (arith, rising_le 0 L.ends s.rising (suc k) h, s.full);
     }
+
+-- each test is passed
+pub shaped_by : (m : Limits) (L : Listing) → (length L.counts ≡ 0 → ⊥) → length L.counts ≤ m.ranks
+    → elements L ≤ m.elements → length L.ends ≡ 2 * elements L → length L.inc ≤ m.incidences
+    → fills 0 L.ends (length L.inc) ≡ true → Shaped m L
+shaped_by m L h1 h2 h3 h4 h5 h = shaped m L (ap (λ (x : Answer). x.no) (shape_0 m L h1 h2 h3 h4 h5 h))
+
+-- what the shape test answers, one law for each way through it
+pub ruleset shape = (shape_1, shape_2, shape_3, shape_4, shape_5, shape_6, shape_0, shaped_by)

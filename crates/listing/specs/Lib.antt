@@ -1,5 +1,6 @@
 pub mod Refusals
 pub mod Answers
+pub mod Told
 pub mod Listing
 pub mod Shape
 pub mod Layers

@@ -18,8 +18,8 @@
 -- subs      the elements that it lists one rank lower
 -- sups      the elements that it lists one rank higher
 use Rattle.std.specs.Prelude.{List, ◌∷◌, ℕ, ◌+◌, ◌-◌, ◌*◌, ◌≤◌, ◌<◌, length, get_or, take, drop}
-use Rattle.std.specs.Borrow.{Bor}
 use Rattle.order.specs.Sums.{sum}
+use Rattle.listing.specs.declared.Slices.{Slices}
 
 pub record Listing : Type 0 where
   pub counts : List ℕ
@@ -29,8 +29,8 @@ pub record Listing : Type 0 where
 abbrev pub listing : List ℕ → List ℕ → List ℕ → Listing
 listing c e i = record { counts = c; ends = e; inc = i }
 
-abbrev pub held : Bor (List ℕ) → Bor (List ℕ) → Bor (List ℕ) → Listing
-held c e i = listing c.now e.now i.now
+abbrev pub held : Slices → Listing
+held s = listing s.counts.now s.ends.now s.inc.now
 
 abbrev pub width : ℕ
 width = 65536

@@ -1,6 +1,6 @@
 -- The numbers of the refusals under names, and the bands that give a number its class.
 --
--- The same names, in the code's spelling, stand in src/refusal.rt.
+-- The same names, in the code's spelling, stand in src/numbers.rt.
 --
 -- no_ranks, over_ranks, over_elements       no ranks; too many ranks; too many elements
 -- wrong_ends        ends is not twice as long as there are elements
@@ -28,9 +28,9 @@
 -- band              the class of a number: 1 to 9 shape, 10 to 19 structure, 20 to 29 flags,
 --                   30 to 39 products, all else nothing
 -- band_no           a class as a number, for callers that have no enum
-use Rattle.std.specs.Prelude.{ℕ, Bool, cond, ◌&&◌, leb}
+use Rattle.std.specs.Prelude.{ℕ, Bool, cond, ◌&&◌, leb, Option, Some, None}
 use Rattle.listing.specs.declared.Band.{Band}
-use Rattle.listing.specs.declared.Band.TheVariants.{Nothing, Shape, Structure, Flags, Products}
+use Rattle.listing.specs.declared.Band.TheVariants.{Shape, Structure, Flags, Products}
 
 -- shape
 abbrev pub no_ranks : ℕ
@@ -149,14 +149,15 @@ not_in_metres = 53
 abbrev pub within : ℕ → ℕ → ℕ → Bool
 within a b n = leb a n && leb n b
 
-unfoldable pub band : ℕ → Band
+unfoldable pub band : ℕ → Option Band
 band n =
-    cond (within 1 9 n) Shape
-    (cond (within 10 19 n) Structure (cond (within 20 29 n) Flags (cond (within 30 39 n) Products Nothing)))
+    cond (within 1 9 n) (Some Shape)
+    (cond (within 10 19 n) (Some Structure)
+    (cond (within 20 29 n) (Some Flags) (cond (within 30 39 n) (Some Products) None)))
 
-unfoldable pub band_no : Band → ℕ
-band_no Nothing = 0
-band_no Shape = 1
-band_no Structure = 2
-band_no Flags = 3
-band_no Products = 4
+unfoldable pub band_no : Option Band → ℕ
+band_no None = 0
+band_no (Some Shape) = 1
+band_no (Some Structure) = 2
+band_no (Some Flags) = 3
+band_no (Some Products) = 4

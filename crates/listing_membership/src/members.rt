@@ -2,7 +2,7 @@
 ghost use Rattle.std.specs.Prelude.{◌≡◌, true};
 ghost use Rattle.order.specs.Lists.{has, Ascending};
 
-use listing::{Index, inner};
+use listing::Index;
 
 // The longest list that is looked through from its start at once.
 const SHORT: usize = 8;
@@ -11,7 +11,7 @@ const SHORT: usize = 8;
 fn stands_at_own_place(list: &[Index], x: Index) -> bool
     ensures { result ≡ true → has list.now x ≡ true }
 {
-    match list.get(inner::wide(x)) {
+    match list.get(usize::from(x)) {
         Some(&y) => y == x,
         None => false,
     }

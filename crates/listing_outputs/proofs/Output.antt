@@ -9,18 +9,25 @@ use native.Mathlib.Omega.{arith}
 use borrow.Author.Tests.{lt-ltb, le-ltb, ltb-false}
 use lib.Dec.{ltb}
 use lib.ListN.{length}
+use Rattle.std.proofs.Common.{Result, Ok, Err}
+use Rattle.std.specs.Result.{IsErrAnd}
+use Rattle.std.proofs.lemmas.Result.{err_from_is_err_and}
 use Rattle.order.specs.Lists.{over}
 use Rattle.order.proofs.Over.{over_front}
 use Rattle.order.proofs.Tests.{or_none}
 use Rattle.listing.specs.declared.Answer.{Answer}
 use Rattle.listing.specs.declared.Built.{Built}
+use Rattle.listing.specs.declared.Lengths.{Lengths}
+use Rattle.listing.specs.declared.Refusal.{Refusal}
 use Rattle.listing_outputs.specs.declared.outputs.Room.{Room}
 use Rattle.listing.specs.Refusals.{output_short}
 use Rattle.listing.specs.Answers.{plain, fine, if_zero}
 use Rattle.listing.specs.Listing.{Listing, listing}
+use Rattle.listing.specs.Told.{answer_of, told_built}
 use Rattle.listing_outputs.specs.Output.{Fits, need_of, short_test, room_test, built_of, after, Made, prefix}
 use Rattle.listing_outputs.specs.Output.{Untouched, Wrote}
 use Rattle.listing.proofs.Answers.{if_not, no_of, stops}
+use Rattle.listing.proofs.Told.{refuses}
 use Rattle.listing.proofs.Broken.{Tests, tests_on}
 
 -- ---- room
@@ -44,8 +51,8 @@ module _ (need room : Room) where
       unfolding short_test
       room_fine h = rw (le-ltb room.counts _ h1, le-ltb room.ends _ h2, le-ltb room.inc _ h)
 
--- those laws
-pub ruleset rooms = (short_counts, short_ends, short_inc, room_fine)
+-- one law for each way through the test
+pub ruleset room = (short_counts, short_ends, short_inc, room_fine)
 
 module _ (R : Listing) (c e i : ℕ) where
   pub room_tested : Tests output_short output_short (Fits R c e i) (room_test R c e i)
@@ -178,3 +185,25 @@ made_once p q =
     let e = p.ends ∙ sym q.ends in
     let i = p.inc ∙ sym q.inc in
     (p.answer ∙ sym q.answer, λ u. listing (c u) (e u) (i u))
+
+-- ---- of a result
+
+-- a refusal writes nothing
+pub made_halt : {R : Listing} {t : Answer} (d : Refusal) → answer_of d ≡ t → (old : Listing)
+    → Made t R old old (told_built (Err d))
+made_halt {R} {t} d e old =
+    made_refused (answer_of d) R (refuses d) t e old (told_built (Err d)) (sym (built_refused (answer_of d) R (refuses d)))
+
+-- a refusal that `?` returns
+pub made_err : {R : Listing} {t : Answer} (r : Result Lengths Refusal) (d : Refusal) → IsErrAnd r (λ x. x ≡ d)
+    → answer_of d ≡ t → (old : Listing) → Made t R old old (told_built r)
+made_err r d h e old =
+    let p = err_from_is_err_and r h in
+    rw (p.1, p.2) (made_halt d e old)
+
+-- the lengths that are answered of a listing that is written
+pub made_ok : {t : Answer} → fine ≡ t → (R old new : Listing) (n : Lengths) → n.counts ≡ length R.counts
+    → n.ends ≡ length R.ends → n.inc ≡ length R.inc → new.counts ≡ over R.counts old.counts
+    → new.ends ≡ over R.ends old.ends → new.inc ≡ over R.inc old.inc → Made t R old new (told_built (Ok n))
+made_ok {t} e R old new n a b c x y z =
+    made_written fine R refl t e old new (told_built (Ok n)) (rw (a, b, c) (sym (built_full fine R refl))) x y z

@@ -1,9 +1,10 @@
-// Output slices that a caller lends: whether they have room for a listing, and what is answered at a refusal.
-ghost use Rattle.std.specs.Prelude.{◌≡◌, ◌<◌};
-ghost use Rattle.listing.specs.Listing.{Listing, width};
-ghost use Rattle.listing_outputs.specs.Output.{need_of, short_test, built_of};
+// Output slices that a caller lends: whether they have room for a listing, and what is answered of one that is written.
+ghost use Rattle.std.specs.Prelude.{◌≡◌, ◌<◌, take};
+ghost use Rattle.listing.specs.Listing.{width};
+ghost use Rattle.listing.specs.Told.{told};
+ghost use Rattle.listing_outputs.specs.Output.{short_test};
 
-use listing::{Answer, Built, inner, refusal};
+use listing::{Lengths, Refusal, Slices, reading};
 
 // How many numbers the three slices of a listing take, or have room for.
 #[derive(Clone, Copy)]
@@ -14,40 +15,37 @@ pub struct Room {
 }
 
 // Whether slices with this much room can hold a listing that needs so much.
-#[tactic(auto, using(crate::proofs::Output::rooms))]
-pub fn check_room(need: Room, room: Room) -> Answer
-    ensures { result ≡ short_test need room }
+#[tactic(auto, using(crate::proofs::Output::room))]
+pub fn check_room(need: Room, room: Room) -> Result<(), Refusal>
+    ensures { told result ≡ short_test need room }
 {
     if room.counts < need.counts || room.ends < need.ends || room.inc < need.inc {
-        inner::plain(refusal::OUTPUT_SHORT)
-    } else {
-        inner::plain(0)
+        return Err(Refusal::OutputShort);
     }
+    Ok(())
 }
 
-// What is answered at a refusal: nothing is written.
-#[tactic(auto, using(crate::proofs::Output::built_refused))]
-pub fn refused(answer: Answer) -> Built
-    ensures { (R : Listing) → (answer.no ≡ 0 → ⊥) → result ≡ built_of answer R }
-{
-    Built {
-        answer,
-        counts: 0,
-        ends: 0,
-        inc: 0,
-    }
-}
-
-// What is answered of a listing that is written, which takes so much room.
-#[tactic(auto, using(crate::proofs::Output::built_need))]
-pub fn written(answer: Answer, need: Room) -> Built
+// How many numbers are written of a listing that takes so much room.
+pub fn lengths(need: Room) -> Lengths
     requires { (need.counts < width) × (need.ends < width) × (need.inc < width) }
-    ensures { (R : Listing) → need ≡ need_of R → answer.no ≡ 0 → result ≡ built_of answer R }
+    ensures { (result.counts ≡ need.counts) × (result.ends ≡ need.ends) × (result.inc ≡ need.inc) }
 {
-    Built {
-        answer,
+    Lengths {
         counts: need.counts as u16,
         ends: need.ends as u16,
         inc: need.inc as u16,
+    }
+}
+
+// What is written in them: so many numbers at the start of each.
+pub fn written<'a>(slices: Slices<'a>, n: Lengths) -> Slices<'a>
+    ensures counts { result.counts.now ≡ take n.counts slices.entry.counts.now }
+    ensures ends { result.ends.now ≡ take n.ends slices.entry.ends.now }
+    ensures inc { result.inc.now ≡ take n.inc slices.entry.inc.now }
+{
+    Slices {
+        counts: reading::front(slices.counts, usize::from(n.counts)),
+        ends: reading::front(slices.ends, usize::from(n.ends)),
+        inc: reading::front(slices.inc, usize::from(n.inc)),
     }
 }

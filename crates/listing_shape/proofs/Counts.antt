@@ -1,9 +1,7 @@
 -- The four counts: refused for no ranks, which is the one rule that they have, and else the number asked for; the
 -- facets where the rank less one wraps.
 -- Assumes nothing.
-use Rattle.std.proofs.Common.{◌≡◌, ℕ, ◌+◌, ◌-◌, ◌%◌, ◌^◌, ◌<◌, Bool, true, false, cond, eqb, leb, List, []}
-use Rattle.std.proofs.Common.{◌∷◌, length, get_or, sym, refl, ap, ◌∙◌, inl, inr, arith, eq-eqb}
-use Rattle.std.proofs.Common.{ne_eqb, eqb-true, leb-false, leb-true}
+use Rattle.std.proofs.Common.{◌≡◌, ℕ, ◌+◌, ◌-◌, ◌%◌, ◌^◌, ◌<◌, Bool, true, false, cond, eqb, leb, List, [], ◌∷◌, length, get_or, sym, refl, ap, ◌∙◌, inl, inr, arith, eq-eqb, ne_eqb, eqb-true, leb-false, leb-true}
 use borrow.Author.Tests.{eqb-false}
 use lib.ListN.{get_or-eq_default}
 use Rattle.listing.specs.declared.Number.{Number}
@@ -20,7 +18,7 @@ module _ (counts : List ℕ) (n : ℕ) where
   unfolding counted
   counted_some h = rw (ne_eqb _ _ h)
 
--- both laws
+-- one law for each answer
 pub ruleset counts = (counted_none, counted_some)
 
 pub counted_broken : (counts : List ℕ) (n : ℕ) → FirstBroken (count_rules counts) (counted counts n).no
@@ -32,28 +30,17 @@ counted_broken (c ∷ counts) n = inr (omega arith, rw (ne_eqb (length (c ∷ co
 abbrev word : ℕ
 word = 2 ^ 64
 
--- the rank less one, wrapped, counts the facets
-wrapped : (counts : List ℕ) (v r : ℕ) → (rank_of counts).value ≡ v → length counts < word → r < word
-    → (r + 1) % word ≡ v → (length counts ≡ 0 → ⊥) → get_or counts r 0 ≡ facets counts
-unfolding facets rank_of
-wrapped counts v r e f g h some = go (leb 2 (length counts)) refl
+-- two less than the number of ranks, wrapped, names the rank below the top, or none
+pub facets_wrapped : (counts : List ℕ) (r : ℕ) → length counts < word → r < word → (r + 2) % word ≡ length counts
+    → el_count_of counts r ≡ facet_count_of counts
+unfolding el_count_of facet_count_of facets
+facets_wrapped counts r f g h = go (leb 2 (length counts)) refl
   where
-    at : length counts - 1 ≡ v
-    at = ap (λ (n : Number). n.value) (sym (counted_some counts (length counts - 1) some)) ∙ e
-
-    go : (q : Bool) → leb 2 (length counts) ≡ q → get_or counts r 0 ≡ cond q (get_or counts (length counts - 2) 0) 0
+    go : (q : Bool) → leb 2 (length counts) ≡ q
+        → counted counts (get_or counts r 0) ≡ counted counts (cond q (get_or counts (length counts - 2) 0) 0)
     go true t =
-        let i : r ≡ length counts - 2 = omega (arith, leb-true 2 (length counts) t, at) in
-        ap (λ (k : ℕ). get_or counts k 0) i
-    go false t = get_or-eq_default counts 0 (omega (arith, leb-false 2 (length counts) t, at))
-
-pub facets_wrapped : (counts : List ℕ) (v r : ℕ) → (rank_of counts).value ≡ v → length counts < word → r < word
-    → (r + 1) % word ≡ v → el_count_of counts r ≡ facet_count_of counts
-unfolding el_count_of facet_count_of
-facets_wrapped counts v r e f g h = go (eqb (length counts) 0) refl
-  where
-    go : (q : Bool) → eqb (length counts) 0 ≡ q → counted counts (get_or counts r 0) ≡ counted counts (facets counts)
-    go true t =
-        let z = eqb-true (length counts) 0 t in
-        counted_none counts _ z ∙ sym (counted_none counts _ z)
-    go false t = ap (counted counts) (wrapped counts v r e f g h (eqb-false (length counts) 0 t))
+        let i : r ≡ length counts - 2 = omega (arith, leb-true 2 (length counts) t) in
+        ap (λ (k : ℕ). counted counts (get_or counts k 0)) i
+    go false t =
+        let few = leb-false 2 (length counts) t in
+        ap (counted counts) (get_or-eq_default counts 0 (omega (arith, few)))

@@ -1,3 +1,2 @@
 pub mod Bands
 pub mod Counts
-pub mod Shapes

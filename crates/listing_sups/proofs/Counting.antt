@@ -93,7 +93,6 @@ none_over b L i x h =
 
 pub counted_all : (b : ℕ) (L : Listing) (r : ℕ) (up : List ℕ) → length L.counts ≤ r + 1 → CountedTo b L r up
     → UpCounts b L up
-unfolding UpCounts
 counted_all b L r up h v i x l = go (dec_lt i r)
   where
     go : Dec (i < r) → get_or up (before L.counts i + x) 0 ≡ up_count b L i x

@@ -26,7 +26,7 @@ subs_from b L i a = subs_at L.ends L.inc (b + before L.counts i) a
 abbrev pub layers_from : ℕ → Listing → Layers
 layers_from b L = record { top = rank L; size = λ i. count L i; under = subs_from b L }
 
-unfoldable pub UpCounts : ℕ → Listing → List ℕ → Type 0
+abbrev pub UpCounts : ℕ → Listing → List ℕ → Type 0
 UpCounts b L up =
     (i x : ℕ) → x < count L i → get_or up (before L.counts i + x) 0 ≡ length (derived (layers_from b L) i x)
 

@@ -2,13 +2,13 @@
 ghost use Rattle.std.specs.Prelude.{◌≡◌, [], ◌∷◌, ℕ, ◌+◌, ◌*◌, ◌≤◌, ◌<◌, length, get_or, replicate};
 ghost use Rattle.order.specs.Lists.{occurs};
 ghost use Rattle.order.specs.Sums.{sum};
-ghost use Rattle.listing.specs.Listing.{width, listing, before, start, Ends, subs_at};
+ghost use Rattle.listing.specs.Listing.{width, listing, held, before, start, Ends, subs_at};
+ghost use Rattle.listing.specs.Shape.{elements};
 ghost use Rattle.listing.specs.Layers.{gather};
-ghost use Rattle.listing.specs.Laid.{Laid};
 ghost use Rattle.listing_sups.specs.Sups.{UpCounts, Raised, Strewn, Apart, span};
 ghost use Rattle.listing_sups.specs.Sups.{Fillable, SupsFilled};
 
-use listing::{Index, inner, limit};
+use listing::{Index, Slices, limit, reading};
 
 // Counts one entry x for the element that it names, of n elements that are counted from place `from` on. An entry that
 // names none is passed over.
@@ -29,48 +29,40 @@ fn tally_list(up: &mut [Index], from: usize, n: usize, list: &[Index])
     ensures { Raised from n (λ y. occurs y list.now) up.old up.new }
 {
     for &x in list {
-        tally_entry(&mut *up, from, n, inner::wide(x));
+        tally_entry(up, from, n, usize::from(x));
     }
 }
 
 // Counts the entries of the subs of m elements, which begin at the place `here` of the lists.
-fn tally_rank(
-    up: &mut [Index],
-    from: usize,
-    n: usize,
-    ends: &[Index],
-    inc: &[Index],
-    here: usize,
-    m: usize,
-)
+fn tally_rank(up: &mut [Index], from: usize, n: usize, slices: Slices<'_>, here: usize, m: usize)
     requires n_in_bounds { from + n ≤ length up.old }
-    requires ends { Ends ends.now inc.now }
-    requires m_in_bounds { 2 * (here + m) ≤ length ends.now }
-    requires by_index { (k : ℕ) → get_or up.old k 0 ≤ start ends.now (2 * here) }
-    ensures raised { Raised from n (λ y. sum (λ a. occurs y (subs_at ends.now inc.now here a)) m)
-        up.old up.new }
-    ensures by_index_2 { (k : ℕ) → get_or up.new k 0 ≤ start ends.now (2 * (here + m)) }
+    requires ends { Ends slices.ends.now slices.inc.now }
+    requires m_in_bounds { 2 * (here + m) ≤ length slices.ends.now }
+    requires by_index { (k : ℕ) → get_or up.old k 0 ≤ start slices.ends.now (2 * here) }
+    ensures raised { Raised from n
+        (λ y. sum (λ a. occurs y (subs_at slices.entry.ends.now slices.entry.inc.now here a)) m) up.old up.new }
+    ensures by_index_2 { (k : ℕ) → get_or up.new k 0 ≤ start slices.entry.ends.now (2 * (here + m)) }
 {
     for a in 0..m {
-        tally_list(&mut *up, from, n, inner::list_of(ends, inc, 2 * (here + a)));
+        tally_list(up, from, n, slices.list_of(2 * (here + a)));
     }
 }
 
 // Counts for each element of some ranks how many sups are derived for it, which is how often it is listed one rank
 // higher. The first of these elements has the number `base` in the lists. What names no element is passed over.
-pub fn tally(up: &mut [Index], counts: &[Index], ends: &[Index], inc: &[Index], base: usize)
-    requires ends { Ends ends.now inc.now }
-    requires counts_in_bounds { 2 * (base + before counts.now (length counts.now)) ≤ length ends.now }
-    requires counts_in_bounds_2 { before counts.now (length counts.now) ≤ length up.old }
+pub fn tally(up: &mut [Index], slices: Slices<'_>, base: usize)
+    requires ends { Ends slices.ends.now slices.inc.now }
+    requires counts_in_bounds { 2 * (base + elements (held slices)) ≤ length slices.ends.now }
+    requires counts_in_bounds_2 { elements (held slices) ≤ length up.old }
     requires by_index { (k : ℕ) → get_or up.old k 0 ≡ 0 }
-    ensures { UpCounts base (listing counts.now ends.now inc.now) up.new }
+    ensures { UpCounts base (held slices.entry) up.new }
 {
     let mut from: usize = 0;
     // the elements of a rank, and those of the rank above it
-    for pair in counts.windows(2) {
-        let n = inner::wide(pair[0]);
-        let m = inner::wide(pair[1]);
-        tally_rank(&mut *up, from, n, ends, inc, base + from + n, m);
+    for pair in slices.counts.windows(2) {
+        let n = usize::from(pair[0]);
+        let m = usize::from(pair[1]);
+        tally_rank(up, from, n, slices, base + from + n, m);
         from += n;
     }
 }
@@ -86,7 +78,7 @@ fn fill_entry(inc: &mut [Index], next: &mut [Index], from: usize, n: usize, x: u
         inc.old inc.new }
 {
     if x < n {
-        let cursor = inner::wide(next[from + x]);
+        let cursor = usize::from(next[from + x]);
         inc[cursor] = k as Index;
         next[from + x] = (cursor + 1) as Index;
     }
@@ -111,8 +103,8 @@ fn fill_element(
         next.old inc.old inc.new }
 {
     for t in lo..hi {
-        let x = inner::wide(inc[t]);
-        fill_entry(&mut *inc, &mut *next, from, n, x, k);
+        let x = usize::from(inc[t]);
+        fill_entry(inc, next, from, n, x, k);
     }
 }
 
@@ -139,19 +131,9 @@ fn fill_rank(
 {
     for k in 0..m {
         let e = 2 * (here + k);
-        let lo = inner::start_of(ends, e);
-        let hi = inner::wide(ends[e]);
-        fill_element(&mut *inc, &mut *next, from, n, lo, hi, k);
-    }
-}
-
-// Sets the cursor of each of n elements to where its sups begin, which is where its subs end.
-fn set_cursors(next: &mut [Index], ends: &[Index], n: usize)
-    requires { (n ≤ length next.old) × (2 * n ≤ length ends.now) }
-    ensures { Laid 0 (λ e. get_or ends.now (2 * e) 0) n next.old next.new }
-{
-    for e in 0..n {
-        next[e] = ends[2 * e];
+        let lo = reading::start_of(ends, e);
+        let hi = usize::from(ends[e]);
+        fill_element(inc, next, from, n, lo, hi, k);
     }
 }
 
@@ -167,9 +149,9 @@ fn fill_ranks(counts: &[Index], ends: &[Index], inc: &mut [Index], next: &mut [I
     let mut from: usize = 0;
     // the elements of a rank, and those of the rank above it
     for pair in counts.windows(2) {
-        let n = inner::wide(pair[0]);
-        let m = inner::wide(pair[1]);
-        fill_rank(ends, &mut *inc, &mut *next, from, n, from + n, m);
+        let n = usize::from(pair[0]);
+        let m = usize::from(pair[1]);
+        fill_rank(ends, inc, next, from, n, from + n, m);
         from += n;
     }
 }
@@ -181,7 +163,7 @@ pub fn fill(counts: &[Index], ends: &[Index], inc: &mut [Index])
         inc.new }
 {
     let mut next: [Index; limit::ELEMENTS] = [0; limit::ELEMENTS];
-    let n = inner::elements_before(counts, counts.len());
-    set_cursors(&mut next, ends, n);
-    fill_ranks(counts, ends, &mut *inc, &mut next);
+    let n = reading::elements_before(counts, counts.len());
+    reading::set_cursors(&mut next, ends, 0, n);
+    fill_ranks(counts, ends, inc, &mut next);
 }

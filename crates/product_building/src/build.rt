@@ -7,12 +7,14 @@ ghost use Rattle.product_places.specs.Places.{pairs_in, pairs_to};
 ghost use Rattle.product_element.specs.Pairs.{size_of, Plan};
 ghost use Rattle.product_building.specs.Built.{counts_of, product_listing};
 
-use listing::{Index, limit};
+use listing::{Index, Slices, limit};
 use listing_sups::sups;
+use product_element::{Factor, Factors};
 use product_places::{Poles, block, put};
 use product_writing::pairs;
 
 // Writes the number of pairs of each of n ranks, from place `at` on. Returns the place after the last.
+#[tactic(auto, using(product_places::proofs::Numbers::pairs_fit))]
 fn put_sizes(counts: &mut [Index], at: usize, p: &[Index], q: &[Index], n: usize) -> usize
     requires { (at + n ≤ length counts.old) × (n ≤ 2 * limits.ranks) × (pairs_to p.now q.now n < width) }
     ensures value { result ≡ at + n }
@@ -41,39 +43,39 @@ fn put_counts(poles: Poles, p: &[Index], q: &[Index], counts: &mut [Index]) -> u
     put::put_if(&mut *counts, b, poles.max, 1)
 }
 
-// Writes the product of two factors: its counts, its ends and its incidences. Each factor is given by the counts of its
-// ranks in use, its ends and its incidences.
+// Writes the product of two factors: its counts, its ends and its incidences. Each factor is given with the counts of
+// its ranks in use.
 pub fn build(
     poles: Poles,
-    p: &[Index],
-    pends: &[Index],
-    pinc: &[Index],
-    q: &[Index],
-    qends: &[Index],
-    qinc: &[Index],
+    p: Slices<'_>,
+    q: Slices<'_>,
     counts: &mut [Index],
     ends: &mut [Index],
     inc: &mut [Index],
 )
-    requires plan { Plan poles.min poles.max (held p pends pinc) (held q qends qinc) (length ends.old)
-        (length inc.old) }
-    requires qinc_in_bounds { length (product_listing poles (held p pends pinc) (held q qends qinc)).counts
-        ≤ length counts.old }
-    ensures counts_after { counts.new ≡ over (product_listing poles (held p.entry pends.entry pinc.entry)
-        (held q.entry qends.entry qinc.entry)).counts counts.old }
-    ensures ends_after { ends.new ≡ over (product_listing poles (held p.entry pends.entry pinc.entry)
-        (held q.entry qends.entry qinc.entry)).ends ends.old }
-    ensures inc_after { inc.new ≡ over (product_listing poles (held p.entry pends.entry pinc.entry)
-        (held q.entry qends.entry qinc.entry)).inc inc.old }
+    requires plan { Plan poles.min poles.max (held p) (held q) (length ends.old) (length inc.old) }
+    requires qinc_in_bounds { length (product_listing poles (held p) (held q)).counts ≤ length counts.old }
+    ensures counts_after { counts.new ≡ over (product_listing poles (held p.entry) (held q.entry)).counts counts.old }
+    ensures ends_after { ends.new ≡ over (product_listing poles (held p.entry) (held q.entry)).ends ends.old }
+    ensures inc_after { inc.new ≡ over (product_listing poles (held p.entry) (held q.entry)).inc inc.old }
 {
     let base = usize::from(poles.min);
     let mut psups: [Index; limit::ELEMENTS] = [0; limit::ELEMENTS];
-    sups::tally(&mut psups, p, pends, pinc, base);
+    sups::tally(&mut psups, p, base);
     let mut qsups: [Index; limit::ELEMENTS] = [0; limit::ELEMENTS];
-    sups::tally(&mut qsups, q, qends, qinc, base);
-    let ranks = put_counts(poles, p, q, &mut *counts);
-    let n = pairs::put_elements(
-        poles, p, pends, pinc, q, qends, qinc, &psups, &qsups, &mut *ends, &mut *inc,
-    );
+    sups::tally(&mut qsups, q, base);
+    let factors = Factors {
+        poles,
+        p: Factor {
+            slices: p,
+            sups: &psups,
+        },
+        q: Factor {
+            slices: q,
+            sups: &qsups,
+        },
+    };
+    let ranks = put_counts(poles, p.counts, q.counts, &mut *counts);
+    let n = pairs::put_elements(factors, &mut *ends, &mut *inc);
     sups::fill(&counts[..ranks], &ends[..2 * n], &mut *inc);
 }

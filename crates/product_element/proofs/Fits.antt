@@ -8,63 +8,68 @@ use native.Mathlib.Omega.{arith}
 use lib.Dec.{eqb}
 use lib.ListN.{length, get_or, set}
 use Rattle.order.specs.Lists.{In}
-use Rattle.listing.specs.Listing.{Listing, width, limits, count, entries}
+use Rattle.listing.specs.Listing.{Listing, held, width, limits, count, entries}
 use Rattle.listing.specs.Laid.{LaidList}
 use Rattle.listing.proofs.Listing.{some_rank, before_lt, count_le}
-use Rattle.listing_sups.specs.Sups.{UpCounts}
 use Rattle.listing_sups.specs.Filling.{starts, Put}
 use Rattle.listing_sups.proofs.Laying.{starts_room, put_one}
 use Rattle.product_places.specs.declared.Poles.{Poles}
 use Rattle.product_places.specs.declared.block.Block.{Block}
 use Rattle.product_places.specs.declared.put.Shift.{Shift}
 use Rattle.product_places.specs.Places.{offset_in, first_at, subs_of}
-use Rattle.product_places.specs.Blocks.{BlockOf, in_block}
+use Rattle.product_places.specs.Blocks.{BlockOf}
 use Rattle.product_places.proofs.Numbers.{bit_le, product_le, number_at, number_more, number_lt, first_le}
-use Rattle.product_element.specs.Pairs.{subs_in_use, product_lists, under_pair, over_pair, size_of, Plan, Writable}
+use Rattle.product_element.specs.declared.Factors.{Factors}
+use Rattle.product_element.specs.Pairs.{subs_in_use, under_pair, over_pair, size_of, Plan}
+use Rattle.product_element.specs.Writing.{lists_in, number_in, first_in, BlockIn, Writable}
 
 cond_le : (b : Bool) → cond b 1 0 ≤ 1
 cond_le true = omega arith
 cond_le false = omega arith
 
-module _ {poles : Poles} {P Q : Listing} {psups qsups ends inc : List ℕ}
-    (w : Writable poles P Q psups qsups ends inc) where
+module _ {f : Factors} {ends inc : List ℕ} (w : Writable f ends inc) where
+  abbrev P : Listing
+  P = held f.p.slices
+
+  abbrev Q : Listing
+  Q = held f.q.slices
+
   -- the same, with slices of the same size
   pub writable_room : (ends' inc' : List ℕ) → length ends' ≡ length ends → length inc' ≡ length inc
-      → Writable poles P Q psups qsups ends' inc'
-  writable_room ends' inc' e f = record { plan = rw (e, f) w.plan; sups_p = w.sups_p; sups_q = w.sups_q }
+      → Writable f ends' inc'
+  writable_room ends' inc' e d = record { plan = rw (e, d) w.plan }
 
   -- the pairs are few
   pub first_few : (R i : ℕ) → i ≤ R + 1 → R + 2 ≤ length P.counts + length Q.counts
-      → first_at poles.min P.counts Q.counts R i ≤ limits.elements
+      → first_in f R i ≤ limits.elements
   unfolding size_of
   first_few R i h k =
       let n = length P.counts + length Q.counts in
-      omega (arith, first_le poles.min P.counts Q.counts R (n - 1) i h (omega arith), w.plan.elements)
+      omega (arith, first_le f.poles.min P.counts Q.counts R (n - 1) i h (omega arith), w.plan.elements)
 
   -- ---- the lists of the first member of a block's pairs
 
-  module _ {B : Block} (block : BlockOf poles P.counts Q.counts B.i B.j B) {a : ℕ} (ha : a < count P B.i)
-    where
-      pub left_there : 2 * (B.base + B.pbefore + a) + 0 < length P.ends
-      left_there =
-          omega (arith, block.base, block.p_before, before_lt P.counts B.i a ha, w.plan.ends_p)
+  module _ {B : Block} (block : BlockIn f B) {a : ℕ} (ha : a < count P B.i) where
+    pub left_there : 2 * (B.base + B.pbefore + a) + 0 < length P.ends
+    left_there =
+        omega (arith, block.base, block.p_before, before_lt P.counts B.i a ha, w.plan.ends_p)
 
-      pub left_few : B.base + B.pbefore + a ≤ width
-      left_few =
-          omega (
-            arith,
-            block.base,
-            block.p_before,
-            before_lt P.counts B.i a ha,
-            w.plan.few_p,
-            bit_le poles.min,
-          )
+    pub left_few : B.base + B.pbefore + a ≤ width
+    left_few =
+        omega (
+          arith,
+          block.base,
+          block.p_before,
+          before_lt P.counts B.i a ha,
+          w.plan.few_p,
+          bit_le f.poles.min,
+        )
 
-      pub left_subs : (left : List ℕ)
-          → left ≡ cond (eqb B.i 0) [] (entries P.ends P.inc (2 * (B.base + B.pbefore + a) + 0))
-          → left ≡ subs_in_use poles.min P B.i a
-      unfolding subs_in_use
-      left_subs left e = e ∙ rw (block.base, block.p_before)
+    pub left_subs : (left : List ℕ)
+        → left ≡ cond (eqb B.i 0) [] (entries P.ends P.inc (2 * (B.base + B.pbefore + a) + 0))
+        → left ≡ subs_in_use f.poles.min P B.i a
+    unfolding subs_in_use
+    left_subs left e = e ∙ rw (block.base, block.p_before)
 
 -- ---- a block, by the ranks that it was made for
 
@@ -78,31 +83,30 @@ module _ {poles : Poles} {p q : List ℕ} {i j : ℕ} {B : Block} (block : Block
 -- ---- one pair
 
 -- a pair of a block
-pub record PairIn (poles : Poles) (P Q : Listing) (psups qsups ends inc : List ℕ) (B : Block) (a b : ℕ) : Type 0 where
-  pub ready : Writable poles P Q psups qsups ends inc
-  pub block : BlockOf poles P.counts Q.counts B.i B.j B
-  pub left : a < count P B.i
-  pub right : b < count Q B.j
+pub record PairIn (f : Factors) (ends inc : List ℕ) (B : Block) (a b : ℕ) : Type 0 where
+  pub ready : Writable f ends inc
+  pub block : BlockIn f B
+  pub left : a < count (held f.p.slices) B.i
+  pub right : b < count (held f.q.slices) B.j
 
-module _ {poles : Poles} {P Q : Listing} {psups qsups ends inc : List ℕ} {B : Block} {a b : ℕ}
-    (x : PairIn poles P Q psups qsups ends inc B a b) where
+module _ {f : Factors} {ends inc : List ℕ} {B : Block} {a b : ℕ} (x : PairIn f ends inc B a b) where
   abbrev p : List ℕ
-  p = P.counts
+  p = f.p.slices.counts.now
 
   abbrev q : List ℕ
-  q = Q.counts
+  q = f.q.slices.counts.now
 
   abbrev e : ℕ
-  e = in_block poles p q B a b
+  e = number_in f B a b
 
   abbrev lists : ℕ → List ℕ
-  lists = product_lists poles P Q
+  lists = lists_in f
 
-  abbrev plan : Plan poles.min poles.max P Q (length ends) (length inc)
+  abbrev plan : Plan f.poles.min f.poles.max (held f.p.slices) (held f.q.slices) (length ends) (length inc)
   plan = x.ready.plan
 
   -- its members' places
-  pub right_there : 2 * (B.base + B.qbefore + b) + 0 < length Q.ends
+  pub right_there : 2 * (B.base + B.qbefore + b) + 0 < length f.q.slices.ends.now
   right_there =
       omega (arith, x.block.base, x.block.q_before, before_lt q B.j b x.right, plan.ends_q)
 
@@ -113,17 +117,17 @@ module _ {poles : Poles} {P Q : Listing} {psups qsups ends inc : List ℕ} {B : 
   up_q = omega (arith, x.block.q_before, before_lt q B.j b x.right, plan.few_q)
 
   pub cap_few : B.cap ≤ 1
-  cap_few = rw x.block.cap (cond_le (poles.max && eqb (B.i + B.j + 2) (length p + length q)))
+  cap_few = rw x.block.cap (cond_le (f.poles.max && eqb (B.i + B.j + 2) (length p + length q)))
 
   -- its number
   pub index : B.from + a * B.qcount + b ≡ e
   index =
-      let w : a * B.qcount ≡ a * count Q B.j = ap (λ (n : ℕ). a * n) x.block.q_count in
-      omega (arith, x.block.from, number_at poles.min p q B.i a B.j b)
+      let w : a * B.qcount ≡ a * get_or q B.j 0 = ap (λ (n : ℕ). a * n) x.block.q_count in
+      omega (arith, x.block.from, number_at f.poles.min p q B.i a B.j b)
 
-  pair_lt : e < size_of poles.min poles.max p q
+  pair_lt : e < size_of f.poles.min f.poles.max p q
   unfolding size_of
-  pair_lt = omega (arith, number_lt poles.min p q B.i a B.j b x.left x.right)
+  pair_lt = omega (arith, number_lt f.poles.min p q B.i a B.j b x.left x.right)
 
   pub index_few : e < limits.elements
   index_few = omega (arith, pair_lt, plan.elements)
@@ -155,13 +159,13 @@ module _ {poles : Poles} {P Q : Listing} {psups qsups ends inc : List ℕ} {B : 
   -- ---- its lists
 
   over_pair_lem : length (lists (2 * e + 1))
-      ≡ get_or psups (B.pbefore + a) 0 + get_or qsups (B.qbefore + b) 0 + B.cap
-  unfolding over_pair UpCounts
+      ≡ get_or f.p.sups.now (B.pbefore + a) 0 + get_or f.q.sups.now (B.qbefore + b) 0 + B.cap
+  unfolding over_pair
   over_pair_lem =
       plan.over B.i a B.j b x.left x.right
       ∙ rw (
-        ← x.ready.sups_p B.i a x.left,
-        ← x.ready.sups_q B.j b x.right,
+        ← f.counted_p B.i a x.left,
+        ← f.counted_q B.j b x.right,
         x.block.p_before,
         x.block.q_before,
         x.block.cap,
@@ -185,17 +189,18 @@ shift B a b =
     record { low = B.low; left = B.left + b; scale = B.qcount; right = B.right + a * B.qbelow }
 
 -- what the code has in hand: the subs of its members, how many lie over it, its number and its place
-pub record InHand (poles : Poles) (P Q : Listing) (psups qsups ends inc : List ℕ) (B : Block) (a b : ℕ)
-    (left right : List ℕ) (sups k at : ℕ) : Type 0 where
-  pub pair : PairIn poles P Q psups qsups ends inc B a b
-  pub left_is : left ≡ subs_in_use poles.min P B.i a
-  pub right_is : right ≡ cond (eqb B.j 0) [] (entries Q.ends Q.inc (2 * (B.base + B.qbefore + b) + 0))
-  pub sups_is : sups ≡ get_or psups (B.pbefore + a) 0 + get_or qsups (B.qbefore + b) 0 + B.cap
+pub record InHand (f : Factors) (ends inc : List ℕ) (B : Block) (a b : ℕ) (left right : List ℕ) (sups k at : ℕ)
+    : Type 0 where
+  pub pair : PairIn f ends inc B a b
+  pub left_is : left ≡ subs_in_use f.poles.min (held f.p.slices) B.i a
+  pub right_is : right ≡ cond (eqb B.j 0) [] (entries f.q.slices.ends.now f.q.slices.inc.now
+      (2 * (B.base + B.qbefore + b) + 0))
+  pub sups_is : sups ≡ get_or f.p.sups.now (B.pbefore + a) 0 + get_or f.q.sups.now (B.qbefore + b) 0 + B.cap
   pub k_is : k ≡ B.from + a * B.qcount + b
-  pub at_is : at ≡ starts (product_lists poles P Q) (2 * in_block poles P.counts Q.counts B a b)
+  pub at_is : at ≡ starts (lists_in f) (2 * number_in f B a b)
 
-module _ {poles : Poles} {P Q : Listing} {psups qsups ends inc : List ℕ} {B : Block} {a b : ℕ} {left right : List ℕ}
-    {sups k at : ℕ} (h : InHand poles P Q psups qsups ends inc B a b left right sups k at) where
+module _ {f : Factors} {ends inc : List ℕ} {B : Block} {a b : ℕ} {left right : List ℕ} {sups k at : ℕ}
+    (h : InHand f ends inc B a b left right sups k at) where
   -- its subs are those of the plan
   pair_subs_lem : subs_of (shift B a b) left right ≡ lists h.pair (2 * e h.pair)
   unfolding under_pair subs_in_use
@@ -244,9 +249,8 @@ module _ {poles : Poles} {P Q : Listing} {psups qsups ends inc : List ℕ} {B : 
   pub pair_put : (n : ℕ) (ends' inc' : List ℕ) → n ≡ at + length (subs_of (shift B a b) left right) + sups
       → LaidList at (subs_of (shift B a b) left right) inc inc'
       → ends' ≡ set (set ends (2 * k) (at + length (subs_of (shift B a b) left right))) (2 * k + 1) n
-      → Put (product_lists poles P Q) (in_block poles P.counts Q.counts B a b)
-      (in_block poles P.counts Q.counts B a (b + 1)) n ends inc ends' inc'
+      → Put (lists_in f) (number_in f B a b) (number_in f B a (b + 1)) n ends inc ends' inc'
   pair_put n ends' inc' en l eq =
-      rw (number_more poles.min P.counts Q.counts B.i a B.j b)
-      (put_one (product_lists poles P Q) _ at sups n _ ends inc ends' inc' h.at_is pair_subs_lem pair_sups en
+      rw (number_more f.poles.min f.p.slices.counts.now f.q.slices.counts.now B.i a B.j b)
+      (put_one (lists_in f) _ at sups n _ ends inc ends' inc' h.at_is pair_subs_lem pair_sups en
       (pair_ends h.pair) l (rw pair_number at eq))

@@ -15,14 +15,13 @@
 -- size_of         how many elements the product has
 -- Plan            what the builder stands on: the factors' lists are there, what they name exists, the lists of the
 --                 product are those of the pairs, and there is room for all
--- Writable        a plan, with how many sups each element of the factors has, and the slices that are to be written
 use Rattle.std.specs.Prelude.{◌≡◌, Bool, cond, ◌&&◌, List, [], ℕ, pred, ◌+◌, ◌-◌, ◌*◌, ◌≤◌, ◌<◌, eqb, length}
 use Rattle.order.specs.Lists.{In}
 use Rattle.listing.specs.Listing.{Listing, rank, count, Ends, limits}
 use Rattle.listing.specs.Shape.{elements}
 use Rattle.listing.specs.Layers.{Layers, derived}
 use Rattle.listing.specs.Written.{nth}
-use Rattle.listing_sups.specs.Sups.{subs_from, layers_from, UpCounts}
+use Rattle.listing_sups.specs.Sups.{subs_from, layers_from}
 use Rattle.listing_sups.specs.Filling.{starts}
 use Rattle.product_pairs.specs.Trimmed.{bit}
 use Rattle.product_pairs.specs.Paired.{paired}
@@ -86,8 +85,3 @@ pub record Plan (min max : Bool) (P Q : Listing) (room_ends room_inc : ℕ) : Ty
   pub room_for_ends : 2 * size_of min max P.counts Q.counts ≤ room_ends
   pub room_for_inc : starts (lists_of min max P Q) (2 * size_of min max P.counts Q.counts) ≤ room_inc
   pub incidences : starts (lists_of min max P Q) (2 * size_of min max P.counts Q.counts) ≤ limits.incidences
-
-pub record Writable (poles : Poles) (P Q : Listing) (psups qsups ends inc : List ℕ) : Type 0 where
-  pub plan : Plan poles.min poles.max P Q (length ends) (length inc)
-  pub sups_p : UpCounts (bit poles.min) P psups
-  pub sups_q : UpCounts (bit poles.min) Q qsups

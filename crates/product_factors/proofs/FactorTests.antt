@@ -45,3 +45,5 @@ module _ (m : Limits) (A B : Listing) where
   factors_broken l y r =
       broken_inner _ (tests_not (eqb (is_valid m A).no 0) 30 (omega arith) (eqb-true _ _) (eq-eqb _ _)) _ y (λ a.
       broken_step l (tests_not (eqb (is_valid m B).no 0) 31 (omega arith) (eqb-true _ _) (eq-eqb _ _)) y (λ b. r a b))
+
+pub ruleset factors = (factors_left, factors_right, factors_fine)

@@ -55,8 +55,16 @@ pairs_le p q R n h = sum_le (λ r. pairs_in p q r (suc r)) R n h
 pub pairs_room : (p q : List ℕ) (R n : ℕ) → R < n → pairs_to p q R + pairs_in p q R (R + 1) ≤ pairs_to p q n
 pairs_room p q R n h = omega (arith, pairs_next p q R, pairs_le p q (R + 1) n (omega arith))
 
+-- the same of the numbers that the code has in hand
+pub pairs_fit : (p q : List ℕ) (R n x : ℕ) → x ≡ pairs_in p q R (R + 1) → R < n → pairs_to p q n < width → x < width
+pairs_fit p q R n x e h k = omega (arith, pairs_room p q R n h)
+
+pub sum_fits : (p q : List ℕ) (R n s x : ℕ) → s ≡ pairs_to p q R → x ≡ pairs_in p q R (R + 1) → R < n
+    → pairs_to p q n ≤ width → s + x ≤ width
+sum_fits p q R n s x d e h k = omega (arith, pairs_room p q R n h)
+
 -- where a loop over the ranks begins, and a turn of it
-pub ruleset pairs_steps = (pairs_none, pairs_next)
+pub ruleset pairs_steps = (pairs_none, pairs_next, sum_fits)
 
 module _ (min : Bool) (p q : List ℕ) where
   pub number_at : (i a j b : ℕ) → pair_number min p q i a j b ≡ first_at min p q (i + j) i + a * get_or q j 0 + b

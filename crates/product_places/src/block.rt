@@ -6,7 +6,7 @@ ghost use Rattle.product_places.specs.Places.{pairs_in, offset_in, pairs_to};
 ghost use Rattle.product_places.specs.Blocks.{BlockOf};
 
 use crate::Poles;
-use listing::{Index, inner};
+use listing::{Index, reading};
 
 // The pairs of the elements of two ranks.
 #[derive(Clone, Copy)]
@@ -41,7 +41,7 @@ pub fn pairs_in(p: &[Index], q: &[Index], rank: usize, i: usize) -> usize
 {
     let mut n: usize = 0;
     for k in 0..i {
-        n += inner::wide(inner::count_at(p, k)) * inner::wide(inner::count_at(q, rank - k));
+        n += usize::from(reading::count_at(p, k)) * usize::from(reading::count_at(q, rank - k));
     }
     n
 }
@@ -100,11 +100,11 @@ pub fn block_of(poles: Poles, p: &[Index], q: &[Index], start: usize, i: usize, 
         from: start + offset(p, q, i, j),
         low: is_low(poles.min, i, j),
         cap: cap_of(poles.max, p, q, i, j),
-        pbefore: inner::elements_before(p, i),
-        qbefore: inner::elements_before(q, j),
+        pbefore: reading::elements_before(p, i),
+        qbefore: reading::elements_before(q, j),
         left: offset(p, q, i.saturating_sub(1), j),
         right: offset(p, q, i, below),
-        qcount: inner::wide(inner::count_at(q, j)),
-        qbelow: inner::wide(inner::count_at(q, below)),
+        qcount: usize::from(reading::count_at(q, j)),
+        qbelow: usize::from(reading::count_at(q, below)),
     }
 }

@@ -12,3 +12,29 @@ pub struct Poles {
     pub min: bool,
     pub max: bool,
 }
+
+impl Poles {
+    // All pairs, none left out.
+    pub const DUOPYRAMID: Poles = Poles {
+        min: false,
+        max: false,
+    };
+
+    // The pairs without minimal elements, and one added.
+    pub const DUOPRISM: Poles = Poles {
+        min: true,
+        max: false,
+    };
+
+    // The pairs without maximal elements, and one added.
+    pub const DUOTEGUM: Poles = Poles {
+        min: false,
+        max: true,
+    };
+
+    // The pairs without minimal and maximal elements, and one of each added.
+    pub const DUOCOMB: Poles = Poles {
+        min: true,
+        max: true,
+    };
+}

@@ -6,7 +6,7 @@ ghost use Rattle.product_pairs.specs.Trimmed.{bit};
 ghost use Rattle.listing.specs.Laid.{Laid, LaidList};
 ghost use Rattle.product_places.specs.Places.{subs_of};
 
-use listing::{Index, inner};
+use listing::Index;
 
 // Where an element is written: its number among all, and the place of `inc` at which its lists begin.
 #[derive(Clone, Copy)]
@@ -48,7 +48,7 @@ pub fn put_scaled(d: &mut [Index], at: usize, list: &[Index], off: usize, scale:
         d.old d.new }
 {
     for (j, &x) in list.iter().enumerate() {
-        d[at + j] = (off + inner::wide(x) * scale) as Index;
+        d[at + j] = (off + usize::from(x) * scale) as Index;
     }
     at + list.len()
 }

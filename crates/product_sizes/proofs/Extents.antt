@@ -11,6 +11,7 @@ use Rattle.order.proofs.Sums.{sum_same, sum_first}
 use Rattle.listing.specs.Listing.{Listing, limits, before, entries}
 use Rattle.listing.specs.Shape.{elements}
 use Rattle.listing.specs.Layers.{Layers, layers}
+use Rattle.listing.proofs.Entries.{entries_few}
 use Rattle.listing.proofs.Listing.{before_zero, before_all, count_le}
 use Rattle.listing.proofs.Sequences.{sum_add, sum_parts}
 use Rattle.product_pairs.specs.Trimmed.{bit, trim_size, trimmed}
@@ -24,27 +25,35 @@ use Rattle.product_closure.proofs.Valid.{valid_sound}
 use Rattle.product_places.specs.declared.Poles.{Poles}
 use Rattle.product_sizes.specs.declared.sizes.Extent.{Extent}
 use Rattle.product_sizes.specs.declared.sizes.Totals.{Totals}
-use Rattle.product_sizes.specs.Sizing.{Usable, counts_in_use, extent_of, Little, totals_of, Measures}
+use Rattle.product_sizes.specs.Sizing.{Usable, counts_in_use, subs_between, extent_of, Little, totals_of, Measures}
 use Rattle.product_sizes.proofs.Parts.{usable_shaped, in_use_length, in_use_size, in_use_before, in_use_subs}
 
 -- ---- lists, one after another
 
 module _ (ends inc : List ℕ) where
-  pub listed_none : (from : ℕ) → 0 ≡ sum (λ k. length (entries ends inc (2 * (from + k)))) (from - from)
-  unfolding sum
+  pub listed_none : (from : ℕ) → 0 ≡ subs_between ends inc from from
+  unfolding subs_between sum
   listed_none from =
       let e : from - from ≡ 0 = omega arith in
       rw e
 
   -- the subs of one element more
   pub listed_next : (from e n : ℕ) (list : List ℕ) → from ≤ e
-      → n ≡ sum (λ k. length (entries ends inc (2 * (from + k)))) (e - from) → list ≡ entries ends inc (2 * e)
-      → n + length list ≡ sum (λ k. length (entries ends inc (2 * (from + k)))) (e + 1 - from)
-  unfolding sum
+      → n ≡ subs_between ends inc from e → list ≡ entries ends inc (2 * e)
+      → n + length list ≡ subs_between ends inc from (e + 1)
+  unfolding subs_between sum
   listed_next from e n list h en el =
       let d : e + 1 - from ≡ suc (e - from) = omega arith in
       let k : from + (e - from) ≡ e = omega arith in
       rw (d, k, el, en)
+
+  pub listed_few : (from e n : ℕ) (list : List ℕ) → from ≤ e → n ≤ limits.incidences * (e - from)
+      → length inc ≤ limits.incidences → list ≡ entries ends inc (2 * e)
+      → n + length list ≤ limits.incidences * (e + 1 - from)
+  listed_few from e n list h k few el = omega (arith, ap length el, entries_few ends inc (2 * e))
+
+-- a loop over elements, which adds up how many subs they list
+pub ruleset listed = (listed_none, listed_next, listed_few)
 
 -- ---- a factor
 
@@ -134,9 +143,8 @@ module _ (min max : Bool) (L : Listing) (u : Usable min max L) where
     top : length p - 1 ≡ M.top
     top = omega (arith, in_use_length min max L u)
 
-    pub extent_is : U.subs ≡ sum (λ k. length (entries L.ends L.inc (2 * (b + U.lowest + k))))
-        (b + U.elements - (b + U.lowest))
-        → U ≡ extent_of M
+    pub extent_is : U.subs ≡ subs_between L.ends L.inc (b + U.lowest) (b + U.elements) → U ≡ extent_of M
+    unfolding subs_between
     extent_is es =
         let ranks = er ∙ ap length e ∙ in_use_length min max L u in
         let elements = all ∙ elements_in_use in

@@ -1,13 +1,13 @@
 // How large a product is, known from its factors before a number is written.
 ghost use Rattle.std.specs.Prelude.{◌≡◌, ◌+◌, ◌-◌, ◌*◌, ◌≤◌, length};
-ghost use Rattle.order.specs.Sums.{sum};
-ghost use Rattle.listing.specs.Listing.{held, limits, Ends, entries};
+ghost use Rattle.listing.specs.Listing.{held, limits, Ends};
 ghost use Rattle.listing.specs.Layers.{layers};
+ghost use Rattle.listing.specs.Told.{told};
 ghost use Rattle.product_pairs.specs.Trimmed.{bit, trimmed};
-ghost use Rattle.product_sizes.specs.Sizing.{Usable, counts_in_use, extent_of, Little};
+ghost use Rattle.product_sizes.specs.Sizing.{Usable, counts_in_use, subs_between, extent_of, Little};
 ghost use Rattle.product_sizes.specs.Sizing.{totals_of, need_of_totals, totals_test};
 
-use listing::{Answer, Index, inner, limit, refusal};
+use listing::{Index, Refusal, Slices, limit, reading};
 use listing_outputs::outputs;
 use listing_outputs::outputs::Room;
 use product_places::Poles;
@@ -41,34 +41,33 @@ pub fn range<'a>(poles: Poles, counts: &'a [Index]) -> &'a [Index]
 }
 
 // How many subs the elements from one number up to another list.
-fn subs_listed(ends: &[Index], inc: &[Index], from: usize, to: usize) -> usize
-    requires ends { Ends ends.now inc.now }
-    requires from_le_to { (from ≤ to) × (2 * to ≤ length ends.now) × (to ≤ limits.elements + 1)
-        × (length inc.now ≤ limits.incidences) }
-    ensures value { result ≡ sum (λ k. length (entries ends.now inc.now (2 * (from + k))))
-        (to - from) }
+#[tactic(auto, using(crate::proofs::Extents::listed))]
+fn subs_listed(slices: Slices<'_>, from: usize, to: usize) -> usize
+    requires ends { Ends slices.ends.now slices.inc.now }
+    requires from_le_to { (from ≤ to) × (2 * to ≤ length slices.ends.now) × (to ≤ limits.elements + 1)
+        × (length slices.inc.now ≤ limits.incidences) }
+    ensures value { result ≡ subs_between slices.entry.ends.now slices.entry.inc.now from to }
     ensures upper_bound { result ≤ limits.incidences * (to - from) }
 {
     let mut n: usize = 0;
     for e in from..to {
-        n += inner::list_of(ends, inc, 2 * e).len();
+        n += slices.list_of(2 * e).len();
     }
     n
 }
 
 // The extent of what a product uses of a factor.
-pub fn extent_of(poles: Poles, counts: &[Index], ends: &[Index], inc: &[Index]) -> Extent
-    requires { Usable poles.min poles.max (held counts ends inc) }
+pub fn extent_of(poles: Poles, slices: Slices<'_>) -> Extent
+    requires { Usable poles.min poles.max (held slices) }
     ensures little { Little result }
-    ensures value { result ≡ extent_of (trimmed poles.min poles.max
-        (layers (held counts.entry ends.entry inc.entry))) }
+    ensures value { result ≡ extent_of (trimmed poles.min poles.max (layers (held slices.entry))) }
 {
-    let p = range(poles, counts);
+    let p = range(poles, slices.counts);
     let base = usize::from(poles.min);
-    let elements = inner::elements_before(p, p.len());
-    let lowest = inner::wide(p[0]);
-    let highest = inner::wide(p[p.len() - 1]);
-    let subs = subs_listed(ends, inc, base + lowest, base + elements);
+    let elements = reading::elements_before(p, p.len());
+    let lowest = usize::from(p[0]);
+    let highest = usize::from(p[p.len() - 1]);
+    let subs = subs_listed(slices, base + lowest, base + elements);
     Extent {
         ranks: p.len(),
         elements,
@@ -125,17 +124,17 @@ pub fn need_of(s: Totals) -> Room
 
 // Whether a product of these sizes is within the limits, and then whether there is room for it.
 #[tactic(auto, using(crate::proofs::Tested::totals_tests))]
-pub fn check_sizes(s: Totals, room: Room) -> Answer
-    ensures { result ≡ totals_test limits s room }
+pub fn check_sizes(s: Totals, room: Room) -> Result<(), Refusal>
+    ensures { told result ≡ totals_test limits s room }
 {
     if limit::RANKS < s.ranks {
-        return inner::plain(refusal::PRODUCT_RANKS);
+        return Err(Refusal::ProductRanks);
     }
     if limit::ELEMENTS < s.elements {
-        return inner::plain(refusal::PRODUCT_ELEMENTS);
+        return Err(Refusal::ProductElements);
     }
     if limit::INCIDENCES < s.incidences {
-        return inner::plain(refusal::PRODUCT_INCIDENCES);
+        return Err(Refusal::ProductIncidences);
     }
     outputs::check_room(need_of(s), room)
 }

@@ -1,128 +1,82 @@
 // The pairs of two factors, written in their order: by rank, the first member's rank, its index, the second's index.
 ghost use Rattle.std.specs.Prelude.{◌≡◌, ◌+◌, ◌-◌, ◌*◌, ◌≤◌, length};
-ghost use Rattle.listing.specs.Listing.{held};
 ghost use Rattle.listing_sups.specs.Filling.{starts, ElementsLaid, Put};
 ghost use Rattle.product_pairs.specs.Trimmed.{bit};
-ghost use Rattle.product_places.specs.Places.{pairs_to, first_at};
-ghost use Rattle.product_places.specs.Blocks.{BlockOf};
-ghost use Rattle.product_element.specs.Pairs.{product_lists, size_of, Writable};
+ghost use Rattle.product_places.specs.Places.{pairs_to};
+ghost use Rattle.product_element.specs.Writing.{lists_in, first_in, size_in, BlockIn, Writable};
 
-use listing::{Index, inner};
-use product_element::pair;
+use listing::{Index, reading};
+use product_element::{Factors, pair};
 use product_places::block::Block;
 use product_places::put::Spot;
-use product_places::{Poles, block, put};
+use product_places::{block, put};
 
 // The pairs of a block, from place `at` on. Returns the place after them.
 fn put_block(
-    poles: Poles,
-    p: &[Index],
-    pends: &[Index],
-    pinc: &[Index],
-    q: &[Index],
-    qends: &[Index],
-    qinc: &[Index],
-    psups: &[Index],
-    qsups: &[Index],
+    factors: Factors<'_>,
     ends: &mut [Index],
     inc: &mut [Index],
     block: Block,
     at: usize,
 ) -> usize
-    requires writable { Writable poles (held p pends pinc) (held q qends qinc) psups.now qsups.now ends.old inc.old }
-    requires block_of { BlockOf poles p.now q.now block.i block.j block }
-    requires at_value { at ≡ starts (product_lists poles (held p pends pinc) (held q qends qinc))
-        (2 * first_at poles.min p.now q.now (block.i + block.j) block.i) }
-    ensures { Put (product_lists poles (held p.entry pends.entry pinc.entry)
-        (held q.entry qends.entry qinc.entry))
-        (first_at poles.min p.now q.now (block.i + block.j) block.i)
-        (first_at poles.min p.now q.now (block.i + block.j) (block.i + 1)) result
-        ends.old inc.old ends.new inc.new }
+    requires writable { Writable factors ends.old inc.old }
+    requires block_of { BlockIn factors block }
+    requires at_value { at ≡ starts (lists_in factors) (2 * first_in factors (block.i + block.j) block.i) }
+    ensures { Put (lists_in factors.entry) (first_in factors.entry (block.i + block.j) block.i)
+        (first_in factors.entry (block.i + block.j) (block.i + 1)) result ends.old inc.old ends.new inc.new }
 {
     if block.qcount == 0 {
         return at;
     }
     let mut to = at;
-    for a in 0..inner::wide(inner::count_at(p, block.i)) {
-        to = pair::put_pairs_of(
-            poles, p, pends, pinc, q, qends, qinc, psups, qsups, &mut *ends, &mut *inc, block, a,
-            to,
-        );
+    for a in 0..usize::from(reading::count_at(factors.p.slices.counts, block.i)) {
+        to = pair::put_pairs_of(factors, &mut *ends, &mut *inc, block, a, to);
     }
     to
 }
 
 // The pairs of one rank, which begins at the element `start`, from place `at` on. Returns the place after them.
 fn put_rank(
-    poles: Poles,
-    p: &[Index],
-    pends: &[Index],
-    pinc: &[Index],
-    q: &[Index],
-    qends: &[Index],
-    qinc: &[Index],
-    psups: &[Index],
-    qsups: &[Index],
+    factors: Factors<'_>,
     ends: &mut [Index],
     inc: &mut [Index],
     start: usize,
     rank: usize,
     at: usize,
 ) -> usize
-    requires writable { Writable poles (held p pends pinc) (held q qends qinc) psups.now qsups.now ends.old inc.old }
-    requires rank_in_bounds { rank + 2 ≤ length p.now + length q.now }
-    requires start_value { start ≡ bit poles.min + pairs_to p.now q.now rank }
-    requires at_value { at ≡ starts (product_lists poles (held p pends pinc) (held q qends qinc))
-        (2 * first_at poles.min p.now q.now rank 0) }
-    ensures { Put (product_lists poles (held p.entry pends.entry pinc.entry)
-        (held q.entry qends.entry qinc.entry))
-        (first_at poles.min p.now q.now rank 0)
-        (first_at poles.min p.now q.now (rank + 1) 0) result
+    requires writable { Writable factors ends.old inc.old }
+    requires rank_in_bounds { rank + 2 ≤ length factors.p.slices.counts.now + length factors.q.slices.counts.now }
+    requires start_value { start ≡ bit factors.poles.min
+        + pairs_to factors.p.slices.counts.now factors.q.slices.counts.now rank }
+    requires at_value { at ≡ starts (lists_in factors) (2 * first_in factors rank 0) }
+    ensures { Put (lists_in factors.entry) (first_in factors.entry rank 0) (first_in factors.entry (rank + 1) 0) result
         ends.old inc.old ends.new inc.new }
 {
+    let p = factors.p.slices.counts;
+    let q = factors.q.slices.counts;
     let mut to = at;
     for i in 0..rank + 1 {
-        let block = block::block_of(poles, p, q, start, i, rank - i);
-        to = put_block(
-            poles, p, pends, pinc, q, qends, qinc, psups, qsups, &mut *ends, &mut *inc, block, to,
-        );
+        let block = block::block_of(factors.poles, p, q, start, i, rank - i);
+        to = put_block(factors, &mut *ends, &mut *inc, block, to);
     }
     to
 }
 
 // All pairs, from place `at` on. Returns the place after them.
-fn put_ranks(
-    poles: Poles,
-    p: &[Index],
-    pends: &[Index],
-    pinc: &[Index],
-    q: &[Index],
-    qends: &[Index],
-    qinc: &[Index],
-    psups: &[Index],
-    qsups: &[Index],
-    ends: &mut [Index],
-    inc: &mut [Index],
-    at: usize,
-) -> usize
-    requires writable { Writable poles (held p pends pinc) (held q qends qinc) psups.now qsups.now ends.old inc.old }
-    requires at_value { at ≡ starts (product_lists poles (held p pends pinc) (held q qends qinc))
-        (2 * first_at poles.min p.now q.now 0 0) }
-    ensures { Put (product_lists poles (held p.entry pends.entry pinc.entry)
-        (held q.entry qends.entry qinc.entry))
-        (first_at poles.min p.now q.now 0 0)
-        (first_at poles.min p.now q.now
-        (length p.now + length q.now - 1) 0) result
+fn put_ranks(factors: Factors<'_>, ends: &mut [Index], inc: &mut [Index], at: usize) -> usize
+    requires writable { Writable factors ends.old inc.old }
+    requires at_value { at ≡ starts (lists_in factors) (2 * first_in factors 0 0) }
+    ensures { Put (lists_in factors.entry) (first_in factors.entry 0 0)
+        (first_in factors.entry
+        (length factors.entry.p.slices.counts.now + length factors.entry.q.slices.counts.now - 1) 0) result
         ends.old inc.old ends.new inc.new }
 {
-    let ranks = p.len() + q.len() - 1;
-    let mut start = usize::from(poles.min);
+    let p = factors.p.slices.counts;
+    let q = factors.q.slices.counts;
+    let mut start = usize::from(factors.poles.min);
     let mut to = at;
-    for rank in 0..ranks {
-        to = put_rank(
-            poles, p, pends, pinc, q, qends, qinc, psups, qsups, &mut *ends, &mut *inc, start,
-            rank, to,
-        );
+    for rank in 0..p.len() + q.len() - 1 {
+        to = put_rank(factors, &mut *ends, &mut *inc, start, rank, to);
         start += block::pairs_in(p, q, rank, rank + 1);
     }
     to
@@ -131,31 +85,18 @@ fn put_ranks(
 // All elements: the added minimal one, the pairs, the added maximal one, as they are asked for. Returns how many they
 // are.
 #[tactic(auto, using(product_places::proofs::Numbers::bit_is), unfolding(product_element::specs::Pairs::size_of))]
-pub fn put_elements(
-    poles: Poles,
-    p: &[Index],
-    pends: &[Index],
-    pinc: &[Index],
-    q: &[Index],
-    qends: &[Index],
-    qinc: &[Index],
-    psups: &[Index],
-    qsups: &[Index],
-    ends: &mut [Index],
-    inc: &mut [Index],
-) -> usize
-    requires { Writable poles (held p pends pinc) (held q qends qinc) psups.now qsups.now ends.old inc.old }
-    ensures value { result ≡ size_of poles.min poles.max p.now q.now }
-    ensures elements_laid { ElementsLaid (product_lists poles (held p.entry pends.entry pinc.entry)
-        (held q.entry qends.entry qinc.entry))
-        (size_of poles.min poles.max p.now q.now)
+pub fn put_elements(factors: Factors<'_>, ends: &mut [Index], inc: &mut [Index]) -> usize
+    requires { Writable factors ends.old inc.old }
+    ensures value { result ≡ size_in factors.entry }
+    ensures elements_laid { ElementsLaid (lists_in factors.entry) (size_in factors.entry)
         ends.old inc.old ends.new inc.new }
 {
+    let poles = factors.poles;
+    let p = factors.p.slices.counts;
+    let q = factors.q.slices.counts;
     let lowest = block::pairs_in(p, q, 0, 1);
     let at = put::put_min(&mut *ends, poles.min, lowest);
-    let to = put_ranks(
-        poles, p, pends, pinc, q, qends, qinc, psups, qsups, &mut *ends, &mut *inc, at,
-    );
+    let to = put_ranks(factors, &mut *ends, &mut *inc, at);
     let ranks = p.len() + q.len() - 1;
     let e = usize::from(poles.min) + block::pairs_to(p, q, ranks);
     let highest = block::pairs_in(p, q, ranks - 1, ranks);

@@ -1,24 +1,21 @@
 // Each question read from its line and put to the function that it names. The functions are told apart by letters of
 // their names. By whole names, a line that no list has, with a name of its own, would be answered in another way.
+ghost use Rattle.std.specs.Prelude.{◌<◌};
+ghost use Rattle.listing.specs.Listing.{width};
+
 use crate::{bodies, cell, flags};
-use listing::Index;
+use listing::{Index, Slices};
 use replay_products::pair;
 use replay_reading::text;
 use replay_saying::room;
+use replay_saying::room::{FEW, MANY, SOME};
 use std::io;
 
 // A question on a flag: change, search, events.
-fn on_flag(
-    rt: &impl Print,
-    line: &[u8],
-    counts: &[Index],
-    ends: &[Index],
-    inc: &[Index],
-    flag: &[Index],
-) -> io::Result<()> {
+fn on_flag(rt: &impl Print, line: &[u8], slices: Slices<'_>, flag: &[Index]) -> io::Result<()> {
     match text::letter(line, 0) {
-        b'c' => flags::change(rt, line, counts, ends, inc, flag),
-        _ => flags::search(rt, line, counts, ends, inc, flag),
+        b'c' => flags::change(rt, line, slices, flag),
+        _ => flags::search(rt, line, slices, flag),
     }
 }
 
@@ -56,99 +53,62 @@ fn is_volume(line: &[u8]) -> bool {
 
 // A question on one cell, and perhaps a flag: a count, one on the flag, six_volume, one_body, write_text, or another
 // test.
-fn on_cell(
-    rt: &impl Print,
-    line: &[u8],
-    counts: &[Index],
-    ends: &[Index],
-    inc: &[Index],
-    flag: &[Index],
-) -> io::Result<()> {
+fn on_cell(rt: &impl Print, line: &[u8], slices: Slices<'_>, flag: &[Index]) -> io::Result<()> {
     if is_count(line) {
-        return cell::count(rt, line, counts);
+        return cell::count(rt, line, slices.counts);
     }
     if is_on_flag(line) {
-        return on_flag(rt, line, counts, ends, inc, flag);
+        return on_flag(rt, line, slices, flag);
     }
     if is_volume(line) {
-        return replay_volumes::six_volume(rt, line, counts, ends, inc, flag);
+        return replay_volumes::six_volume(rt, line, slices, flag);
     }
     if text::letter(line, 0) == b'o' {
-        return bodies::one_body(rt, line, counts, ends, inc);
+        return bodies::one_body(rt, line, slices);
     }
     if text::letter(line, 0) == b'w' {
-        return replay_texts::write_text(rt, line, counts, ends, inc);
+        return replay_texts::write_text(rt, line, slices);
     }
-    cell::test(rt, line, counts, ends, inc)
+    cell::test(rt, line, slices)
 }
 
-// A question with a second factor, whose last list is read here. Each list is read into room of its own and lent on:
-// a function with many arrays is slow to check.
-fn last_of_factors(
-    rt: &impl Print,
-    line: &[u8],
-    pcounts: &[Index],
-    pends: &[Index],
-    pinc: &[Index],
-    qcounts: &[Index],
-    qends: &[Index],
-) -> io::Result<()> {
-    let mut qinc = room::many();
-    let n = text::list(line, 5, &mut qinc);
-    pair::product(rt, line, pcounts, pends, pinc, qcounts, qends, &qinc[..n])
+// Reads the listing whose lists begin with list k of the line, and lends it. Lists that the line lacks are empty.
+fn with_listing<F>(line: &[u8], k: usize, lend: F) -> io::Result<()>
+where
+    F: FnOnce(Slices<'_>) -> io::Result<()>,
+    requires k_fits { k < width }
+    requires callable { F.IsAlwaysCallable lend }
+{
+    let mut counts = room::numbers::<FEW>();
+    let mut ends = room::numbers::<SOME>();
+    let mut inc = room::numbers::<MANY>();
+    let c = text::list(line, k, &mut counts);
+    let e = text::list(line, k + 1, &mut ends);
+    let i = text::list(line, k + 2, &mut inc);
+    lend(Slices {
+        counts: &counts[..c],
+        ends: &ends[..e],
+        inc: &inc[..i],
+    })
 }
 
-// The same, one list before.
-fn ends_of_factors(
-    rt: &impl Print,
-    line: &[u8],
-    pcounts: &[Index],
-    pends: &[Index],
-    pinc: &[Index],
-    qcounts: &[Index],
-) -> io::Result<()> {
-    let mut qends = room::some();
-    let n = text::list(line, 4, &mut qends);
-    last_of_factors(rt, line, pcounts, pends, pinc, qcounts, &qends[..n])
+// A question on one cell, and perhaps a flag, which is its fourth list.
+fn with_flag(rt: &impl Print, line: &[u8], slices: Slices<'_>) -> io::Result<()> {
+    let mut flag = room::numbers::<FEW>();
+    let n = text::list(line, 3, &mut flag);
+    on_cell(rt, line, slices, &flag[..n])
 }
 
-// A cell, and then a flag or the counts of the second factor.
-fn more(
-    rt: &impl Print,
-    line: &[u8],
-    counts: &[Index],
-    ends: &[Index],
-    inc: &[Index],
-) -> io::Result<()> {
-    let mut list = room::few();
-    let n = text::list(line, 3, &mut list);
-    if is_product(line) {
-        ends_of_factors(rt, line, counts, ends, inc, &list[..n])
-    } else {
-        on_cell(rt, line, counts, ends, inc, &list[..n])
-    }
-}
-
-// The incidences of a cell, and what comes after them.
-fn incidences(rt: &impl Print, line: &[u8], counts: &[Index], ends: &[Index]) -> io::Result<()> {
-    let mut inc = room::many();
-    let n = text::list(line, 2, &mut inc);
-    more(rt, line, counts, ends, &inc[..n])
-}
-
-// The ends of a cell, and what comes after them.
-fn ends(rt: &impl Print, line: &[u8], counts: &[Index]) -> io::Result<()> {
-    let mut ends = room::some();
-    let n = text::list(line, 1, &mut ends);
-    incidences(rt, line, counts, &ends[..n])
-}
-
-// A question with lists: a cell, and then a flag or the second factor. Lists that the line lacks are empty. The list of
-// coordinates, which six_volume has besides, is read in replay_volumes.
+// A question with lists: a cell, and then a flag or the second factor. The list of coordinates, which six_volume has
+// besides, is read in replay_volumes.
 fn lists(rt: &impl Print, line: &[u8]) -> io::Result<()> {
-    let mut counts = room::few();
-    let n = text::list(line, 0, &mut counts);
-    ends(rt, line, &counts[..n])
+    with_listing(line, 0, |p| {
+        if is_product(line) {
+            with_listing(line, 3, |q| pair::product(rt, line, p, q))
+        } else {
+            with_flag(rt, line, p)
+        }
+    })
 }
 
 // Any question: read_text, check_text, class, sign, next_event, or one with lists. Of these write_text has a letter of

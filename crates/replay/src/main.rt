@@ -8,9 +8,8 @@ mod bodies;
 mod cell;
 mod flags;
 
-ghost use Rattle.std.specs.Prelude.{◌≡◌, length};
-
 use replay_reading::text;
+use replay_saying::room;
 use std::io;
 
 // So many bytes there is room for.
@@ -42,15 +41,8 @@ fn all(rt: &impl Print, text: &[u8]) -> io::Result<()> {
     Ok(())
 }
 
-// An array for the text; the contract gives the length, which lending an array needs.
-fn room() -> [u8; TEXT]
-    ensures { 524288 ≡ length result }
-{
-    [0; TEXT]
-}
-
 fn main(rt: HostRuntime) -> io::Result<()> {
-    let mut text = room();
+    let mut text = room::bytes::<TEXT>();
     let n = lent_input::read_full(&mut rt.stdin(), &mut text);
     all(&rt, &text[..n])
 }

@@ -1,5 +1,8 @@
 // Questions on products.
-use listing::{Built, Index};
+use listing::{Answer, Built, Index, Lengths, Refusal, Slices};
+use listing_outputs::outputs;
+use product::make;
+use product_places::Poles;
 use replay_reading::text;
 use replay_saying::{room, say};
 use std::io;
@@ -25,41 +28,29 @@ fn letter_of(line: &[u8]) -> u8 {
     text::letter(line, 4)
 }
 
-// Whether minimal elements are left out, by the fifth letter: of the duoprism and the duocomb.
-fn leaves_min(letter: u8) -> bool {
+// The product by that letter.
+fn poles_of(letter: u8) -> Poles {
     match letter {
-        b'r' | b'o' => true,
-        _ => false,
-    }
-}
-
-// Whether maximal elements are left out, by the fifth letter: of the duotegum and the duocomb.
-fn leaves_max(letter: u8) -> bool {
-    match letter {
-        b'e' | b'o' => true,
-        _ => false,
+        b'r' => Poles::DUOPRISM,
+        b'e' => Poles::DUOTEGUM,
+        b'o' => Poles::DUOCOMB,
+        _ => Poles::DUOPYRAMID,
     }
 }
 
 // What is_valid and closed say of a listing, and its counts.
-fn tests(rt: &impl Print, counts: &[Index], ends: &[Index], inc: &[Index]) -> io::Result<()> {
-    say::answer(rt, valid::is_valid(counts, ends, inc))?;
-    say::answer(rt, valid::closed(counts, ends, inc))?;
-    say::list(rt, counts)
+fn tests(rt: &impl Print, slices: Slices<'_>) -> io::Result<()> {
+    say::answer(rt, Answer::from(valid::is_valid(slices)))?;
+    say::answer(rt, Answer::from(valid::closed(slices)))?;
+    say::list(rt, slices.counts)
 }
 
 // What is asked besides of what a product wrote: what the tests say of it, or its text, with room of the fourth length.
-fn besides(
-    rt: &impl Print,
-    line: &[u8],
-    counts: &[Index],
-    ends: &[Index],
-    inc: &[Index],
-) -> io::Result<()> {
+fn besides(rt: &impl Print, line: &[u8], slices: Slices<'_>) -> io::Result<()> {
     if is_written(line) {
-        replay_texts::write(rt, counts, ends, inc, text::plain(line, 3) as u64)
+        replay_texts::write(rt, slices, text::plain(line, 3))
     } else {
-        tests(rt, counts, ends, inc)
+        tests(rt, slices)
     }
 }
 
@@ -76,83 +67,40 @@ fn asks_more(line: &[u8]) -> bool {
 fn left(
     rt: &impl Print,
     line: &[u8],
-    b: Built,
-    counts: &[Index],
-    ends: &[Index],
-    inc: &[Index],
+    made: Result<Lengths, Refusal>,
+    slices: Slices<'_>,
 ) -> io::Result<()> {
-    say::built(rt, b)?;
+    say::built(rt, Built::from(made))?;
     if !asks_more(line) {
-        return say::lists(rt, counts, ends, inc);
+        return say::lists(rt, slices);
     }
-    if b.answer.no == 0 {
-        let c = room::words(b.counts as u64, counts);
-        let e = room::words(b.ends as u64, ends);
-        let i = room::words(b.inc as u64, inc);
-        besides(rt, line, &counts[..c], &ends[..e], &inc[..i])?;
+    match made {
+        Ok(n) => besides(rt, line, outputs::written(slices, n)),
+        Err(_) => Ok(()),
     }
-    Ok(())
 }
 
 // The product that the line asks for, and what it left in the slices lent.
 fn product_in(
     rt: &impl Print,
     line: &[u8],
-    pcounts: &[Index],
-    pends: &[Index],
-    pinc: &[Index],
-    qcounts: &[Index],
-    qends: &[Index],
-    qinc: &[Index],
+    p: Slices<'_>,
+    q: Slices<'_>,
     counts: &mut [Index],
     ends: &mut [Index],
     inc: &mut [Index],
 ) -> io::Result<()> {
-    let letter = letter_of(line);
-    let b = product::make::make(
-        leaves_min(letter),
-        leaves_max(letter),
-        pcounts,
-        pends,
-        pinc,
-        qcounts,
-        qends,
-        qinc,
-        &mut *counts,
-        &mut *ends,
-        &mut *inc,
-    );
-    left(rt, line, b, counts, ends, inc)
+    let poles = poles_of(letter_of(line));
+    let made = make::make(poles, p, q, &mut *counts, &mut *ends, &mut *inc);
+    left(rt, line, made, Slices { counts, ends, inc })
 }
 
 // The product that the line asks for, with room of the lengths that it asks for, as far as there is so much.
-pub fn product(
-    rt: &impl Print,
-    line: &[u8],
-    pcounts: &[Index],
-    pends: &[Index],
-    pinc: &[Index],
-    qcounts: &[Index],
-    qends: &[Index],
-    qinc: &[Index],
-) -> io::Result<()> {
-    let mut counts = room::few();
-    let mut ends = room::some();
-    let mut inc = room::many();
-    let c = room::words(text::plain(line, 0) as u64, &counts);
-    let e = room::words(text::plain(line, 1) as u64, &ends);
-    let i = room::words(text::plain(line, 2) as u64, &inc);
-    product_in(
-        rt,
-        line,
-        pcounts,
-        pends,
-        pinc,
-        qcounts,
-        qends,
-        qinc,
-        &mut counts[..c],
-        &mut ends[..e],
-        &mut inc[..i],
+pub fn product(rt: &impl Print, line: &[u8], p: Slices<'_>, q: Slices<'_>) -> io::Result<()> {
+    room::for_listing(
+        text::plain(line, 0),
+        text::plain(line, 1),
+        text::plain(line, 2),
+        |counts, ends, inc| product_in(rt, line, p, q, counts, ends, inc),
     )
 }

@@ -1,111 +1,81 @@
 // Arrays to read into and to lend, full of the largest number, each a little larger than its limit, and how much of
-// them is lent. Each contract fixes what is returned, and then gives the length, which lending an array needs.
-ghost use Rattle.std.specs.Prelude.{◌≡◌, ◌+◌, ◌-◌, ◌*◌, min, length, replicate};
-ghost use Rattle.lent_input.specs.Counts.{IsPrefixLen};
-ghost use Rattle.listing.specs.Listing.{width, limits};
-ghost use Rattle.replay_saying.specs.Room.{spare};
+// them is lent. The contract of an array fixes what is returned, and then gives the length, which lending it needs.
+ghost use Rattle.std.specs.Prelude.{◌≡◌, ◌≤◌, ◌-◌, min, length, take, replicate};
+ghost use Rattle.listing.specs.Listing.{width};
 
 use listing::{Index, limit};
-
-// What the arrays are full of: numbers that no product or search writes.
-const FULL: Index = listing::LARGEST;
-
-const FULL_BYTE: u8 = 255;
+use std::io;
 
 // How many more numbers an array has than its limit.
 const SPARE: usize = 16;
 
-// How long they are.
-const FEW: usize = limit::RANKS + SPARE;
+// How long they are: those for counts or a flag, for ends, and for incidences;
+pub const FEW: usize = limit::RANKS + SPARE;
 
-const SOME: usize = 2 * limit::ELEMENTS + SPARE;
+pub const SOME: usize = 2 * limit::ELEMENTS + SPARE;
 
-const MANY: usize = limit::INCIDENCES + SPARE;
+pub const MANY: usize = limit::INCIDENCES + SPARE;
 
+// for flags, and their orientations;
 const TABLE: usize = limit::RANKS * (limit::FLAGS + SPARE);
 
 const BYTES: usize = limit::FLAGS + SPARE;
 
-const TEXT: usize = limit::TEXT + SPARE;
+// for a text, and for one to be written: more than that of any closed listing has.
+pub const TEXT: usize = limit::TEXT + SPARE;
 
-// More than the text of any closed listing has.
 pub const WRITTEN: usize = 2 * limit::TEXT;
 
-// Room for counts, or for a flag.
+// Room for numbers: no product or search writes those that it is full of.
 #[tactic(auto, using(crate::proofs::Counting::repeated))]
-pub fn few() -> [Index; FEW]
-    ensures value { result ≡ replicate (limits.ranks + spare) (width - 1) }
-    ensures spare_value { limits.ranks + spare ≡ length result }
+pub fn numbers<const N: usize>() -> [Index; N]
+    ensures value { result ≡ replicate N (width - 1) }
+    ensures length { N ≡ length result }
 {
-    [FULL; FEW]
+    [listing::LARGEST; N]
 }
 
-// Room for ends.
+// Room for bytes.
 #[tactic(auto, using(crate::proofs::Counting::repeated))]
-pub fn some() -> [Index; SOME]
-    ensures value { result ≡ replicate (2 * limits.elements + spare) (width - 1) }
-    ensures spare_value { 2 * limits.elements + spare ≡ length result }
+pub fn bytes<const N: usize>() -> [u8; N]
+    ensures value { result ≡ replicate N 255 }
+    ensures length { N ≡ length result }
 {
-    [FULL; SOME]
+    [u8::MAX; N]
 }
 
-// Room for incidences.
-#[tactic(auto, using(crate::proofs::Counting::repeated))]
-pub fn many() -> [Index; MANY]
-    ensures value { result ≡ replicate (limits.incidences + spare) (width - 1) }
-    ensures spare_value { limits.incidences + spare ≡ length result }
+// So many items of a slice, or all if it has fewer.
+pub fn within<T>(n: u32, room: &[T]) -> usize
+    ensures value { result ≡ min n (length room.now) }
+    ensures prefix_len { (result ≤ length room.now) × (result ≡ length (take result room.now)) }
 {
-    [FULL; MANY]
+    room.len().min(n as usize)
 }
 
-// Room for flags.
-#[tactic(auto, using(crate::proofs::Counting::repeated))]
-pub fn table() -> [Index; TABLE]
-    ensures value { result ≡ replicate (limits.ranks * (limits.flags + spare)) (width - 1) }
-    ensures spare_value { limits.ranks * (limits.flags + spare) ≡ length result }
+// Lends three slices of these lengths for a listing, as far as there is so much room.
+pub fn for_listing<F>(counts: u32, ends: u32, inc: u32, lend: F) -> io::Result<()>
+where
+    F: FnOnce(&mut [Index], &mut [Index], &mut [Index]) -> io::Result<()>,
+    requires { F.IsAlwaysCallable lend }
 {
-    [FULL; TABLE]
+    let mut few = numbers::<FEW>();
+    let mut some = numbers::<SOME>();
+    let mut many = numbers::<MANY>();
+    let c = within(counts, &few);
+    let e = within(ends, &some);
+    let i = within(inc, &many);
+    lend(&mut few[..c], &mut some[..e], &mut many[..i])
 }
 
-// Room for orientations.
-#[tactic(auto, using(crate::proofs::Counting::repeated))]
-pub fn orientations() -> [u8; BYTES]
-    ensures value { result ≡ replicate (limits.flags + spare) 255 }
-    ensures spare_value { limits.flags + spare ≡ length result }
+// Lends slices of these lengths for the flags of a search and their orientations, as far as there is so much room.
+pub fn for_search<F>(table: u32, orientations: u32, lend: F) -> io::Result<()>
+where
+    F: FnOnce(&mut [Index], &mut [u8]) -> io::Result<()>,
+    requires { F.IsAlwaysCallable lend }
 {
-    [FULL_BYTE; BYTES]
-}
-
-// Room for a text.
-#[tactic(auto, using(crate::proofs::Counting::repeated))]
-pub fn text() -> [u8; TEXT]
-    ensures value { result ≡ replicate (limits.text + spare) 255 }
-    ensures spare_value { limits.text + spare ≡ length result }
-{
-    [FULL_BYTE; TEXT]
-}
-
-// Room for a text to be written.
-#[tactic(auto, using(crate::proofs::Counting::repeated))]
-pub fn written() -> [u8; WRITTEN]
-    ensures value { result ≡ replicate (2 * limits.text) 255 }
-    ensures text_value { 2 * limits.text ≡ length result }
-{
-    [FULL_BYTE; WRITTEN]
-}
-
-// So many numbers of a slice, or all if it has fewer.
-pub fn words(n: u64, out: &[Index]) -> usize
-    ensures value { result ≡ min n (length out.now) }
-    ensures prefix_len { IsPrefixLen result out.now }
-{
-    out.len().min(n as usize)
-}
-
-// So many bytes of a slice, or all if it has fewer.
-pub fn bytes(n: u64, out: &[u8]) -> usize
-    ensures value { result ≡ min n (length out.now) }
-    ensures prefix_len { IsPrefixLen result out.now }
-{
-    out.len().min(n as usize)
+    let mut flags = numbers::<TABLE>();
+    let mut odd = bytes::<BYTES>();
+    let t = within(table, &flags);
+    let o = within(orientations, &odd);
+    lend(&mut flags[..t], &mut odd[..o])
 }

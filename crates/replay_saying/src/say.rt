@@ -1,10 +1,9 @@
 // Answers as text. A list of more than 300 numbers is given by its length, its sum and its check number.
-ghost use Rattle.std.specs.Prelude.{◌≡◌, ◌*◌, ◌<◌, length};
-ghost use Rattle.listing.specs.Listing.{width, limits};
 ghost use Rattle.lent_input.specs.Counts.{IsPrefixLen};
 
+use crate::room;
 use crate::room::WRITTEN;
-use listing::{Answer, Built, Index, Number, limit};
+use listing::{Answer, Built, Index, Number, Slices, limit};
 use std::io;
 
 // Lists up to this length are written out.
@@ -23,24 +22,24 @@ pub fn number(rt: &impl Print, n: u64) -> io::Result<()> {
 
 // The five numbers of an answer.
 pub fn answer(rt: &impl Print, a: Answer) -> io::Result<()> {
-    number(rt, a.no as u64)?;
-    number(rt, a.a as u64)?;
-    number(rt, a.b as u64)?;
-    number(rt, a.c as u64)?;
-    number(rt, a.d as u64)
+    number(rt, u64::from(a.no))?;
+    number(rt, u64::from(a.a))?;
+    number(rt, u64::from(a.b))?;
+    number(rt, u64::from(a.c))?;
+    number(rt, u64::from(a.d))
 }
 
 // What is answered of a listing that is written: the numbers of the answer, and how long its lists are.
 pub fn built(rt: &impl Print, b: Built) -> io::Result<()> {
     answer(rt, b.answer)?;
-    number(rt, b.counts as u64)?;
-    number(rt, b.ends as u64)?;
-    number(rt, b.inc as u64)
+    number(rt, u64::from(b.counts))?;
+    number(rt, u64::from(b.ends))?;
+    number(rt, u64::from(b.inc))
 }
 
 // The two numbers of a count.
 pub fn count(rt: &impl Print, n: Number) -> io::Result<()> {
-    number(rt, n.no as u64)?;
+    number(rt, u64::from(n.no))?;
     number(rt, n.value as u64)
 }
 
@@ -100,10 +99,10 @@ pub fn list(rt: &impl Print, list: &[Index]) -> io::Result<()> {
 }
 
 // All that the three slices of a listing hold.
-pub fn lists(rt: &impl Print, counts: &[Index], ends: &[Index], inc: &[Index]) -> io::Result<()> {
-    list(rt, counts)?;
-    list(rt, ends)?;
-    list(rt, inc)
+pub fn lists(rt: &impl Print, slices: Slices<'_>) -> io::Result<()> {
+    list(rt, slices.counts)?;
+    list(rt, slices.ends)?;
+    list(rt, slices.inc)
 }
 
 // The bytes of a list as wider numbers, into the start of a slice, as far as there is room; says how many.
@@ -116,17 +115,9 @@ fn widen(list: &[u8], out: &mut [Index]) -> usize
     list.len().min(out.len())
 }
 
-// Room for the bytes of a list as wider numbers: of a list as long as the longest that is lent.
-#[tactic(auto, using(crate::proofs::Counting::repeated))]
-fn room() -> [Index; WRITTEN]
-    ensures { 2 * limits.text ≡ length result }
-{
-    [0; WRITTEN]
-}
-
-// A list of bytes.
+// A list of bytes, none longer than the longest that is lent.
 pub fn bytes(rt: &impl Print, bytes: &[u8]) -> io::Result<()> {
-    let mut wide = room();
+    let mut wide = room::numbers::<WRITTEN>();
     let n = widen(bytes, &mut wide);
     list(rt, &wide[..n])
 }

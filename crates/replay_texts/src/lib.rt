@@ -4,7 +4,7 @@
 
 pub mod quoted;
 
-use listing::Index;
+use listing::{Answer, Built, Index, Slices};
 use replay_reading::text as reading;
 use replay_saying::{room, say};
 use std::io;
@@ -17,72 +17,52 @@ fn read_into(
     ends: &mut [Index],
     inc: &mut [Index],
 ) -> io::Result<()> {
-    say::built(
-        rt,
-        text::read_text(said, &mut *counts, &mut *ends, &mut *inc),
-    )?;
-    say::lists(rt, counts, ends, inc)
+    let read = text::read_text(said, &mut *counts, &mut *ends, &mut *inc);
+    say::built(rt, Built::from(read))?;
+    say::lists(rt, Slices { counts, ends, inc })
 }
 
 // The same with room of the lengths that the line asks for, as far as there is so much.
 fn read(rt: &impl Print, line: &[u8], said: &[u8]) -> io::Result<()> {
-    let mut counts = room::few();
-    let mut ends = room::some();
-    let mut inc = room::many();
-    let c = room::words(reading::plain(line, 0) as u64, &counts);
-    let e = room::words(reading::plain(line, 1) as u64, &ends);
-    let i = room::words(reading::plain(line, 2) as u64, &inc);
-    read_into(rt, said, &mut counts[..c], &mut ends[..e], &mut inc[..i])
+    room::for_listing(
+        reading::plain(line, 0),
+        reading::plain(line, 1),
+        reading::plain(line, 2),
+        |counts, ends, inc| read_into(rt, said, counts, ends, inc),
+    )
 }
 
 // The listing that the text of a line says.
 pub fn read_text(rt: &impl Print, line: &[u8]) -> io::Result<()> {
-    let mut bytes = room::text();
+    let mut bytes = room::bytes::<{ room::TEXT }>();
     let n = quoted::put_text(line, &mut bytes);
     read(rt, line, &bytes[..n])
 }
 
 // Whether it is closed.
 pub fn check_text(rt: &impl Print, line: &[u8]) -> io::Result<()> {
-    let mut bytes = room::text();
+    let mut bytes = room::bytes::<{ room::TEXT }>();
     let n = quoted::put_text(line, &mut bytes);
-    say::number(rt, text::check_text(&bytes[..n]) as u64)
+    let checked = Answer::from(text::check_text(&bytes[..n]));
+    say::number(rt, u64::from(checked.no))
 }
 
 // The text of a listing, and what is then in the slice lent.
-fn write_into(
-    rt: &impl Print,
-    counts: &[Index],
-    ends: &[Index],
-    inc: &[Index],
-    bytes: &mut [u8],
-) -> io::Result<()> {
-    let w = text::write_text(counts, ends, inc, &mut *bytes);
-    say::answer(rt, w.answer)?;
-    say::number(rt, w.length as u64)?;
+fn write_into(rt: &impl Print, slices: Slices<'_>, bytes: &mut [u8]) -> io::Result<()> {
+    let written = text::write_text(slices, &mut *bytes);
+    say::answer(rt, Answer::from(written))?;
+    say::number(rt, written.unwrap_or(0) as u64)?;
     say::bytes(rt, bytes)
 }
 
 // The same with room of a length, as far as there is so much.
-pub fn write(
-    rt: &impl Print,
-    counts: &[Index],
-    ends: &[Index],
-    inc: &[Index],
-    length: u64,
-) -> io::Result<()> {
-    let mut bytes = room::written();
-    let n = room::bytes(length, &bytes);
-    write_into(rt, counts, ends, inc, &mut bytes[..n])
+pub fn write(rt: &impl Print, slices: Slices<'_>, length: u32) -> io::Result<()> {
+    let mut bytes = room::bytes::<{ room::WRITTEN }>();
+    let n = room::within(length, &bytes);
+    write_into(rt, slices, &mut bytes[..n])
 }
 
 // The text of a listing, with room of the length that the line asks for.
-pub fn write_text(
-    rt: &impl Print,
-    line: &[u8],
-    counts: &[Index],
-    ends: &[Index],
-    inc: &[Index],
-) -> io::Result<()> {
-    write(rt, counts, ends, inc, reading::plain(line, 0) as u64)
+pub fn write_text(rt: &impl Print, line: &[u8], slices: Slices<'_>) -> io::Result<()> {
+    write(rt, slices, reading::plain(line, 0))
 }

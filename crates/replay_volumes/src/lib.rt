@@ -8,7 +8,7 @@ ghost use Rattle.std.specs.Prelude.{◌≡◌, ◌+◌, ◌*◌, length};
 ghost use Rattle.listing.specs.Listing.{limits};
 ghost use Rattle.replay_saying.specs.Room.{spare};
 
-use listing::{Index, limit};
+use listing::{Index, Slices, limit};
 use replay_reading::text;
 use replay_saying::{room, say};
 use std::io;
@@ -48,31 +48,21 @@ fn signed(rt: &impl Print, x: f64) -> io::Result<()> {
 
 // What is answered: the number of a refusal, and six times the volume.
 fn measured(rt: &impl Print, m: Measured) -> io::Result<()> {
-    say::number(rt, m.no as u64)?;
+    say::number(rt, u64::from(m.no))?;
     signed(rt, m.six)
 }
 
 // Six times the volume, and what is then in the slices lent.
 fn asked(
     rt: &impl Print,
-    counts: &[Index],
-    ends: &[Index],
-    inc: &[Index],
+    slices: Slices<'_>,
     first: &[Index],
     coordinates: &[f64],
     table: &mut [Index],
     odd: &mut [u8],
 ) -> io::Result<()> {
-    let v = volume::six_volume(
-        counts,
-        ends,
-        inc,
-        first,
-        coordinates,
-        &mut *table,
-        &mut *odd,
-    );
-    measured(rt, volume::numbers(v))?;
+    let six = volume::six_volume(slices, first, coordinates, &mut *table, &mut *odd);
+    measured(rt, Measured::from(six))?;
     say::list(rt, table)?;
     say::bytes(rt, odd)
 }
@@ -81,26 +71,13 @@ fn asked(
 fn with_room(
     rt: &impl Print,
     line: &[u8],
-    counts: &[Index],
-    ends: &[Index],
-    inc: &[Index],
+    slices: Slices<'_>,
     first: &[Index],
     coordinates: &[f64],
 ) -> io::Result<()> {
-    let mut table = room::table();
-    let mut odd = room::orientations();
-    let t = room::words(text::plain(line, 0) as u64, &table);
-    let o = room::bytes(text::plain(line, 1) as u64, &odd);
-    asked(
-        rt,
-        counts,
-        ends,
-        inc,
-        first,
-        coordinates,
-        &mut table[..t],
-        &mut odd[..o],
-    )
+    room::for_search(text::plain(line, 0), text::plain(line, 1), |table, odd| {
+        asked(rt, slices, first, coordinates, table, odd)
+    })
 }
 
 // An array for the coordinates; the contract gives the length, which lending an array needs.
@@ -110,32 +87,16 @@ fn places() -> [f64; COORDINATES]
     [0.0; COORDINATES]
 }
 
-// The same with the coordinates of these codes.
-fn with_codes(
-    rt: &impl Print,
-    line: &[u8],
-    counts: &[Index],
-    ends: &[Index],
-    inc: &[Index],
-    first: &[Index],
-    codes: &[Index],
-) -> io::Result<()> {
-    let mut coordinates = places();
-    let n = codes::put_metres(codes, &mut coordinates);
-    with_room(rt, line, counts, ends, inc, first, &coordinates[..n])
-}
-
-// Six times the volume of a cell from a first flag, with the coordinates that the line gives by their codes. Each list
-// is read into room of its own and lent on: a function with many arrays is slow to check.
+// Six times the volume of a cell from a first flag, with the coordinates that the line gives by their codes.
 pub fn six_volume(
     rt: &impl Print,
     line: &[u8],
-    counts: &[Index],
-    ends: &[Index],
-    inc: &[Index],
+    slices: Slices<'_>,
     first: &[Index],
 ) -> io::Result<()> {
-    let mut codes = room::many();
+    let mut codes = room::numbers::<{ room::MANY }>();
+    let mut coordinates = places();
     let n = text::list(line, 4, &mut codes);
-    with_codes(rt, line, counts, ends, inc, first, &codes[..n])
+    let m = codes::put_metres(&codes[..n], &mut coordinates);
+    with_room(rt, line, slices, first, &coordinates[..m])
 }

@@ -5,12 +5,11 @@
 ghost use Rattle.std.specs.Prelude.{◌≡◌};
 ghost use Rattle.search_events.specs.Events.{marked, event_at, events, next_at, said_of, Stepped};
 
-// An event of a search: a flag by its number, or that the cell is not orientable; Nothing past the last.
+// An event of a search: a flag by its number, or that the cell is not orientable.
 #[derive(Clone, Copy)]
 pub enum Event {
     Flag(u16),
     NonOrientable,
-    Nothing,
 }
 
 // An event as two numbers.
@@ -35,14 +34,14 @@ pub fn is_marked(count: u16, place: u16) -> bool
     1 <= place && place <= count
 }
 
-// The event at a place of the row.
+// The event at a place of the row; None past the last.
 #[tactic(auto, unfolding(crate::specs::Events::event_at))]
-pub fn event_at(at: u32, count: u16, place: u16) -> Event
+pub fn event_at(at: u32, count: u16, place: u16) -> Option<Event>
     ensures { result ≡ event_at at count place }
 {
     let told = is_marked(count, place);
     if told && at == u32::from(place) {
-        return Event::NonOrientable;
+        return Some(Event::NonOrientable);
     }
     // Past NonOrientable the flags stand one place further on.
     let flag = if told && u32::from(place) < at {
@@ -51,9 +50,9 @@ pub fn event_at(at: u32, count: u16, place: u16) -> Event
         at
     };
     if flag < u32::from(count) {
-        Event::Flag(flag as u16)
+        Some(Event::Flag(flag as u16))
     } else {
-        Event::Nothing
+        None
     }
 }
 
@@ -78,7 +77,7 @@ pub fn next_at(at: u32, count: u16, place: u16) -> u32
 }
 
 // The next event; the cursor goes on to the place after it, and stays past the last.
-pub fn next_event(c: &mut Cursor, count: u16, place: u16) -> Event
+pub fn next_event(c: &mut Cursor, count: u16, place: u16) -> Option<Event>
     ensures { Stepped c.old.at count place c.new.at result }
 {
     let at = c.at;
@@ -88,12 +87,12 @@ pub fn next_event(c: &mut Cursor, count: u16, place: u16) -> Event
 
 // An event as numbers, for callers that have no enum.
 #[tactic(auto, unfolding(crate::specs::Events::said_of))]
-pub fn numbers(e: Event) -> Said
+pub fn numbers(e: Option<Event>) -> Said
     ensures { result ≡ said_of e }
 {
     match e {
-        Event::Flag(i) => Said { kind: 1, flag: i },
-        Event::NonOrientable => Said { kind: 2, flag: 0 },
-        Event::Nothing => Said { kind: 0, flag: 0 },
+        Some(Event::Flag(i)) => Said { kind: 1, flag: i },
+        Some(Event::NonOrientable) => Said { kind: 2, flag: 0 },
+        None => Said { kind: 0, flag: 0 },
     }
 }

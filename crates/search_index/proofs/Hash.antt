@@ -9,8 +9,8 @@ use native.Mathlib.Numerals.{add-one}
 use native.Mathlib.Omega.{arith}
 use borrow.Author.Tests.{eqb-true, eqb-false}
 use lib.Dec.{eqb}
-use lib.ListN.{length, get_or, take, drop, set, drop_of_length-le}
-use lib.Seq.{length-take-le, drop-cons, get_or-take, get_or-set_same, get_or-set_other}
+use lib.ListN.{length, get_or, drop, set, drop_of_length-le}
+use lib.Seq.{drop-cons, get_or-set_same, get_or-set_other}
 use Rattle.listing.specs.Listing.{width, limits}
 use Rattle.search_index.specs.Hash.{hashes, weight, sum_from, hash_of, Weights}
 
@@ -60,20 +60,18 @@ weights_small l e r h = omega (arith, e.each r h, weight_small r)
 -- ---- the sum
 
 -- the sum of the whole is what was added up and the sum of what is left
-module _ (W s : ℕ) (flag : List ℕ) (w r : ℕ) (e : W ≡ s + sum_from r (drop r (take w flag))) (g : w ≤ length flag) where
-  pub sum_next : r < w → (x v : ℕ) → x ≡ get_or flag r 0 → v ≡ weight r
-      → W ≡ s + x * v + sum_from (r + 1) (drop (r + 1) (take w flag))
+module _ (W s : ℕ) (flag : List ℕ) (r : ℕ) (e : W ≡ s + sum_from r (drop r flag)) where
+  pub sum_next : r < length flag → (x v : ℕ) → x ≡ get_or flag r 0 → v ≡ weight r
+      → W ≡ s + x * v + sum_from (r + 1) (drop (r + 1) flag)
   unfolding sum_from
   sum_next h x v p q =
-      let z : drop r (take w flag) ≡ x ∷ drop (r + 1) (take w flag) =
-      rw (drop-cons (take w flag) r 0 (omega (arith, length-take-le w flag g)), add-one)
-      (ap (λ y. y ∷ drop (suc r) (take w flag)) (get_or-take w flag r 0 h ∙ sym p)) in
+      let z : drop r flag ≡ x ∷ drop (r + 1) flag =
+      rw (drop-cons flag r 0 h, add-one) (ap (λ y. y ∷ drop (suc r) flag) (sym p)) in
       e ∙ rw (z, q) (omega arith)
 
-  pub sum_end : w ≤ r → W ≡ s
+  pub sum_end : length flag ≤ r → W ≡ s
   unfolding sum_from
-  sum_end h =
-      e ∙ rw (drop_of_length-le (take w flag) {i = r} (omega (arith, length-take-le w flag g))) (omega arith)
+  sum_end h = e ∙ rw (drop_of_length-le flag {i = r} h) (omega arith)
 
 -- one number is changed
 sum_set : (r : ℕ) (f : List ℕ) (i y : ℕ) → i < length f

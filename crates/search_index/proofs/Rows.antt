@@ -12,9 +12,8 @@ use lib.Dec.{eqb}
 use lib.ListN.{length, get_or, take, drop, length-drop, get_or-append}
 use lib.Seq.{length-take-le, take_at, get_or_at, get_or-take, get_or-drop, take-add}
 use lib.Seq.{take-append-le, drop-append-le, drop_at, ext_get_or, paste, length_paste_head, length-paste}
-use lib.Seq.{drop-paste}
+use lib.Seq.{drop-paste, take-length}
 use Rattle.std.specs.Cmp.Lexicographic.{pointwise}
-use Rattle.order.specs.Lists.{over}
 use Rattle.order.proofs.Tests.{and_true}
 use Rattle.search_theory.specs.Search.{Decides}
 use Rattle.search_theory.proofs.Once.{length_snoc}
@@ -67,11 +66,6 @@ unfolding row_of
 row_between w table k =
     let z : k * w + w - k * w ≡ w = omega arith in
     rw z
-
--- a row that is copied to the beginning of an array is written over it
-pub row_over : (w : ℕ) (table old : List ℕ) (k : ℕ) → k * w + w ≤ length table
-    → row_of w table k ++ drop w old ≡ over (row_of w table k) old
-row_over w table old k h = rw (row_length w table k h)
 
 -- a row is as the first numbers of the table are
 row_kept : (w : ℕ) (t u : List ℕ) (k n : ℕ) → k < n → n * w ≤ length t → n * w ≤ length u
@@ -139,19 +133,27 @@ rows_kept w t u (suc m) n h p q e =
 
 -- ---- one more row
 
-module _ (w : ℕ) (t : List ℕ) (n : ℕ) (f : List ℕ) (h : n * w + w ≤ length t) (g : w ≤ length f) where
+module _ (t : List ℕ) (n : ℕ) (f : List ℕ) (h : n * length f + length f ≤ length t) where
+  abbrev w : ℕ
+  w = length f
+
   -- the table with f in row n
   abbrev T : List ℕ
   T = paste t (n * w) f w
 
   pub put_length : length T ≡ length t
-  put_length = length-paste t (n * w) f w h g
+  put_length = length-paste t (n * w) f w h (omega arith)
+
+  head_length : length (take (n * w) t ++ take w f) ≡ n * w + w
+  head_length = length_paste_head t (n * w) f w (omega arith) (omega arith)
+
+  first_length : length (take (n * w) t) ≡ n * w
+  first_length = length-take-le (n * w) t (omega arith)
 
   put_first : take (n * w) T ≡ take (n * w) t
   put_first =
-      take-append-le (n * w) (take (n * w) t ++ take w f) (drop (n * w + w) t)
-      (omega (arith, length_paste_head t (n * w) f w (omega arith) g))
-      ∙ take_at (take (n * w) t) (take w f) (n * w) (length-take-le (n * w) t (omega arith))
+      take-append-le (n * w) (take (n * w) t ++ take w f) (drop (n * w + w) t) (omega (arith, head_length))
+      ∙ take_at (take (n * w) t) (take w f) (n * w) first_length
 
   pub put_kept : (k : ℕ) → k < n → row_of w T k ≡ row_of w t k
   put_kept k i = row_kept w t T k n i (omega arith) (omega (arith, put_length)) put_first
@@ -159,19 +161,18 @@ module _ (w : ℕ) (t : List ℕ) (n : ℕ) (f : List ℕ) (h : n * w + w ≤ le
   pub put_rest : drop ((n + 1) * w) T ≡ drop ((n + 1) * w) t
   put_rest =
       let z : (n + 1) * w ≡ n * w + w = omega arith in
-      rw z (drop-paste t (n * w) f w (omega arith) g)
+      rw z (drop-paste t (n * w) f w (omega arith) (omega arith))
 
-  pub put_row : row_of w T n ≡ take w f
+  pub put_row : row_of w T n ≡ f
   unfolding row_of
   put_row =
       ap (take w)
-      (drop-append-le (n * w) (take (n * w) t ++ take w f) (drop (n * w + w) t)
-      (omega (arith, length_paste_head t (n * w) f w (omega arith) g)))
-      ∙ ap (λ l. take w (l ++ drop (n * w + w) t))
-      (drop_at (take (n * w) t) (take w f) (n * w) (length-take-le (n * w) t (omega arith)))
-      ∙ take_at (take w f) (drop (n * w + w) t) w (length-take-le w f g)
+      (drop-append-le (n * w) (take (n * w) t ++ take w f) (drop (n * w + w) t) (omega (arith, head_length)))
+      ∙ ap (λ l. take w (l ++ drop (n * w + w) t)) (drop_at (take (n * w) t) (take w f) (n * w) first_length)
+      ∙ take_at (take w f) (drop (n * w + w) t) w (length-take-le w f (omega arith))
+      ∙ take-length f
 
-  pub put_rows : rows w T (n + 1) ≡ rows w t n ++ (take w f ∷ [])
+  pub put_rows : rows w T (n + 1) ≡ rows w t n ++ (f ∷ [])
   put_rows =
       rows_next w T n
       ∙ ap₂ (λ l x. l ++ (x ∷ []))

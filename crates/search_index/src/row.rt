@@ -1,9 +1,8 @@
-// Flags in a table, w numbers a row, and the flag at hand in an array of its own.
-ghost use Rattle.std.specs.Prelude.{◌≡◌, ◌+◌, ◌*◌, ◌/◌, ◌≤◌, ◌<◌, min, length, take};
+// Flags in a table, one after another: a row for each.
+ghost use Rattle.std.specs.Prelude.{◌≡◌, ◌+◌, ◌*◌, ◌/◌, ◌≤◌, ◌<◌, min, length};
 ghost use Rattle.std.proofs.Math.Seq.{paste};
-ghost use Rattle.order.specs.Lists.{over};
 ghost use Rattle.listing.specs.Listing.{limits};
-ghost use Rattle.search_index.specs.Rows.{same_list, row_of};
+ghost use Rattle.search_index.specs.Rows.{row_of};
 
 use listing::{Index, limit};
 
@@ -15,31 +14,21 @@ pub fn room_of(table: usize, bytes: usize, w: usize) -> usize
     (table / w).min(bytes).min(limit::FLAGS)
 }
 
-// Whether the flag at hand stands in row k.
-#[tactic(auto, using(crate::proofs::Rows::pointwise_same, crate::proofs::Rows::row_between))]
-pub fn same_row(table: &[Index], k: usize, w: usize, flag: &[Index; limit::RANKS]) -> bool
-    requires { (w ≤ limits.ranks) × (k * w + w ≤ length table.now) × (length flag.now ≡ limits.ranks) }
-    ensures { result ≡ same_list (row_of w table.now k) (take w flag.now) }
+// Row k of a table with w numbers a row.
+#[tactic(auto, using(crate::proofs::Rows::row_between))]
+pub fn row_at<'a>(table: &'a [Index], k: usize, w: usize) -> &'a [Index]
+    requires { k * w + w ≤ length table.now }
+    ensures { result.now ≡ row_of w table.now k }
 {
-    let at = k * w;
-    table[at..at + w] == flag[..w]
+    let from = k * w;
+    &table[from..from + w]
 }
 
-// Row k becomes the flag at hand; past it the array stays.
-#[tactic(auto, using(crate::proofs::Rows::row_over, crate::proofs::Rows::row_between))]
-pub fn get_row(table: &[Index], k: usize, w: usize, flag: &mut [Index; limit::RANKS])
-    requires { (w ≤ limits.ranks) × (k * w + w ≤ length table.now) × (length flag.old ≡ limits.ranks) }
-    ensures { flag.new ≡ over (row_of w table.now k) flag.old }
+// The flag is written into row k.
+pub fn put_row(table: &mut [Index], k: usize, flag: &[Index])
+    requires { k * length flag.now + length flag.now ≤ length table.old }
+    ensures { table.new ≡ paste table.old (k * length flag.now) flag.now (length flag.now) }
 {
-    let at = k * w;
-    flag[..w].copy_from_slice(&table[at..at + w]);
-}
-
-// The flag at hand is written into row k.
-pub fn put_row(table: &mut [Index], k: usize, w: usize, flag: &[Index; limit::RANKS])
-    requires { (w ≤ limits.ranks) × (k * w + w ≤ length table.old) × (length flag.now ≡ limits.ranks) }
-    ensures { table.new ≡ paste table.old (k * w) flag.now w }
-{
-    let at = k * w;
-    table[at..at + w].copy_from_slice(&flag[..w]);
+    let from = k * flag.len();
+    table[from..from + flag.len()].copy_from_slice(flag);
 }

@@ -4,7 +4,7 @@ ghost use Rattle.std.specs.Int.Count.{count_trailing_zeros};
 ghost use Rattle.listing.specs.Listing.{limits};
 ghost use Rattle.search_masks.specs.Masks.{bit_at, mask_fits, every_rank};
 
-use listing::{inner, limit};
+use listing::limit;
 
 // How many bits a mask has: one for each rank.
 const BITS: u16 = limit::RANKS as u16;
@@ -23,7 +23,7 @@ fn allowed(mask: u16, rank: usize, r: u16) -> bool
     requires { r < limits.ranks }
     ensures { result ≡ (eqb (bit_at mask r) 0 || (ltb 0 r && ltb r rank)) }
 {
-    !in_mask(mask, r) || (0 < r && inner::wide(r) < rank)
+    !in_mask(mask, r) || (0 < r && usize::from(r) < rank)
 }
 
 // Whether the mask asks for ranks from 1 to rank - 1 only.
@@ -41,13 +41,6 @@ pub fn every(rank: usize) -> u16
 {
     // One bit less 2: all bits below it but the lowest. For rank 0 that would fall below 0, and there is no change.
     (1u16 << rank).saturating_sub(2)
-}
-
-// Whether any change is left.
-pub fn any_left(left: u16) -> bool
-    ensures { result ≡ ltb 0 left }
-{
-    left != 0
 }
 
 // The rank of the next change.

@@ -1,26 +1,30 @@
--- The flag at hand is met: in each case the table, the bytes and the progress after it stand for the state after it.
+-- A flag is met: in each case the store and what is answered stand for the state after it.
 -- Assumes nothing.
-use mathlib.Core.Path.{◌≡◌, refl, sym, ap, ◌∙◌}
-use mathlib.Core.Bool.{true, false}
+use mathlib.Core.Path.{◌≡◌, refl, sym, ap, subst, ◌∙◌}
+use mathlib.Core.Bool.{true}
 use mathlib.Core.List.{List, [], ◌∷◌, ◌++◌}
 use Prim.Native.Nat.{ℕ, ◌+◌, ◌*◌, ◌≤◌, ◌<◌}
 use native.Mathlib.Numerals.{add-one}
 use native.Mathlib.Omega.{arith}
-use lib.ListN.{length, get_or, take, set, length-set}
-use lib.Seq.{paste, get_or-take, take-suc-set, drop-set-lt}
+use lib.ListN.{length, get_or, take, length-set}
+use lib.Seq.{get_or-take, take-suc-set, drop-set-lt}
+use Rattle.std.specs.Prelude.{Ok, Err}
+use Rattle.listing.specs.declared.Refusal.TheVariants.{MoreFlags}
 use Rattle.search_theory.specs.Search.{State, place_after, again, index_in, meet}
 use Rattle.search_theory.proofs.Step.{place_kept, place_same, place_first, meet_again, meet_full, meet_new}
-use Rattle.search_store.specs.declared.found.Progress.{Progress}
+use Rattle.listing.specs.Listing.{limits}
+use Rattle.search_store.specs.declared.Found.{Found}
+use Rattle.search_store.specs.declared.Store.{Store}
 use Rattle.search_index.specs.Rows.{rows, same_list}
 use Rattle.search_index.specs.Hash.{hash_of}
-use Rattle.search_store.specs.Held.{state_of, Held, Rest, Moved}
+use Rattle.search_store.specs.Held.{state_of, SameLent, Held, Added, Rest, Moved}
 use Rattle.search_index.proofs.Hash.{hash_small}
 use Rattle.search_index.proofs.Rows.{row_end, rows_length, put_length, put_rest, put_rows}
 use Rattle.search_index.proofs.Indexing.{index_more}
 
 -- ---- what the state holds
 
-pub count_is : (w : ℕ) (table bytes : List ℕ) (s : Progress) → length (state_of w table bytes s).found ≡ s.count
+pub count_is : (w : ℕ) (table bytes : List ℕ) (s : Found) → length (state_of w table bytes s).found ≡ s.count
 unfolding state_of
 count_is w table bytes s = rows_length w table s.count
 
@@ -28,128 +32,181 @@ again_is : {A : Type 0} (S : State A) (b i p : ℕ) → place_after b S i ≡ p
     → again b S i ≡ record { found = S.found; bytes = S.bytes; place = p; overflow = S.overflow }
 again_is S b i p e = ap (λ q. record { found = S.found; bytes = S.bytes; place = q; overflow = S.overflow }) e
 
-module _ (w room : ℕ) (table bytes : List ℕ) (s : Progress) (o : s.overflow ≡ false) (b : ℕ) (y : List ℕ) (k : ℕ)
+-- ---- the state after a flag y is met that should have the byte b and stands first at k
+
+module _ (w room : ℕ) (table bytes : List ℕ) (s : Found) (b : ℕ) (y : List ℕ) (k : ℕ)
     (e : k ≡ index_in same_list (rows w table s.count) y) where
+  abbrev S : State (List ℕ)
+  S = state_of w table bytes s
+
+  -- the state after it
+  abbrev met : State (List ℕ)
+  met = meet same_list room b S y
+
   -- ---- it was found before
 
   module _ (h : k < s.count) where
-    known : meet same_list room b (state_of w table bytes s) y ≡ again b (state_of w table bytes s) k
+    known : met ≡ again b S k
     unfolding state_of
     known =
-        meet_again same_list room b (state_of w table bytes s) y o (omega (arith, rows_length w table s.count))
-        ∙ ap (again b (state_of w table bytes s)) (sym e)
+        meet_again same_list room b S y refl (omega (arith, rows_length w table s.count)) ∙ ap (again b S) (sym e)
 
-    pub known_after : (s.place ≡ 0 → ⊥)
-        → state_of w table bytes s ≡ meet same_list room b (state_of w table bytes s) y
+    known_after : (s.place ≡ 0 → ⊥) → S ≡ met
     unfolding state_of
-    known_after n =
-        sym (known ∙ again_is (state_of w table bytes s) b k s.place (place_kept b (state_of w table bytes s) k n))
+    known_after n = sym (known ∙ again_is S b k s.place (place_kept b S k n))
 
     stored : get_or (take s.count bytes) k 0 ≡ get_or bytes k 0
     stored = get_or-take s.count bytes k 0 h
 
-    pub known_same : get_or bytes k 0 ≡ b
-        → state_of w table bytes s ≡ meet same_list room b (state_of w table bytes s) y
+    known_same : get_or bytes k 0 ≡ b → S ≡ met
     unfolding state_of
-    known_same q =
-        sym (known
-        ∙ again_is (state_of w table bytes s) b k s.place (place_same b (state_of w table bytes s) k (stored ∙ q)))
+    known_same q = sym (known ∙ again_is S b k s.place (place_same b S k (stored ∙ q)))
 
-    pub known_first : s.place ≡ 0 → (get_or bytes k 0 ≡ b → ⊥)
-        → state_of w table bytes (record { count = s.count; place = s.count; overflow = s.overflow })
-        ≡ meet same_list room b (state_of w table bytes s) y
+    known_first : s.place ≡ 0 → (get_or bytes k 0 ≡ b → ⊥)
+        → state_of w table bytes (record { count = s.count; place = s.count }) ≡ met
     unfolding state_of
     known_first z n =
-        sym (known ∙ again_is (state_of w table bytes s) b k s.count
-        (place_first b (state_of w table bytes s) k z (λ q. n (sym stored ∙ q)) ∙ rows_length w table s.count))
+        sym (known
+        ∙ again_is S b k s.count (place_first b S k z (λ q. n (sym stored ∙ q)) ∙ rows_length w table s.count))
 
   -- ---- it is new
 
   module _ (h : s.count ≤ k) where
-    unknown : length (state_of w table bytes s).found ≤ index_in same_list (state_of w table bytes s).found y
+    unknown : length S.found ≤ index_in same_list S.found y
     unfolding state_of
     unknown = omega (arith, rows_length w table s.count)
 
-    pub new_full : room ≤ s.count
-        → state_of w table bytes (record { count = s.count; place = s.place; overflow = true })
-        ≡ meet same_list room b (state_of w table bytes s) y
+    new_full : s.count ≤ room → room ≤ s.count
+        → record { found = rows w table room; bytes = take room bytes; place = s.place; overflow = true } ≡ met
     unfolding state_of
-    new_full r =
-        sym (meet_full same_list room b (state_of w table bytes s) y o unknown
-        (omega (arith, rows_length w table s.count)))
+    new_full f r =
+        let c : s.count ≡ room = omega arith in
+        ap (λ m. record { found = rows w table m; bytes = take m bytes; place = s.place; overflow = true }) (sym c)
+        ∙ sym (meet_full same_list room b S y refl unknown (omega (arith, rows_length w table s.count)))
 
     new_added : (table' bytes' : List ℕ) → rows w table' (s.count + 1) ≡ rows w table s.count ++ (y ∷ [])
         → take (s.count + 1) bytes' ≡ take s.count bytes ++ (b ∷ []) → s.count < room
-        → state_of w table' bytes' (record { count = s.count + 1; place = s.place; overflow = s.overflow })
-        ≡ meet same_list room b (state_of w table bytes s) y
+        → state_of w table' bytes' (record { count = s.count + 1; place = s.place }) ≡ met
     unfolding state_of
     new_added table' bytes' p q r =
         rw (p, q)
-        (sym (meet_new same_list room b (state_of w table bytes s) y o unknown
-        (omega (arith, rows_length w table s.count))))
+        (sym (meet_new same_list room b S y refl unknown (omega (arith, rows_length w table s.count))))
 
 -- ---- what is held after it
 
 -- there is a row for one more
-pub row_fits : (w room : ℕ) (table bytes heads next : List ℕ) (n : ℕ) → Held w room table bytes heads next n → n < room
-    → n * w + w ≤ length table
-row_fits w room table bytes heads next n H h = omega (arith, row_end n room w h, H.room_rows)
+pub row_fits : (w : ℕ) (t : Store) (n : ℕ) → Held w t n → n < t.room → n * w + w ≤ length t.table.now
+row_fits w t n H h = omega (arith, row_end n t.room w h, H.room_rows)
 
-module _ (w room : ℕ) (table bytes heads next : List ℕ) (s : Progress)
-    (H : Held w room table bytes heads next s.count)
-  where
-    -- nothing was written
-    pub moved_none : (r : Progress) {S : State (List ℕ)} → r.count ≡ s.count → state_of w table bytes r ≡ S
-        → Moved w room table bytes s table bytes heads next r S
-    moved_none r c e = record {
-      state = e;
-      held = rw c H;
-      more = omega arith;
-      rest = record { long = refl; past = refl; bytes_long = refl; bytes_past = refl };
-    }
+pub same_lent : (t : Store) → SameLent t t
+same_lent t = record { table = refl; bytes = refl; room = refl }
 
--- the flag was added
-module _ (w room : ℕ) (table bytes heads next : List ℕ) (s : Progress)
-    (H : Held w room table bytes heads next s.count) (flag : List ℕ) (h b : ℕ) (e : h ≡ hash_of (take w flag))
-    (wide : w ≤ length flag) (o : s.overflow ≡ false)
-    (i : s.count ≤ index_in same_list (rows w table s.count) (take w flag)) (r : s.count < room)
+untouched : (w n : ℕ) (table bytes : List ℕ) → Rest w n table bytes table bytes
+untouched w n table bytes = record { long = refl; past = refl; bytes_long = refl; bytes_past = refl }
+
+-- something was found
+pub moved_ok : {w : ℕ} {t u : Store} {s f : Found} {S : State (List ℕ)} → SameLent t u
+    → state_of w u.table.now u.bytes.now f ≡ S → Held w u f.count → s.count ≤ f.count
+    → Rest w f.count t.table.now t.bytes.now u.table.now u.bytes.now → Moved w t s u (Ok f) S
+unfolding state_of
+moved_ok l e H m R = record {
+  same = l;
+  state = e;
+  answer = rw (sym (ap (λ q. q.overflow) e)) refl;
+  held = H;
+  more = m;
+  rest = R;
+}
+
+module _ (w : ℕ) (t : Store) (s : Found) (H : Held w t s.count) where
+  -- nothing was written
+  pub moved_none : {f : Found} {S : State (List ℕ)} → f.count ≡ s.count → state_of w t.table.now t.bytes.now f ≡ S
+      → Moved w t s t (Ok f) S
+  moved_none c e = moved_ok (same_lent t) e (rw c H) (omega arith) (untouched w _ t.table.now t.bytes.now)
+
+  module _ (b : ℕ) (y : List ℕ) (k : ℕ) (e : k ≡ index_in same_list (rows w t.table.now s.count) y) where
+    abbrev pub after : State (List ℕ)
+    after = meet same_list t.room b (state_of w t.table.now t.bytes.now s) y
+
+    -- it was found before, and nothing changes
+    pub moved_known : k < s.count → (s.place ≡ 0 → ⊥) → Moved w t s t (Ok s) after
+    moved_known h n = moved_none refl (known_after w t.room t.table.now t.bytes.now s b y k e h n)
+
+    pub moved_same : k < s.count → get_or t.bytes.now k 0 ≡ b → Moved w t s t (Ok s) after
+    moved_same h q = moved_none refl (known_same w t.room t.table.now t.bytes.now s b y k e h q)
+
+    -- it was found before with another byte, for the first time
+    pub moved_first : k < s.count → s.place ≡ 0 → (get_or t.bytes.now k 0 ≡ b → ⊥)
+        → Moved w t s t (Ok (record { count = s.count; place = s.count })) after
+    moved_first h z n = moved_none refl (known_first w t.room t.table.now t.bytes.now s b y k e h z n)
+
+    -- it is new, and there is no room
+    pub moved_full : s.count ≤ k → t.room ≤ s.count → Moved w t s t (Err MoreFlags) after
+    moved_full h r =
+        let c : t.room ≡ s.count = omega (arith, H.fits) in
+        let full = new_full w t.room t.table.now t.bytes.now s b y k e h H.fits r in
+        record {
+          same = same_lent t;
+          state =
+              ap (λ p. record {
+                found = rows w t.table.now t.room;
+                bytes = take t.room t.bytes.now;
+                place = p;
+                overflow = true;
+              }) (sym (ap (λ q. q.place) full))
+              ∙ full;
+          answer = rw (sym (ap (λ q. q.overflow) full)) refl;
+          held = subst (Held w t) (sym c) H;
+          more = omega arith;
+          rest = untouched w _ t.table.now t.bytes.now;
+        }
+
+-- it is new, and was added
+module _ (t : Store) (s : Found) (flag : List ℕ) (H : Held (length flag) t s.count) (h b k : ℕ) (e : h ≡ hash_of flag)
+    (d : k ≡ index_in same_list (rows (length flag) t.table.now s.count) flag) (i : s.count ≤ k) (r : s.count < t.room)
+    (u : Store) (A : Added t flag h b s.count u)
   where
+    abbrev w : ℕ
+    w = length flag
+
     abbrev n : ℕ
     n = s.count
 
-    abbrev table' : List ℕ
-    table' = paste table (n * w) flag w
+    fits : n * w + w ≤ length t.table.now
+    fits = row_fits w t n H r
 
-    in_table : n * w + w ≤ length table
-    in_table = row_fits w room table bytes heads next n H r
+    -- what was found then
+    abbrev f : Found
+    f = record { count = n + 1; place = s.place }
 
-    added_held : Held w room table' (set bytes n b) (set heads h (n + 1)) (set next n (get_or heads h 0)) (n + 1)
-    added_held = record {
-      room_rows = omega (arith, put_length w table n flag in_table wide, H.room_rows);
-      room_bytes = omega (arith, length-set bytes n b, H.room_bytes);
-      room_few = H.room_few;
-      fits = omega arith;
-      indexed =
-          index_more w n table heads next flag H.indexed h (omega (arith, hash_small (take w flag))) e in_table wide
-          (omega (arith, H.room_few)) i;
-    }
+    added_held : Held w u (n + 1)
+    added_held =
+        let few : n < limits.flags = omega (arith, H.room_few) in
+        rw (A.table, A.bytes, A.chains, A.same.room) (record {
+          room_rows = omega (arith, put_length t.table.now n flag fits, H.room_rows);
+          room_bytes = omega (arith, length-set t.bytes.now n b, H.room_bytes);
+          room_few = H.room_few;
+          fits = omega arith;
+          indexed =
+              index_more n t.table.now t.chains flag H.indexed h (omega (arith, hash_small flag)) e fits few
+              (omega arith);
+        })
 
-    added_rest : Rest w (n + 1) table bytes table' (set bytes n b)
-    added_rest = record {
-      long = put_length w table n flag in_table wide;
-      past = put_rest w table n flag in_table wide;
-      bytes_long = length-set bytes n b;
-      bytes_past = drop-set-lt (n + 1) bytes n b (omega arith);
-    }
+    added_rest : Rest w (n + 1) t.table.now t.bytes.now u.table.now u.bytes.now
+    added_rest =
+        rw (A.table, A.bytes) (record {
+          long = put_length t.table.now n flag fits;
+          past = put_rest t.table.now n flag fits;
+          bytes_long = length-set t.bytes.now n b;
+          bytes_past = drop-set-lt (n + 1) t.bytes.now n b (omega arith);
+        })
 
-    added_state : state_of w table' (set bytes n b) (record { count = n + 1; place = s.place; overflow = s.overflow })
-        ≡ meet same_list room b (state_of w table bytes s) (take w flag)
+    added_state : state_of w u.table.now u.bytes.now f
+        ≡ meet same_list t.room b (state_of w t.table.now t.bytes.now s) flag
     added_state =
-        new_added w room table bytes s o b (take w flag) _ refl i table' (set bytes n b)
-        (put_rows w table n flag in_table wide)
-        (rw add-one (take-suc-set bytes n b (omega (arith, H.room_bytes)))) r
+        new_added w t.room t.table.now t.bytes.now s b flag k d i u.table.now u.bytes.now
+        (rw A.table (put_rows t.table.now n flag fits))
+        (rw (A.bytes, add-one) (take-suc-set t.bytes.now n b (omega (arith, H.room_bytes)))) r
 
-    pub moved_added : Moved w room table bytes s (paste table (n * w) flag w) (set bytes n b) (set heads h (n + 1))
-        (set next n (get_or heads h 0)) (record { count = n + 1; place = s.place; overflow = s.overflow })
-        (meet same_list room b (state_of w table bytes s) (take w flag))
-    moved_added = record { state = added_state; held = added_held; more = omega arith; rest = added_rest }
+    pub moved_added : Moved w t s u (Ok f) (meet same_list t.room b (state_of w t.table.now t.bytes.now s) flag)
+    moved_added = moved_ok A.same added_state added_held (omega arith) added_rest

@@ -1,31 +1,66 @@
 -- What the code that keeps the flags found keeps.
 --
--- state_of   the state that a table, its bytes and the progress of the code stand for
+-- state_of   the state that a table, its bytes and what was found stand for
+-- count_in   how many flags stand in the table: all that there is room for where one more turned up
+-- come_to    the state that a table and its bytes stand for after a step of the search, which answers what was found, or
+--            that one more turned up than there is room for; the place that the search has then is not kept
+-- SameLent   what is lent to a store is lent to it still
 -- Held       the table and the bytes have the room, n rows of it are in use, and these are indexed
+-- Added      the flag, whose hash is h, stands in row n, with a byte
 -- Rest       what stands past the first n rows and bytes is as it was
--- Moved      the code has come from the progress s, with one table and bytes, to the progress r, with another: that
+-- Moved      the code has come from what was found, s, with one store, to a result, with the store as another: that
 --            stands for the state S, is held, and the rest is as it was
-use Rattle.std.specs.Prelude.{◌≡◌, List, ℕ, ◌*◌, ◌≤◌, length, take, drop}
+use Rattle.std.specs.Prelude.{◌≡◌, Result, Ok, Err, true, false, List, ℕ, ◌*◌, ◌≤◌, length, take, drop, set}
+use Rattle.std.proofs.Math.Seq.{paste}
+use Rattle.listing.specs.declared.Refusal.{Refusal}
+use Rattle.listing.specs.Answers.{plain, on}
+use Rattle.listing.specs.Refusals.{more_flags}
+use Rattle.listing.specs.Told.{told}
 use Rattle.listing.specs.Listing.{limits}
 use Rattle.search_theory.specs.Search.{State}
-use Rattle.search_store.specs.declared.found.Progress.{Progress}
+use Rattle.search_store.specs.declared.Found.{Found}
+use Rattle.search_store.specs.declared.Store.{Store}
 use Rattle.search_index.specs.Rows.{rows}
-use Rattle.search_index.specs.Index.{Indexed}
+use Rattle.search_index.specs.Index.{Indexed, entered}
 
-unfoldable pub state_of : ℕ → List ℕ → List ℕ → Progress → State (List ℕ)
+unfoldable pub state_of : ℕ → List ℕ → List ℕ → Found → State (List ℕ)
 state_of w table bytes s = record {
   found = rows w table s.count;
   bytes = take s.count bytes;
   place = s.place;
-  overflow = s.overflow;
+  overflow = false;
 }
 
-pub record Held (w room : ℕ) (table bytes heads next : List ℕ) (n : ℕ) : Type 0 where
-  pub room_rows : room * w ≤ length table
-  pub room_bytes : room ≤ length bytes
-  pub room_few : room ≤ limits.flags
-  pub fits : n ≤ room
-  pub indexed : Indexed w n table heads next
+abbrev pub count_in : ℕ → Result Found Refusal → ℕ
+count_in room (Ok s) = s.count
+count_in room (Err d) = room
+
+abbrev pub come_to : ℕ → ℕ → List ℕ → List ℕ → Result Found Refusal → ℕ → State (List ℕ)
+come_to w room table bytes (Ok s) place = state_of w table bytes s
+come_to w room table bytes (Err d) place = record {
+  found = rows w table room;
+  bytes = take room bytes;
+  place = place;
+  overflow = true;
+}
+
+pub record SameLent (t u : Store) : Type 0 where
+  pub table : u.table.ghost_name ≡ t.table.ghost_name
+  pub bytes : u.bytes.ghost_name ≡ t.bytes.ghost_name
+  pub room : u.room ≡ t.room
+
+pub record Held (w : ℕ) (t : Store) (n : ℕ) : Type 0 where
+  pub room_rows : t.room * w ≤ length t.table.now
+  pub room_bytes : t.room ≤ length t.bytes.now
+  pub room_few : t.room ≤ limits.flags
+  pub fits : n ≤ t.room
+  pub indexed : Indexed w n t.table.now t.chains
+
+pub record Added (t : Store) (flag : List ℕ) (h byte n : ℕ) (u : Store) : Type 0 where
+  pub same : SameLent t u
+  pub table : u.table.now ≡ paste t.table.now (n * length flag) flag (length flag)
+  pub bytes : u.bytes.now ≡ set t.bytes.now n byte
+  pub chains : u.chains ≡ entered t.chains h n
 
 pub record Rest (w n : ℕ) (table bytes table' bytes' : List ℕ) : Type 0 where
   pub long : length table' ≡ length table
@@ -33,9 +68,11 @@ pub record Rest (w n : ℕ) (table bytes table' bytes' : List ℕ) : Type 0 wher
   pub bytes_long : length bytes' ≡ length bytes
   pub bytes_past : drop n bytes' ≡ drop n bytes
 
-pub record Moved (w room : ℕ) (table bytes : List ℕ) (s : Progress) (table' bytes' heads next : List ℕ) (r : Progress)
-    (S : State (List ℕ)) : Type 0 where
-  pub state : state_of w table' bytes' r ≡ S
-  pub held : Held w room table' bytes' heads next r.count
-  pub more : s.count ≤ r.count
-  pub rest : Rest w r.count table bytes table' bytes'
+pub record Moved (w : ℕ) (t : Store) (s : Found) (u : Store) (result : Result Found Refusal) (S : State (List ℕ))
+    : Type 0 where
+  pub same : SameLent t u
+  pub state : come_to w u.room u.table.now u.bytes.now result S.place ≡ S
+  pub answer : told result ≡ on S.overflow (plain more_flags)
+  pub held : Held w u (count_in u.room result)
+  pub more : s.count ≤ count_in u.room result
+  pub rest : Rest w (count_in u.room result) t.table.now t.bytes.now u.table.now u.bytes.now

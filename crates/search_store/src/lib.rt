@@ -1,4 +1,25 @@
-// What a search has found: flags in a table, with a byte for each. The walk over the flags is in the crate above.
+// What a search has found: flags in a table, in the order found, their bytes, and where each flag stands.
 #![tactic(auto)]
 
-pub mod found;
+pub mod meeting;
+
+use listing::Index;
+use search_index::index::Chains;
+
+// What a search has found: how many flags, and how many there were when the cell showed itself not orientable, 0 while
+// it has not.
+#[derive(Clone, Copy)]
+pub struct Found {
+    pub count: u16,
+    pub place: u16,
+}
+
+// Where the flags found are kept: a table of rows, a byte for each, and the chains by which a flag is looked up; and how
+// many there is room for.
+#[derive(Drop)]
+pub struct Store<'a> {
+    pub table: &'a mut [Index],
+    pub bytes: &'a mut [u8],
+    pub chains: Chains,
+    pub room: usize,
+}

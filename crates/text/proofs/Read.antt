@@ -9,35 +9,44 @@ use lib.ListN.{length}
 use Rattle.order.proofs.Over.{over_length}
 use Rattle.listing.specs.declared.Answer.{Answer}
 use Rattle.listing.specs.declared.Built.{Built}
-use Rattle.listing.specs.Answers.{plain}
+use Rattle.listing.specs.declared.Refusal.{Refusal}
+use Rattle.listing.specs.Answers.{fine}
+use Rattle.listing.specs.Told.{answer_of}
+use Rattle.listing.proofs.Told.{then_ok, then_halt}
 use Rattle.listing.specs.Listing.{Listing, Limits, limits}
 use Rattle.listing.specs.Shape.{Shaped}
 use Rattle.listing.specs.Layers.{derived}
 use Rattle.listing.proofs.Answers.{or_fine, or_stop, or_no, no_or, no_of, stops}
 use Rattle.listing.proofs.Written.{written_counts_length, written_ends_length, written_inc_length, written_shaped}
 use Rattle.listing_outputs.specs.declared.outputs.Room.{Room}
-use Rattle.listing_outputs.specs.Output.{Fits, need_of, short_test, Made, prefix}
-use Rattle.listing_outputs.proofs.Output.{room_tested, made_answer, made_wrote, made_prefix}
+use Rattle.listing_outputs.specs.Output.{Fits, need_of, short_test, room_test, Made, prefix}
+use Rattle.listing_outputs.proofs.Output.{room_tested, room_fits, made_answer, made_wrote, made_prefix}
 use Rattle.valid.specs.Tests.{closed}
 use Rattle.text_theory.specs.Said.{said, listing_in, text_test}
 use Rattle.text_theory.proofs.Accepted.{reads_exactly, read_is}
 use Rattle.text_theory.proofs.Spots.{said_topped}
-use Rattle.text_sizes.specs.declared.measure.Measured.{Measured}
 use Rattle.text_sizes.specs.Measure.{SizesRead}
 use Rattle.text_building.specs.Building.{Source}
 use Rattle.text.specs.Texts.{read_test, check_test}
 
 -- ---- the order of the refusals
 
-module _ (m : Limits) (t : List ℕ) (c e i no : ℕ) (q : text_test m t ≡ plain no) where
-  pub read_stops : (no ≡ 0 → ⊥) → plain no ≡ read_test m t c e i
-  unfolding read_test
-  read_stops s = sym (rw q (or_stop (plain no) _ s))
+module _ (t : List ℕ) (c e i : ℕ) where
+  abbrev tested : Answer
+  tested = read_test limits t c e i
 
-  pub read_goes : no ≡ 0 → (need : Room) → need ≡ need_of (listing_in t) → (a : Answer)
-      → a ≡ short_test need (record { counts = c; ends = e; inc = i }) → a ≡ read_test m t c e i
+  pub read_halt : (d : Refusal) → answer_of d ≡ text_test limits t → answer_of d ≡ tested
   unfolding read_test
-  read_goes z need n a w = w ∙ rw n (sym (rw q (or_fine (plain no) _ z)))
+  read_halt d f = then_halt (room_test (listing_in t) c e i) d f
+
+  module _ {need : Room} (n : need ≡ need_of (listing_in t)) where
+    pub read_then : fine ≡ text_test limits t → {a : Answer}
+        → a ≡ short_test need (record { counts = c; ends = e; inc = i }) → a ≡ tested
+    unfolding read_test
+    read_then f {a} h = then_ok (room_test (listing_in t) c e i) f a (rw n at h)
+
+    pub read_fits : fine ≡ short_test need (record { counts = c; ends = e; inc = i }) → Fits (listing_in t) c e i
+    read_fits f = room_fits (listing_in t) c e i (no_of (rw n at f) refl)
 
 -- ---- shape
 
@@ -51,18 +60,18 @@ text_shaped m t z =
     (written_shaped M (derived M) R.topped m R.ranks R.elements (rw (← i) R.incidences))
 
 -- what was noted of a good text is what its listing is written from
-pub text_source : (t : List ℕ) (up noted many subs : List ℕ) (w : Measured) → SizesRead limits t up noted many subs w
-    → w.no ≡ 0 → (c e i : ℕ) → Fits (listing_in t) c e i
-    → Source (said t) noted many subs up w.need.counts (w.need.ends / 2) c e i
-text_source t up noted many subs w r z c e i f =
-    let k = ap (λ (n : Room). n.counts) (r.need z) in
-    let n = ap (λ (n : Room). n.ends) (r.need z) in
+pub text_source : {t : List ℕ} {up counts many subs : List ℕ} {w : Room} → SizesRead limits t up counts many subs w
+    → {c e i : ℕ} → Fits (listing_in t) c e i
+    → Source (said t) counts many subs up w.counts (w.ends / 2) c e i
+text_source {t} r f =
+    let k = ap (λ (n : Room). n.counts) r.need in
+    let n = ap (λ (n : Room). n.ends) r.need in
     record {
       topped = said_topped t;
-      shaped = r.shaped z;
+      shaped = r.shaped;
       room = f;
-      counted = r.counted z;
-      notes = r.noted z;
+      counted = r.counted;
+      notes = r.noted;
       ranks_are = k ∙ written_counts_length (said t) (derived (said t));
       elements_are = omega (arith, n, written_ends_length (said t) (derived (said t)));
     }
@@ -95,12 +104,11 @@ module _ (t : List ℕ) {old new : Listing} {r : Built} (l : AsLong old)
         let w = (room_tested (listing_in t) (length old.counts) (length old.ends) (length old.inc)).exact.1 g in
         stops (made_answer d) s (no_or (text_test limits t) _ z w)
 
-    pub check_stops : (r.answer.no ≡ 0 → ⊥) → r.answer.no ≡ (check_test limits t).no
+    pub check_stops : (r.answer.no ≡ 0 → ⊥) → r.answer ≡ check_test limits t
     unfolding read_test check_test
     check_stops s =
         let n = text_own s in
-        let e = made_answer d ∙ or_stop (text_test limits t) _ n ∙ sym (or_stop (text_test limits t) _ n) in
-        ap (λ (a : Answer). a.no) e
+        made_answer d ∙ or_stop (text_test limits t) _ n ∙ sym (or_stop (text_test limits t) _ n)
 
     module _ (z : r.answer.no ≡ 0) where
       good : (text_test limits t).no ≡ 0
@@ -129,6 +137,6 @@ module _ (t : List ℕ) {old new : Listing} {r : Built} (l : AsLong old)
           let f = (all_fit t good).2 in
           (omega (arith, w.0, f), omega (arith, w.0, f, ap length w.1, n, l.inc))
 
-      pub check_goes : (closed limits (prefix new r)).no ≡ (check_test limits t).no
+      pub check_goes : closed limits (prefix new r) ≡ check_test limits t
       unfolding check_test
       check_goes = rw (made_prefix d z, or_fine (text_test limits t) (closed limits (listing_in t)) good) refl

@@ -17,7 +17,13 @@ use Rattle.listing.specs.Answers.{plain, fine, ◌or_else◌}
 use Rattle.listing.specs.Listing.{Listing, Limits, limits, rank, count, before}
 use Rattle.listing.specs.Layers.{layers}
 use Rattle.listing.specs.Rules.{FirstBroken}
-use Rattle.listing.proofs.Answers.{or_fine, or_stop, or_no, no_or, no_of, stops, if_not}
+use Rattle.listing.specs.declared.Refusal.{Refusal}
+use Rattle.listing.specs.Told.{answer_of}
+use Rattle.listing.proofs.Told.{refuses, then_ok, then_halt}
+use Rattle.std.proofs.Common.{Result, Ok, Err}
+use Rattle.std.specs.Result.{IsErrAnd}
+use Rattle.std.proofs.lemmas.Result.{err_from_is_err_and}
+use Rattle.listing.proofs.Answers.{or_no, no_or, no_of, stops, if_not}
 use Rattle.listing.proofs.Broken.{tests_over, zero_or, broken_step, broken_last}
 use Rattle.listing.proofs.Layers.{layers_topped}
 use Rattle.listing.proofs.Places.{few_in_rank}
@@ -36,7 +42,7 @@ use Rattle.text_theory.proofs.Spots.{spotted, spot_line}
 use Rattle.text_theory.proofs.Accepted.{reads_exactly, read_is}
 use Rattle.text.specs.declared.Written.{Written}
 use Rattle.text.specs.Rules.{write_rules}
-use Rattle.text.specs.WrittenTexts.{length_test, write_test, written_of, TextMade}
+use Rattle.text.specs.WrittenTexts.{length_test, write_test, written_of, told_written, TextMade}
 
 -- ---- the order of the refusals
 
@@ -53,6 +59,9 @@ module _ (m : Limits) (n room : ℕ) where
   unfolding length_test ◌or_else◌
   length_fine h k = rw (le-ltb room n h, le-ltb m.text n k)
 
+  -- one law for each answer
+  pub ruleset lengths = (length_short, length_over, length_fine)
+
   pub length_fits : (length_test m n room).no ≡ 0 → (n ≤ room) × (n ≤ m.text)
   unfolding length_test
   length_fits z =
@@ -65,13 +74,15 @@ module _ (m : Limits) (L : Listing) (room : ℕ) where
   abbrev size : ℕ
   size = length (text_of (layers L))
 
-  pub write_stops : (a : Answer) → a ≡ closed m L → (a.no ≡ 0 → ⊥) → a ≡ write_test m L room
+  pub write_halt : (d : Refusal) → answer_of d ≡ closed m L → answer_of d ≡ write_test m L room
   unfolding write_test
-  write_stops a e s = e ∙ sym (or_stop (closed m L) _ (stops e s))
+  write_halt d e = then_halt (length_test m size room) d e
 
-  pub write_goes : (closed m L).no ≡ 0 → write_test m L room ≡ length_test m size room
+  -- n is the length that is tested
+  pub write_then : fine ≡ closed m L → {n : ℕ} → n ≡ size → {a : Answer} → a ≡ length_test m n room
+      → a ≡ write_test m L room
   unfolding write_test
-  write_goes z = or_fine (closed m L) _ z
+  write_then f e {a} h = then_ok (length_test m size room) f a (h ∙ ap (λ (n : ℕ). length_test m n room) e)
 
   pub write_broken : FirstBroken (write_rules m L room) (write_test m L room).no
   unfolding write_test length_test
@@ -111,6 +122,23 @@ text_written a t s old new r e z w o = rw (← e) (record {
   answer = w ∙ sym (written_full a (length s) z);
   text = o ∙ sym (after_full a z s old);
 })
+
+-- a refusal that `?` returns
+pub text_err : {s : List ℕ} {t : Answer} (r : Result ℕ Refusal) (d : Refusal) → IsErrAnd r (λ x. x ≡ d)
+    → answer_of d ≡ t → (old : List ℕ) → TextMade t s old old (told_written r)
+text_err {s} {t} r d h e old =
+    let p = err_from_is_err_and r h in
+    rw (p.1, p.2)
+    (text_refused (answer_of d) t s old (told_written (Err d)) e (refuses d)
+    (sym (written_refused (answer_of d) (length s) (refuses d))))
+
+-- the bytes that are answered of a text that is written
+pub text_ok : {t : Answer} → fine ≡ t → (s old new : List ℕ) (n : ℕ) → n ≡ length s → new ≡ over s old
+    → TextMade t s old new (told_written (Ok n))
+text_ok {t} e s old new n h o =
+    let w : told_written (Ok n) ≡ record { answer = fine; length = length s } =
+    ap (λ (k : ℕ). record { answer = fine; length = k }) h in
+    text_written fine t s old new (told_written (Ok n)) e refl w o
 
 module _ {t : Answer} {s old new : List ℕ} {r : Written} (d : TextMade t s old new r) where
   pub text_answer : r.answer ≡ t

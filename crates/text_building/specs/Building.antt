@@ -1,7 +1,8 @@
 -- What the functions that write layers as a listing ask of what is noted, and what they leave.
 --
--- Source        what a listing is written from: layers M within the limits, noted down in lists, with how many sups each
---               element gets, how many ranks and elements there are, and slices with room, of the lengths c, e and i
+-- Source        what a listing is written from: layers M within the limits, noted down in lists, with how many sups
+--               each element gets, how many ranks and elements there are, and slices with room, of the lengths c, e
+--               and i
 -- subs_before   how many numbers the lists 0, 2, .. of the elements before element e have
 -- Flat          the lists of n elements, as they stand in what is noted, and room for them in slices of the lengths e
 --               and i

@@ -87,6 +87,9 @@ module _ {t : List ℕ} {at end v : ℕ} (h : Told t at end v) where
       λ n. refl,
     )
 
+-- what the first two tests of a number as it is written find
+pub ruleset numerals = (told_of, no_digit, too_large)
+
 -- ---- one digit after another
 
 -- one digit more

@@ -2,17 +2,18 @@
 --
 -- Key        one of the three keys
 -- form_of    40, 41: whether what is left of a text goes on with a line of a key and numbers
--- LineRead   such a line at a place: the number that refuses it, and where the next begins
+-- LineRead   a line with a key and one number at a place, where such a line is good: its number, and where the next
+--            begins
 -- WordRead   a number at a place: its value, and the place after its digits
 -- TermRead   a number of a row at a place: what it is, and what the rest of the row is; with what ends it, it takes two
 --            bytes at least
 use Rattle.std.specs.Prelude.{◌≡◌, ◌⊎◌, true, false, List, [], ◌∷◌, ℕ, ◌+◌, ◌≤◌, ◌<◌, length, drop}
 use Rattle.listing.specs.declared.Answer.{Answer}
 use Rattle.listing.specs.Listing.{width}
-use Rattle.listing.specs.Answers.{plain}
 use Rattle.text_theory.specs.Text.{line, rank_key, count_key, subs_key}
-use Rattle.text_theory.specs.Said.{after_line, values_from, form_test}
+use Rattle.text_theory.specs.Said.{after_line, value, values_from, form_test}
 use Rattle.text_theory.specs.Digits.{digits_in, valued, Numeral, good_row}
+use Rattle.text_lines.specs.declared.lines.Single.{Single}
 use Rattle.text_lines.specs.declared.lines.Term.{Term}
 use Rattle.text_lines.specs.declared.lines.Word.{Word}
 
@@ -22,11 +23,11 @@ Key key = (key ≡ rank_key) ⊎ ((key ≡ count_key) ⊎ (key ≡ subs_key))
 abbrev pub form_of : List ℕ → List ℕ → List ℕ → Answer
 form_of key numbers t = form_test (line key numbers) t
 
-pub record LineRead (t : List ℕ) (at : ℕ) (key numbers : List ℕ) (no next : ℕ) : Type 0 where
-  pub test : form_of key numbers (drop at t) ≡ plain no
-  pub later : no ≡ 0 → at < next
-  pub inside : no ≡ 0 → next ≤ length t
-  pub after : no ≡ 0 → drop next t ≡ after_line (drop at t)
+pub record LineRead (t : List ℕ) (at : ℕ) (key : List ℕ) (s : Single) : Type 0 where
+  pub value : s.value ≡ value (drop (length key) (drop at t))
+  pub later : at < s.next
+  pub inside : s.next ≤ length t
+  pub after : drop s.next t ≡ after_line (drop at t)
 
 pub record WordRead (t : List ℕ) (at : ℕ) (w : Word) : Type 0 where
   pub number : Numeral (digits_in (drop at t))

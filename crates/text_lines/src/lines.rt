@@ -1,12 +1,13 @@
 // A text read from a place on: a key, a number, a number with what parts it from the next, a line with one number.
 ghost use Rattle.std.specs.Prelude.{◌≡◌, ◌↔◌, true, false, [], ◌∷◌, ◌+◌, ◌-◌, ◌*◌, ◌≤◌, min, length, drop};
-ghost use Rattle.std.specs.Prelude.{MatchOption};
+ghost use Rattle.std.specs.Prelude.{MatchOption, IfOk};
 ghost use Rattle.listing.specs.Listing.{width};
+ghost use Rattle.listing.specs.Told.{told};
 ghost use Rattle.text_theory.specs.Said.{begins, value, values_from};
 ghost use Rattle.text_theory.specs.Digits.{is_digit, digits_in, valued, Numeral, good_row};
 ghost use Rattle.text_lines.specs.Lines.{Key, WordRead, TermRead, form_of, LineRead};
 
-use listing::{inner, refusal};
+use listing::Refusal;
 
 // A number that was read: its value, and the place after its digits.
 #[derive(Clone, Copy)]
@@ -23,10 +24,9 @@ pub struct Term {
     pub next: usize,
 }
 
-// A line with one number: the number that refuses it, 0 for none; its value; and the place after its newline.
+// A line with one number that was read: its value, and the place after its newline.
 #[derive(Clone, Copy)]
 pub struct Single {
-    pub no: u16,
     pub value: usize,
     pub next: usize,
 }
@@ -45,11 +45,12 @@ fn with_digit(v: usize, b: u8) -> usize
     requires { (v ≤ width) × (is_digit b ≡ true) }
     ensures { result ≡ min (10 * v + (b - 48)) width }
 {
-    let most = inner::wide(listing::LARGEST) + 1;
+    let most = usize::from(listing::LARGEST) + 1;
     (10 * v + (b - b'0') as usize).min(most)
 }
 
 // Whether digits from one place up to another, which tell the number v, are a number as it is written.
+#[tactic(auto, using(crate::proofs::Values::numerals))]
 fn is_numeral(text: &[u8], at: usize, end: usize, v: usize) -> bool
     requires at_le_end { (at ≤ end) × (end ≤ length text.now) }
     requires end_value { end ≡ at + length (digits_in (drop at text.now)) }
@@ -59,7 +60,7 @@ fn is_numeral(text: &[u8], at: usize, end: usize, v: usize) -> bool
     if at == end {
         return false;
     }
-    if inner::wide(listing::LARGEST) < v {
+    if usize::from(listing::LARGEST) < v {
         return false;
     }
     if text[at] == b'0' {
@@ -126,37 +127,23 @@ pub fn has_key(text: &[u8], at: usize, key: &[u8]) -> bool
     text[at..].starts_with(key)
 }
 
-// A line that is refused.
-fn refused(no: u16) -> Single
-    ensures { result.no ≡ no }
-{
-    Single {
-        no,
-        value: 0,
-        next: 0,
-    }
-}
-
 // The line with a key and one number that begins at a place.
-pub fn single_at(text: &[u8], at: usize, key: &[u8]) -> Single
+#[tactic(auto, using(crate::proofs::Singles::singles))]
+pub fn single_at(text: &[u8], at: usize, key: &[u8]) -> Result<Single, Refusal>
     requires at_in_bounds { at ≤ length text.now }
     requires key { Key key.now }
-    ensures line_read { LineRead text.now at key.now (value (drop (length key.now)
-        (drop at text.now)) ∷ []) result.no result.next }
-    ensures value_value { result.no ≡ 0 → result.value ≡ value (drop (length key.now) (drop at text.now)) }
+    ensures test { told result ≡ form_of key.now (value (drop (length key.now) (drop at text.now)) ∷ [])
+        (drop at text.now) }
+    ensures line_read { IfOk result (LineRead text.now at key.now) }
 {
     if !has_key(text, at, key) {
-        return refused(refusal::WRONG_KEY);
+        return Err(Refusal::WrongKey);
     }
-    let Some(i) = term_at(text, at + key.len()) else {
-        return refused(refusal::BAD_LINE);
-    };
-    if i.more {
-        return refused(refusal::BAD_LINE);
-    }
-    Single {
-        no: 0,
-        value: i.value,
-        next: i.next,
+    match term_at(text, at + key.len()) {
+        Some(i) if !i.more => Ok(Single {
+            value: i.value,
+            next: i.next,
+        }),
+        _ => Err(Refusal::BadLine),
     }
 }

@@ -10,7 +10,6 @@ use lib.ListN.{length, get_or, set, drop}
 use Rattle.order.specs.Lists.{occurs}
 use Rattle.order.specs.Sums.{sum}
 use Rattle.order.proofs.Sums.{sum_none, sum_next, sum_le}
-use Rattle.listing.specs.Answers.{plain}
 use Rattle.listing.specs.Listing.{Limits}
 use Rattle.listing.specs.Layers.{derived}
 use Rattle.listing.proofs.Layers.{derived_length}
@@ -24,13 +23,8 @@ use Rattle.text_theory.proofs.Incidences.{incidences_to_rank, incidences_to_next
 use Rattle.text_sizes.specs.declared.measure.Headway.{Headway}
 use Rattle.text_sizes.specs.declared.rows.Row.{Row}
 use Rattle.text_sizes.specs.Rows.{RowCounted}
-use Rattle.text_sizes.specs.Measure.{left_test, Raising, SubsNoted, Arrived, Entered, Comes}
+use Rattle.text_sizes.specs.Measure.{left_test, Raising, SubsNoted, Arrived, Entered}
 use Rattle.text_sizes.proofs.Noting.{subs_to_rank, subs_to_next, elements_next}
-
--- a reading that ends with the text's number comes to no rank
-pub stopped_so : {m : Limits} {t : List ℕ} {no : ℕ} (s : Headway) (up many subs : List ℕ) → (no ≡ 0 → ⊥)
-    → s.no ≡ no → text_test m t ≡ plain no → Comes m t s up many subs
-stopped_so s up many subs h e o = record { go = λ z. absurd (h (sym e ∙ z)); stop = λ z. o ∙ ap plain (sym e) }
 
 -- how often y stands in what lies under the first i elements of rank r
 abbrev pub met_to : List ℕ → ℕ → ℕ → ℕ → ℕ
@@ -161,7 +155,6 @@ module _ {m : Limits} {t : List ℕ} {s : Headway} {n : ℕ} {up₀ many₀ subs
 
       abbrev past : Headway
       past = record {
-        no = 0;
         at = at;
         rank = s.rank + 1;
         from = s.from + s.below;
@@ -180,13 +173,13 @@ module _ {m : Limits} {t : List ℕ} {s : Headway} {n : ℕ} {up₀ many₀ subs
           omega (arith, g.weighs, v, w)
 
       -- the next rank comes
-      pub going_all : (c : Headway) → c ≡ past → Arrived m t c up many subs
+      pub going_all : Arrived m t past up many subs
       unfolding size_below sum
-      going_all c q =
+      going_all =
           let r : s.rank + 1 ≡ suc s.rank = omega arith in
           let k : count_line t s.rank + suc i ≡ count_line t (suc s.rank) =
           omega (arith, count_next t s.rank e.rank, e.size) in
-          rw (q, r) (record {
+          rw r (record {
             short = e.short;
             ranks = e.ranks;
             rank = omega (arith, e.rank);

@@ -12,10 +12,13 @@ use Rattle.order.specs.Sums.{sum}
 use Rattle.listing.specs.Refusals.{over_elements, over_incidences}
 use Rattle.listing.specs.Answers.{plain, fine, ◌or_else◌}
 use Rattle.listing.specs.Listing.{Limits}
+use Rattle.listing.specs.declared.Refusal.{Refusal}
+use Rattle.listing.specs.Told.{answer_of}
+use Rattle.listing.proofs.Told.{refuses, halts}
 use Rattle.listing.proofs.Answers.{or_fine, or_stop, of_next, of_stop}
 use Rattle.text_theory.specs.Text.{Line, count_key, subs_key, line_of, line_count}
-use Rattle.text_theory.specs.Said.{from_line, after_line, count_line, said, value, values, form_test, Bound, bound_of, bound_test}
-use Rattle.text_theory.specs.Said.{line_test, incidences_to}
+use Rattle.text_theory.specs.Said.{from_line, after_line, count_line, said, value, values, form_test}
+use Rattle.text_theory.specs.Said.{Bound, bound_of, bound_test, line_test, incidences_to}
 use Rattle.text_theory.proofs.Spots.{said_size, said_under, count_below, count_test, list_below, list_test}
 use Rattle.text_lines.specs.Lines.{form_of}
 use Rattle.text_sizes.specs.Measure.{left_test}
@@ -41,26 +44,25 @@ pub record LineAt (m : Limits) (t : List ℕ) (k at : ℕ) (l : Line) (b : Bound
   pub here : drop at t ≡ from_line t k
   pub test : line_test m t k ≡ form_test l (from_line t k) or_else bound_test b
 
-module _ {m : Limits} {t : List ℕ} {k at : ℕ} {l : Line} {b : Bound} (a : LineAt m t k at l b) (no : ℕ)
-    (f : form_test l (drop at t) ≡ plain no) where
+module _ {m : Limits} {t : List ℕ} {k at : ℕ} {l : Line} {b : Bound} (a : LineAt m t k at l b) where
   -- its test, as it was found
-  found : line_test m t k ≡ plain no or_else bound_test b
-  found = a.test ∙ ap (λ (x : Answer). x or_else bound_test b) (ap (form_test l) (sym a.here) ∙ f)
+  found : (x : Answer) → x ≡ form_test l (drop at t) → line_test m t k ≡ x or_else bound_test b
+  found x f = a.test ∙ ap (λ (y : Answer). y or_else bound_test b) (ap (form_test l) (sym a.here) ∙ sym f)
 
-  pub line_refused : (no ≡ 0 → ⊥) → left_test m t k ≡ plain no
-  line_refused s =
-      let e = found ∙ or_stop (plain no) (bound_test b) s in
-      left_stop m t k a.below (λ z. s (ap (λ (x : Answer). x.no) (sym e) ∙ z)) ∙ e
+  pub line_refused : (d : Refusal) → answer_of d ≡ form_test l (drop at t) → answer_of d ≡ left_test m t k
+  line_refused d f =
+      let e = found (answer_of d) f ∙ or_stop (answer_of d) (bound_test b) (refuses d) in
+      sym (left_stop m t k a.below (halts d (sym e)) ∙ e)
 
-  module _ (z : no ≡ 0) where
+  module _ (f : fine ≡ form_test l (drop at t)) where
     bounded : line_test m t k ≡ bound_test b
-    bounded = found ∙ or_fine (plain no) (bound_test b) z
+    bounded = found fine f ∙ or_fine fine (bound_test b) refl
 
-    pub line_over : (b.no ≡ 0 → ⊥) → b.most < b.amount → left_test m t k ≡ plain b.no
+    pub line_over : (b.no ≡ 0 → ⊥) → b.most < b.amount → plain b.no ≡ left_test m t k
     line_over s h =
         let o : bound_test b ≡ plain b.no = rw (lt-ltb b.most b.amount h) in
         let e = bounded ∙ o in
-        left_stop m t k a.below (λ q. s (ap (λ (x : Answer). x.no) (sym e) ∙ q)) ∙ e
+        sym (left_stop m t k a.below (λ q. s (ap (λ (x : Answer). x.no) (sym e) ∙ q)) ∙ e)
 
     pub line_goes : b.amount ≤ b.most → left_test m t k ≡ left_test m t (suc k)
     line_goes h =
@@ -75,7 +77,8 @@ here_next t k at next h e = e ∙ ap after_line h
 
 -- ---- the line with the count of a rank
 
-module _ (m : Limits) (t : List ℕ) (r at : ℕ) (h : r ≤ (said t).top) (e : drop at t ≡ from_line t (count_line t r)) where
+module _ (m : Limits) (t : List ℕ) (r at : ℕ) (h : r ≤ (said t).top)
+    (e : drop at t ≡ from_line t (count_line t r)) where
   count_stands : LineAt m t (count_line t r) at (line_of (said t) (r, 0)) (bound_of m (said t) (r, 0))
   count_stands = record { below = count_below t r h; here = e; test = count_test t r h m }
 
@@ -83,23 +86,26 @@ module _ (m : Limits) (t : List ℕ) (r at : ℕ) (h : r ≤ (said t).top) (e : 
   pub count_told : value (drop (length count_key) (drop at t)) ≡ (said t).size r
   count_told = ap (λ (u : List ℕ). value (drop (length count_key) u)) e ∙ sym (said_size t r h)
 
-  module _ (no : ℕ) (f : form_of count_key (value (drop (length count_key) (drop at t)) ∷ []) (drop at t) ≡ plain no) where
-    count_form : form_test (line_of (said t) (r, 0)) (drop at t) ≡ plain no
-    unfolding line_of
-    count_form = ap (λ (n : ℕ). form_of count_key (n ∷ []) (drop at t)) (sym count_told) ∙ f
+  -- what is asked of it
+  abbrev count_asked : Answer
+  count_asked = form_of count_key (value (drop (length count_key) (drop at t)) ∷ []) (drop at t)
 
-    pub count_refused : (no ≡ 0 → ⊥) → left_test m t (count_line t r) ≡ plain no
-    count_refused = line_refused count_stands no count_form
+  count_form : count_asked ≡ form_test (line_of (said t) (r, 0)) (drop at t)
+  unfolding line_of
+  count_form = ap (λ (n : ℕ). form_of count_key (n ∷ []) (drop at t)) count_told
 
-    module _ (z : no ≡ 0) where
-      pub count_over : m.elements < sum (said t).size (suc r) → left_test m t (count_line t r) ≡ plain over_elements
-      unfolding bound_of
-      count_over l = line_over count_stands no count_form z (λ q. omega arith) l
+  pub count_refused : (d : Refusal) → answer_of d ≡ count_asked → answer_of d ≡ left_test m t (count_line t r)
+  count_refused d f = line_refused count_stands d (f ∙ count_form)
 
-      pub count_goes : sum (said t).size (suc r) ≤ m.elements
-          → left_test m t (count_line t r) ≡ left_test m t (suc (count_line t r))
-      unfolding bound_of
-      count_goes l = line_goes count_stands no count_form z l
+  module _ (f : fine ≡ count_asked) where
+    pub count_over : m.elements < sum (said t).size (suc r) → plain over_elements ≡ left_test m t (count_line t r)
+    unfolding bound_of
+    count_over l = line_over count_stands (f ∙ count_form) (λ q. omega arith) l
+
+    pub count_goes : sum (said t).size (suc r) ≤ m.elements
+        → left_test m t (count_line t r) ≡ left_test m t (suc (count_line t r))
+    unfolding bound_of
+    count_goes l = line_goes count_stands (f ∙ count_form) l
 
 -- ---- the line of an element
 
@@ -112,21 +118,24 @@ module _ (m : Limits) (t : List ℕ) (r at : ℕ) (h : r ≤ (said t).top) (i : 
   pub list_told : values (drop (length subs_key) (drop at t)) ≡ (said t).under r i
   list_told = ap (λ (u : List ℕ). values (drop (length subs_key) u)) e ∙ sym (said_under t r i)
 
-  module _ (no : ℕ) (f : form_of subs_key (values (drop (length subs_key) (drop at t))) (drop at t) ≡ plain no) where
-    list_form : form_test (line_of (said t) (r, suc i)) (drop at t) ≡ plain no
-    unfolding line_of
-    list_form = ap (λ (ns : List ℕ). form_of subs_key ns (drop at t)) (sym list_told) ∙ f
+  -- what is asked of it
+  abbrev list_asked : Answer
+  list_asked = form_of subs_key (values (drop (length subs_key) (drop at t))) (drop at t)
 
-    pub list_refused : (no ≡ 0 → ⊥) → left_test m t (count_line t r + suc i) ≡ plain no
-    list_refused = line_refused list_stands no list_form
+  list_form : list_asked ≡ form_test (line_of (said t) (r, suc i)) (drop at t)
+  unfolding line_of
+  list_form = ap (λ (ns : List ℕ). form_of subs_key ns (drop at t)) list_told
 
-    module _ (z : no ≡ 0) where
-      pub list_over : m.incidences < incidences_to (said t) r (suc i)
-          → left_test m t (count_line t r + suc i) ≡ plain over_incidences
-      unfolding bound_of
-      list_over b = line_over list_stands no list_form z (λ q. omega arith) b
+  pub list_refused : (d : Refusal) → answer_of d ≡ list_asked → answer_of d ≡ left_test m t (count_line t r + suc i)
+  list_refused d f = line_refused list_stands d (f ∙ list_form)
 
-      pub list_goes : incidences_to (said t) r (suc i) ≤ m.incidences
-          → left_test m t (count_line t r + suc i) ≡ left_test m t (suc (count_line t r + suc i))
-      unfolding bound_of
-      list_goes b = line_goes list_stands no list_form z b
+  module _ (f : fine ≡ list_asked) where
+    pub list_over : m.incidences < incidences_to (said t) r (suc i)
+        → plain over_incidences ≡ left_test m t (count_line t r + suc i)
+    unfolding bound_of
+    list_over b = line_over list_stands (f ∙ list_form) (λ q. omega arith) b
+
+    pub list_goes : incidences_to (said t) r (suc i) ≤ m.incidences
+        → left_test m t (count_line t r + suc i) ≡ left_test m t (suc (count_line t r + suc i))
+    unfolding bound_of
+    list_goes b = line_goes list_stands (f ∙ list_form) b

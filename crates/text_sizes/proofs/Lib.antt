@@ -3,6 +3,7 @@ pub mod SubsLines
 pub mod Lefts
 pub mod Noting
 pub mod Entering
+pub mod Stops
 pub mod Lists
 pub mod Ranks
 pub mod Whole

@@ -9,7 +9,12 @@ use native.Mathlib.Omega.{arith}
 use lib.ListN.{length, get_or, drop, length-drop}
 use lib.Seq.{get_or-drop, drop-drop}
 use Rattle.listing.specs.Refusals.{wrong_key, bad_line}
-use Rattle.listing.specs.Answers.{plain, on}
+use Rattle.std.proofs.Common.{Result}
+use Rattle.std.specs.Result.{IfOk}
+use Rattle.std.proofs.lemmas.Result.{IfOk-weaker}
+use Rattle.listing.specs.declared.Answer.{Answer}
+use Rattle.listing.specs.declared.Refusal.{Refusal}
+use Rattle.listing.specs.Answers.{plain, fine, on}
 use Rattle.listing.proofs.Laying.{laid_none}
 use Rattle.listing_sups.proofs.Raising.{raised_none}
 use Rattle.text_theory.specs.Text.{newline, Line, subs_key}
@@ -19,9 +24,9 @@ use Rattle.text_theory.specs.Digits.{good_row}
 use Rattle.text_theory.proofs.Lines.{after_key}
 use Rattle.text_theory.proofs.Reading.{list_none, list_some, list_end, form_key, form_is}
 use Rattle.text_sizes.specs.declared.rows.Row.{Row}
-use Rattle.text_sizes.specs.Rows.{RowCounted, RowTallied, SubsTallied}
+use Rattle.text_sizes.specs.Rows.{RowCounted}
 
-module _ (t : List ℕ) (at from n to : ℕ) (up subs : List ℕ) where
+module _ (t : List ℕ) (at : ℕ) where
   abbrev here : List ℕ
   here = drop at t
 
@@ -34,12 +39,8 @@ module _ (t : List ℕ) (at from n to : ℕ) (up subs : List ℕ) where
   row_is : drop (at + 5) t ≡ row
   row_is = sym (drop-drop 5 at t)
 
-  pub subs_off_key : (r : Row) → r.no ≡ wrong_key → begins subs_key here ≡ false
-      → SubsTallied t at from n to up up subs subs r
-  subs_off_key r e k = record {
-    test = rw e (sym (form_key line here k));
-    counted = λ z. absurd (omega arith);
-  }
+  pub subs_off_key : begins subs_key here ≡ false → plain wrong_key ≡ form_test line here
+  subs_off_key k = sym (form_key line here k)
 
   module _ (k : begins subs_key here ≡ true) where
     -- the test of the line is that of its row
@@ -49,13 +50,10 @@ module _ (t : List ℕ) (at from n to : ℕ) (up subs : List ℕ) where
     after : after_line here ≡ after_line row
     after = after_key line here (inr (inr refl)) k
 
-    pub subs_short : length t ≤ at + 5 → (r : Row) → r.no ≡ bad_line → SubsTallied t at from n to up up subs subs r
-    subs_short l r e = record {
-      test =
-          let g = list_end row (omega (arith, ap length row_is, length-drop (at + 5) t)) in
-          rw e (sym (tested ∙ rw g refl));
-      counted = λ z. absurd (omega arith);
-    }
+    pub subs_short : length t ≤ at + 5 → plain bad_line ≡ form_test line here
+    subs_short l =
+        let g = list_end row (omega (arith, ap length row_is, length-drop (at + 5) t)) in
+        sym (tested ∙ rw g refl)
 
     module _ (l : at + 5 < length t) where
       some : 0 < length row
@@ -67,47 +65,58 @@ module _ (t : List ℕ) (at from n to : ℕ) (up subs : List ℕ) where
           ap (λ (s : List ℕ). get_or s 0 0) (sym row_is) ∙ get_or-drop (at + 5) t 0 0 ∙ ap (λ (j : ℕ). get_or t j 0) z
 
       -- nothing lies under the element
-      pub subs_none : get_or t (at + 5) 0 ≡ newline → ((j : ℕ) → get_or up j 0 < at)
-          → (r : Row) → r ≡ record { no = 0; count = 0; known = 0; next = at + 5 + 1 }
-          → SubsTallied t at from n to up up subs subs r
+      pub subs_none : get_or t (at + 5) 0 ≡ newline → fine ≡ form_test line here
+      subs_none e = sym (tested ∙ rw (list_none row some (first ∙ e)).1 refl)
+
+      pub none_counted : get_or t (at + 5) 0 ≡ newline → (from n to : ℕ) (up subs : List ℕ)
+          → ((j : ℕ) → get_or up j 0 < at)
+          → RowCounted t at (values row) from n to up up subs subs (record { count = 0; known = 0; next = at + 5 + 1 })
       unfolding below_in occurs
-      subs_none e f r q =
+      none_counted e from n to up subs f =
           let w = list_none row some (first ∙ e) in
-          rw q (record {
-            test = sym (tested ∙ rw w.1 refl);
-            counted = λ z. record {
-              later = omega arith;
-              inside = omega arith;
-              after = sym (drop-drop 1 (at + 5) t) ∙ ap (drop 1) row_is ∙ sym (after ∙ w.2);
-              count = rw w.0 refl;
-              known = rw w.0 refl;
-              small = (omega arith, omega arith);
-              raised = raised_none from n _ up (λ x h. rw w.0 refl);
-              few = λ j. omega (arith, f j);
-              laid = rw w.0 (laid_none to (λ j. 0) subs);
-            };
-          })
+          record {
+            later = omega arith;
+            inside = omega arith;
+            after = sym (drop-drop 1 (at + 5) t) ∙ ap (drop 1) row_is ∙ sym (after ∙ w.2);
+            count = rw w.0 refl;
+            known = rw w.0 refl;
+            small = (omega arith, omega arith);
+            raised = raised_none from n _ up (λ x h. rw w.0 refl);
+            few = λ j. omega (arith, f j);
+            laid = rw w.0 (laid_none to (λ j. 0) subs);
+          }
 
       -- a row of numbers
-      pub subs_row : (get_or t (at + 5) 0 ≡ newline → ⊥) → (up' subs' : List ℕ) (r : Row)
-          → RowTallied t (at + 5) (values_from 0 (drop (at + 5) t)) from n to up up' subs subs' r
-          → SubsTallied t at from n to up up' subs subs' r
-      subs_row e up' subs' r w =
-          let v : values_from 0 (drop (at + 5) t) ≡ values row =
-          ap (values_from 0) row_is ∙ sym (list_some row some (λ z. e (sym first ∙ z))) in
-          let c : r.no ≡ 0 → RowCounted t (at + 5) (values row) from n to up up' subs subs' r =
-          λ z. rw (← v) (w.counted z) in
-          record {
-            test = w.test ∙ rw (v, row_is) refl ∙ sym tested;
-            counted = λ z. record {
-              later = omega (arith, (c z).later);
-              inside = (c z).inside;
-              after = (c z).after ∙ ap after_line row_is ∙ sym after;
-              count = (c z).count;
-              known = (c z).known;
-              small = (c z).small;
-              raised = (c z).raised;
-              few = (c z).few;
-              laid = (c z).laid;
-            };
-          }
+      module _ (e : get_or t (at + 5) 0 ≡ newline → ⊥) where
+        numbers : values_from 0 (drop (at + 5) t) ≡ values row
+        numbers = ap (values_from 0) row_is ∙ sym (list_some row some (λ z. e (sym first ∙ z)))
+
+        pub subs_row : {a : Answer}
+            → a ≡ on (not (good_row (values_from 0 (drop (at + 5) t)) (drop (at + 5) t))) (plain bad_line)
+            → a ≡ form_test line here
+        subs_row q = q ∙ rw (numbers, row_is) refl ∙ sym tested
+
+        pub row_counted : (from n to : ℕ) (up up' subs subs' : List ℕ) (r : Result Row Refusal)
+            → IfOk r (RowCounted t (at + 5) (values_from 0 (drop (at + 5) t)) from n to up up' subs subs')
+            → IfOk r (RowCounted t at (values row) from n to up up' subs subs')
+        row_counted from n to up up' subs subs' r q = IfOk-weaker r _ _ counted q
+          where
+            counted : (x : Row)
+                → RowCounted t (at + 5) (values_from 0 (drop (at + 5) t)) from n to up up' subs subs' x
+                → RowCounted t at (values row) from n to up up' subs subs' x
+            counted x w =
+                let c : RowCounted t (at + 5) (values row) from n to up up' subs subs' x = rw (← numbers) w in
+                record {
+                  later = omega (arith, c.later);
+                  inside = c.inside;
+                  after = c.after ∙ ap after_line row_is ∙ sym after;
+                  count = c.count;
+                  known = c.known;
+                  small = c.small;
+                  raised = c.raised;
+                  few = c.few;
+                  laid = c.laid;
+                }
+
+-- one law for each way through the line
+pub ruleset subs_line = (subs_off_key, subs_short, subs_none, subs_row, row_counted)

@@ -19,8 +19,7 @@ use Rattle.text_theory.specs.Said.{after_line, values_from, below_in}
 use Rattle.text_theory.specs.Digits.{good_row}
 use Rattle.text_lines.specs.declared.lines.Term.{Term}
 use Rattle.text_lines.specs.Lines.{TermRead}
-use Rattle.text_sizes.specs.declared.rows.Row.{Row}
-use Rattle.text_sizes.specs.Rows.{RowCounted, RowTallied}
+use Rattle.text_sizes.specs.Rows.{RowCounted}
 
 -- the first number by itself, and the others
 pub below_first : (n x : ℕ) (l : List ℕ) → below_in n (x ∷ l) ≡ below_in n (x ∷ []) + below_in n l
@@ -61,12 +60,6 @@ row_begun t at from n to up subs h f = record {
   small = omega arith;
   laid = laid_none to _ subs;
 }
-
--- a row that is counted
-module _ {t : List ℕ} {at from n to : ℕ} {up up' subs subs' ns : List ℕ} (c : Row) where
-  row_tallied : c.no ≡ 0 → good_row ns (drop at t) ≡ true → RowCounted t at ns from n to up up' subs subs' c
-      → RowTallied t at ns from n to up up' subs subs' c
-  row_tallied e g r = record { test = rw (e, g) refl; counted = λ z. r }
 
 module _ {t : List ℕ} {at from n to : ℕ} {up₀ up subs₀ subs : List ℕ} {i count named : ℕ}
     (h : RowRun t at from n to up₀ up subs₀ subs i count named) where
@@ -122,17 +115,17 @@ module _ {t : List ℕ} {at from n to : ℕ} {up₀ up subs₀ subs : List ℕ} 
           }
 
       module _ (m : w.more ≡ false) where
-        row_good : good_row (values_from 0 (drop at t)) (drop at t) ≡ true
+        pub row_good : good_row (values_from 0 (drop at t)) (drop at t) ≡ true
         row_good = h.good ∙ (r.last m).1
 
         counted_all : count + 1 ≡ length (values_from 0 (drop at t))
         counted_all = omega (arith, h.counted, ap length (r.last m).0)
 
-        row_counted : (c : Row) → c ≡ record { no = 0; count = count + 1; known = named + k; next = w.next }
-            → RowCounted t at (values_from 0 (drop at t)) from n to up₀ up' subs₀ (set subs (to + count) w.value) c
-        row_counted c z =
+        pub row_last : RowCounted t at (values_from 0 (drop at t)) from n to up₀ up' subs₀
+            (set subs (to + count) w.value) (record { count = count + 1; known = named + k; next = w.next })
+        row_last =
             let e = r.last m in
-            rw z (record {
+            record {
               later = omega (arith, h.later, r.later);
               inside = r.inside;
               after = sym (h.after ∙ e.2);
@@ -144,8 +137,7 @@ module _ {t : List ℕ} {at from n to : ℕ} {up₀ up subs₀ subs : List ℕ} 
                   (λ y. omega (arith, ap (occurs y) e.0, h.left y));
               few = few_more;
               laid = rw (← counted_all) (laid_more _ e.0);
-            })
+            }
 
-        pub row_last : (c : Row) → c ≡ record { no = 0; count = count + 1; known = named + k; next = w.next }
-            → RowTallied t at (values_from 0 (drop at t)) from n to up₀ up' subs₀ (set subs (to + count) w.value) c
-        row_last c z = row_tallied c (rw z refl) row_good (row_counted c z)
+-- a row that begins, and one that is good
+pub ruleset rows = (row_begun, row_good)

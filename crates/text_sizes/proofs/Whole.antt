@@ -11,11 +11,15 @@ use lib.ListN.{length, get_or, drop, length-drop}
 use Rattle.order.specs.Lists.{occurs}
 use Rattle.order.specs.Sums.{sum}
 use Rattle.order.proofs.Sums.{sum_none}
+use Rattle.listing.specs.declared.Answer.{Answer}
+use Rattle.listing.specs.declared.Refusal.{Refusal}
+use Rattle.listing.specs.Told.{answer_of}
 use Rattle.listing.specs.Refusals.{long_text, over_ranks, more_bytes}
 use Rattle.listing.specs.Answers.{plain, fine, ◌or_else◌, first_of}
 use Rattle.listing.specs.Listing.{Limits}
 use Rattle.listing.specs.Layers.{Topped, derived}
 use Rattle.listing.proofs.Answers.{of_end}
+use Rattle.listing.proofs.Told.{told_err}
 use Rattle.listing.proofs.Layers.{in_range, derived_length}
 use Rattle.listing.proofs.Written.{written_counts_length, written_ends_length, written_inc_length, written_shaped}
 use Rattle.listing_outputs.specs.Output.{need_of}
@@ -26,16 +30,16 @@ use Rattle.text_theory.specs.Said.{text_test}
 use Rattle.text_theory.specs.Notes.{subs_to, Noted}
 use Rattle.text_theory.proofs.Spots.{said_topped, said_top, rank_test, count_first, count_last}
 use Rattle.text_theory.proofs.Incidences.{incidences_total, incidences_to_first, incidences_to_rank}
-use Rattle.text_lines.specs.Lines.{LineRead}
+use Rattle.text_lines.specs.declared.lines.Single.{Single}
+use Rattle.text_lines.specs.Lines.{form_of, LineRead}
 use Rattle.text_sizes.specs.declared.measure.Headway.{Headway}
-use Rattle.text_sizes.specs.declared.measure.Measured.{Measured}
 use Rattle.text_sizes.specs.Measure.{left_test, Raising, CountsNoted, Arrived, SizesRead}
-use Rattle.text_sizes.proofs.Noting.{subs_to_first, elements_none, all_noted}
+use Rattle.text_sizes.proofs.Noting.{subs_to_first, counts_none, elements_none, all_noted}
 use Rattle.text_sizes.proofs.Lefts.{LineAt, line_refused, line_over, line_goes, here_next}
 
 -- a text that is too long, and any other
 module _ (m : Limits) (t : List ℕ) where
-  pub text_over : m.text < length t → text_test m t ≡ plain long_text
+  pub text_over : m.text < length t → plain long_text ≡ text_test m t
   unfolding text_test ◌or_else◌
   text_over h = rw (lt-ltb m.text (length t) h) refl
 
@@ -43,64 +47,58 @@ module _ (m : Limits) (t : List ℕ) where
   unfolding text_test left_test ◌or_else◌
   text_left h = rw (le-ltb m.text (length t) h) refl
 
--- a reading that ends with the text's number
-pub sizes_refused : {m : Limits} {t : List ℕ} {no : ℕ} (up counts many subs : List ℕ) (w : Measured) → (no ≡ 0 → ⊥)
-    → w.no ≡ no → text_test m t ≡ plain no → SizesRead m t up counts many subs w
-sizes_refused up counts many subs w h e o = record {
-  test = o ∙ ap plain (sym e);
-  need = λ z. absurd (h (sym e ∙ z));
-  shaped = λ z. absurd (h (sym e ∙ z));
-  counted = λ z. absurd (h (sym e ∙ z));
-  noted = λ z. absurd (h (sym e ∙ z));
-}
-
 -- ---- the line with the rank
 
-module _ (m : Limits) (t : List ℕ) (h : length t ≤ m.text) (no next : ℕ)
-    (l : LineRead t 0 rank_key (value (drop (length rank_key) (drop 0 t)) ∷ []) no next) where
+module _ (m : Limits) (t : List ℕ) (h : length t ≤ m.text) where
   first_stands : LineAt m t 0 0 (record { key = rank_key; numbers = (said t).top ∷ [] })
       (record { amount = suc (said t).top; most = m.ranks; no = over_ranks })
   unfolding line_count from_line
   first_stands = record { below = omega arith; here = refl; test = rank_test t m }
 
-  pub first_refused : (no ≡ 0 → ⊥) → text_test m t ≡ plain no
+  -- what is asked of it
+  abbrev asked : Answer
+  asked = form_of rank_key (value (drop (length rank_key) (drop 0 t)) ∷ []) (drop 0 t)
+
+  first_form : asked ≡ form_of rank_key ((said t).top ∷ []) (drop 0 t)
   unfolding said
-  first_refused z = text_left m t h ∙ line_refused first_stands no l.test z
+  first_form = refl
 
-  module _ (z : no ≡ 0) (n : ℕ) (v : n ≡ value (drop (length rank_key) (drop 0 t))) where
-    pub top_is : n ≡ (said t).top
+  pub first_refused : (d : Refusal) → answer_of d ≡ asked → answer_of d ≡ text_test m t
+  first_refused d f = line_refused first_stands d (f ∙ first_form) ∙ sym (text_left m t h)
+
+  module _ (f : fine ≡ asked) {c : Single} (l : LineRead t 0 rank_key c) where
+    pub top_is : c.value ≡ (said t).top
     unfolding from_line
-    top_is = v ∙ sym (said_top t)
+    top_is = l.value ∙ sym (said_top t)
 
-    pub first_over : m.ranks ≤ n → text_test m t ≡ plain over_ranks
-    unfolding said
+    pub first_over : m.ranks ≤ c.value → plain over_ranks ≡ text_test m t
     first_over b =
-        text_left m t h ∙ line_over first_stands no l.test z (λ q. omega arith) (omega (arith, top_is))
+        line_over first_stands (f ∙ first_form) (λ q. omega arith) (omega (arith, top_is)) ∙ sym (text_left m t h)
 
     -- past it the first rank comes
     abbrev first_rank : Headway
-    first_rank = record { no = 0; at = next; rank = 0; from = 0; below = 0; incidences = 0; subs = 0 }
+    first_rank = record { at = c.next; rank = 0; from = 0; below = 0; incidences = 0; subs = 0 }
 
-    none_raised : (up : List ℕ) → m.elements ≤ length up → ((k : ℕ) → get_or up k 0 ≡ 0) → Raising m t 0 0 next up
+    none_raised : (up : List ℕ) → m.elements ≤ length up → ((k : ℕ) → get_or up k 0 ≡ 0) → Raising m t 0 0 c.next up
     none_raised up g o = record {
       long = g;
       done = λ i x j. absurd (omega arith);
       rest = λ k j. o k;
-      few = λ k. omega (arith, o k, l.later z);
+      few = λ k. omega (arith, o k, l.later);
     }
 
-    pub first_came : n < m.ranks → (up many subs : List ℕ) → m.elements ≤ length up → ((k : ℕ) → get_or up k 0 ≡ 0)
-        → m.elements ≤ length many → m.incidences ≤ length subs → (p : Headway)
-        → p ≡ first_rank → Arrived m t p up many subs
-    unfolding said size_below
-    first_came b up many subs g o y x p q = rw q (record {
+    pub first_came : c.value < m.ranks → {up many subs : List ℕ} → m.elements ≤ length up
+        → ((k : ℕ) → get_or up k 0 ≡ 0) → m.elements ≤ length many → m.incidences ≤ length subs
+        → Arrived m t first_rank up many subs
+    unfolding size_below
+    first_came b {up} {many} {subs} g o y x = record {
       short = h;
       ranks = omega (arith, top_is);
       rank = omega arith;
-      inside = l.inside z;
-      here = here_next t 0 0 next first_stands.here (l.after z) ∙ ap (from_line t) (sym (count_first t));
+      inside = l.inside;
+      here = here_next t 0 0 c.next first_stands.here l.after ∙ ap (from_line t) (sym (count_first t));
       left =
-          text_left m t h ∙ line_goes first_stands no l.test z (omega (arith, top_is))
+          text_left m t h ∙ line_goes first_stands (f ∙ first_form) (omega (arith, top_is))
           ∙ ap (left_test m t) (sym (count_first t));
       below = refl;
       total = sym (sum_none (said t).size);
@@ -112,7 +110,7 @@ module _ (m : Limits) (t : List ℕ) (h : length t ≤ m.text) (no next : ℕ)
       half = omega arith;
       light = omega arith;
       notes = elements_none many subs y x;
-    })
+    }
 
 -- ---- past the last line
 
@@ -128,17 +126,17 @@ module _ {m : Limits} {t : List ℕ} {s : Headway} {up many subs : List ℕ} (c 
   no_line_left : first_of (line_test m t) (count_line t s.rank) (line_count (said t)) ≡ fine
   no_line_left = of_end _ (line_test m t) _ _ refl (omega (arith, at_last))
 
-  pub bytes_over : s.at < length t → text_test m t ≡ plain more_bytes
+  pub bytes_over : s.at < length t → plain more_bytes ≡ text_test m t
   unfolding left_test ◌or_else◌
   bytes_over h =
       let z : 0 < length (from_line t (line_count (said t))) = omega (arith, rest_length, length-drop s.at t) in
-      c.left ∙ rw (no_line_left, lt-ltb 0 _ z) refl
+      sym (c.left ∙ rw (no_line_left, lt-ltb 0 _ z) refl)
 
-  pub bytes_none : length t ≤ s.at → text_test m t ≡ fine
+  pub bytes_none : length t ≤ s.at → fine ≡ text_test m t
   unfolding left_test ◌or_else◌
   bytes_none h =
       let z : length (from_line t (line_count (said t))) ≤ 0 = omega (arith, rest_length, length-drop s.at t) in
-      c.left ∙ rw (no_line_left, le-ltb 0 _ z) refl
+      sym (c.left ∙ rw (no_line_left, le-ltb 0 _ z) refl)
 
   -- how large the listing is
   from_is : (s.from ≡ sum (said t).size (said t).top) × (s.below ≡ (said t).size (said t).top)
@@ -179,28 +177,26 @@ module _ {m : Limits} {t : List ℕ} {s : Headway} {up many subs : List ℕ} (c 
       all_noted {m = m} (said_topped t) c.ranks (rw (← r) k) (rw (← elements_are) c.notes)
       (omega (arith, elements_are, c.elements)) (omega (arith, c.passed, a, c.light, c.incidences))
 
-  pub sizes_read : length t ≤ s.at → (counts : List ℕ) → CountsNoted m (said t) s.rank counts
-      → (n : ℕ) → n ≡ (said t).top → (w : Measured)
-      → w ≡ record {
-        no = 0;
-        need = record { counts = n + 1; ends = 2 * (s.from + s.below); inc = s.incidences };
-      } → SizesRead m t up counts many subs w
-  sizes_read h counts k n e w q = rw q (record {
-    test = bytes_none h;
-    need = λ z. need_is n e;
-    shaped = λ z.
+  pub sizes_read : {counts : List ℕ} → CountsNoted m (said t) s.rank counts → (n : ℕ) → n ≡ (said t).top
+      → SizesRead m t up counts many subs
+      (record { counts = n + 1; ends = 2 * (s.from + s.below); inc = s.incidences })
+  sizes_read k n e = record {
+    need = need_is;
+    shaped =
         written_shaped (said t) (derived (said t)) (said_topped t) m c.ranks
         (omega (arith, elements_are, c.elements))
         (rw (← written_inc_length (said t) (derived (said t))) (omega (arith, incidences_are, c.incidences)));
-    counted = λ z. sups_counted;
-    noted = λ z. notes_read k;
-  })
+    counted = sups_counted;
+    noted = notes_read k;
+  }
     where
-      need_is : (n : ℕ) → n ≡ (said t).top
-          → record { counts = n + 1; ends = 2 * (s.from + s.below); inc = s.incidences } ≡ need_of (listing_in t)
-      need_is n e =
+      need_is : record { counts = n + 1; ends = 2 * (s.from + s.below); inc = s.incidences } ≡ need_of (listing_in t)
+      need_is =
           let a : n + 1 ≡ length (listing_in t).counts =
           omega (arith, e, written_counts_length (said t) (derived (said t))) in
           let b : 2 * (s.from + s.below) ≡ length (listing_in t).ends =
           omega (arith, elements_are, written_ends_length (said t) (derived (said t))) in
           λ i. record { counts = a i; ends = b i; inc = incidences_are i }
+
+-- a text that is too long, a first line that is refused or passes the limit, and no counts noted yet
+pub ruleset whole = (told_err, text_over, first_refused, first_over, counts_none)

@@ -9,9 +9,8 @@
 -- Arrived       the reading stands where the lines of a rank begin: what was read is good, and what is left decides; it
 --               is noted, and each sub took two bytes
 -- Entered       the same after the line with the count, n, of that rank
--- Comes         the reading stands where the lines of a rank begin, or its number is the text's
--- SizesRead     the number is the text's; where it is 0, the room and the sups are those of its listing, and the
---               numbers that the text says are noted
+-- SizesRead     of a text that is not refused: the room and the sups are those of its listing, and the numbers that it
+--               says are noted
 use Rattle.std.specs.Prelude.{◌≡◌, List, ℕ, suc, ◌+◌, ◌*◌, ◌≤◌, ◌<◌, ltb, length, get_or, drop}
 use Rattle.order.specs.Sums.{sum}
 use Rattle.listing.specs.declared.Answer.{Answer}
@@ -20,13 +19,14 @@ use Rattle.listing.specs.Answers.{plain, on, ◌or_else◌, first_of}
 use Rattle.listing.specs.Listing.{Limits}
 use Rattle.listing.specs.Shape.{Shaped}
 use Rattle.listing.specs.Layers.{Layers, derived}
+use Rattle.listing_outputs.specs.declared.outputs.Room.{Room}
 use Rattle.listing_outputs.specs.Output.{need_of}
 use Rattle.listing_sups.specs.Sups.{Counted}
 use Rattle.text_theory.specs.Text.{line_count}
-use Rattle.text_theory.specs.Said.{from_line, count_line, said, listing_in, size_below, incidences_to, line_test, text_test}
+use Rattle.text_theory.specs.Said.{from_line, count_line, said, listing_in, size_below, incidences_to, line_test}
+use Rattle.text_theory.specs.Said.{text_test}
 use Rattle.text_theory.specs.Notes.{subs_to, Noted}
 use Rattle.text_sizes.specs.declared.measure.Headway.{Headway}
-use Rattle.text_sizes.specs.declared.measure.Measured.{Measured}
 
 unfoldable pub left_test : Limits → List ℕ → ℕ → Answer
 left_test m t k =
@@ -89,13 +89,8 @@ pub record Entered (m : Limits) (t : List ℕ) (s : Headway) (n : ℕ) (up many 
   pub light : s.subs ≤ s.incidences
   pub notes : SubsNoted m (said t) (s.from + s.below) many subs
 
-pub record Comes (m : Limits) (t : List ℕ) (s : Headway) (up many subs : List ℕ) : Type 0 where
-  pub go : s.no ≡ 0 → Arrived m t s up many subs
-  pub stop : (s.no ≡ 0 → ⊥) → text_test m t ≡ plain s.no
-
-pub record SizesRead (m : Limits) (t : List ℕ) (up counts many subs : List ℕ) (r : Measured) : Type 0 where
-  pub test : text_test m t ≡ plain r.no
-  pub need : r.no ≡ 0 → r.need ≡ need_of (listing_in t)
-  pub shaped : r.no ≡ 0 → Shaped m (listing_in t)
-  pub counted : r.no ≡ 0 → Counted (said t) up
-  pub noted : r.no ≡ 0 → Noted (said t) counts many subs
+pub record SizesRead (m : Limits) (t : List ℕ) (up counts many subs : List ℕ) (r : Room) : Type 0 where
+  pub need : r ≡ need_of (listing_in t)
+  pub shaped : Shaped m (listing_in t)
+  pub counted : Counted (said t) up
+  pub noted : Noted (said t) counts many subs

@@ -2,20 +2,13 @@
 -- of n elements from place `from` on, and subs the numbers from place `to` on, both before and afterwards; r is what is
 -- answered.
 --
--- RowCounted    the numbers are counted and written, those of them that name one of the elements counted too, and each
---               of these has its count raised; no number here passes the place that was reached
--- RowTallied    a row at a place: refused where it is not good, else counted
--- SubsTallied   the line of an element at a place: the same after its key
-use Rattle.std.specs.Prelude.{◌≡◌, not, List, ℕ, ◌+◌, ◌*◌, ◌≤◌, ◌<◌, length, get_or, drop}
+-- RowCounted   the numbers are counted and written, those of them that name one of the elements counted too, and each
+--              of these has its count raised; no number here passes the place that was reached
+use Rattle.std.specs.Prelude.{◌≡◌, List, ℕ, ◌+◌, ◌*◌, ◌≤◌, ◌<◌, length, get_or, drop}
 use Rattle.order.specs.Lists.{occurs}
-use Rattle.listing.specs.Refusals.{bad_line}
-use Rattle.listing.specs.Answers.{plain, on}
 use Rattle.listing.specs.Laid.{LaidList}
 use Rattle.listing_sups.specs.Sups.{Raised}
-use Rattle.text_theory.specs.Text.{subs_key}
-use Rattle.text_theory.specs.Said.{after_line, values, below_in}
-use Rattle.text_theory.specs.Digits.{good_row}
-use Rattle.text_lines.specs.Lines.{form_of}
+use Rattle.text_theory.specs.Said.{after_line, below_in}
 use Rattle.text_sizes.specs.declared.rows.Row.{Row}
 
 pub record RowCounted (t : List ℕ) (at : ℕ) (ns : List ℕ) (from n to : ℕ) (up up' subs subs' : List ℕ) (r : Row)
@@ -29,13 +22,3 @@ pub record RowCounted (t : List ℕ) (at : ℕ) (ns : List ℕ) (from n to : ℕ
   pub raised : Raised from n (λ y. occurs y ns) up up'
   pub few : (k : ℕ) → get_or up' k 0 < r.next
   pub laid : LaidList to ns subs subs'
-
-pub record RowTallied (t : List ℕ) (at : ℕ) (ns : List ℕ) (from n to : ℕ) (up up' subs subs' : List ℕ) (r : Row)
-    : Type 0 where
-  pub test : plain r.no ≡ on (not (good_row ns (drop at t))) (plain bad_line)
-  pub counted : r.no ≡ 0 → RowCounted t at ns from n to up up' subs subs' r
-
-pub record SubsTallied (t : List ℕ) (at from n to : ℕ) (up up' subs subs' : List ℕ) (r : Row) : Type 0 where
-  pub test : plain r.no ≡ form_of subs_key (values (drop (length subs_key) (drop at t))) (drop at t)
-  pub counted : r.no ≡ 0
-      → RowCounted t at (values (drop (length subs_key) (drop at t))) from n to up up' subs subs' r

@@ -2,4 +2,5 @@
 #![tactic(auto)]
 
 pub mod measure;
+pub mod notes;
 pub mod rows;

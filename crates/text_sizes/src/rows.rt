@@ -1,37 +1,26 @@
 // The lines of elements: their numbers counted and written down, and with them the sups of what they name counted.
-ghost use Rattle.std.specs.Prelude.{◌≡◌, [], ◌∷◌, ℕ, ◌+◌, ◌*◌, ◌≤◌, ◌<◌, length, get_or, drop};
+ghost use Rattle.std.specs.Prelude.{◌≡◌, not, [], ◌∷◌, ℕ, ◌+◌, ◌*◌, ◌≤◌, ◌<◌, length, get_or, drop, IfOk};
 ghost use Rattle.order.specs.Lists.{occurs};
+ghost use Rattle.listing.specs.Answers.{plain, on};
 ghost use Rattle.listing.specs.Listing.{width, limits};
+ghost use Rattle.listing.specs.Refusals.{bad_line};
+ghost use Rattle.listing.specs.Told.{told};
 ghost use Rattle.listing_sups.specs.Sups.{Raised};
 ghost use Rattle.text_theory.specs.Text.{subs_key};
 ghost use Rattle.text_theory.specs.Said.{values_from, values, below_in};
 ghost use Rattle.text_theory.specs.Digits.{good_row};
-ghost use Rattle.text_lines.specs.Lines.{LineRead};
-ghost use Rattle.text_sizes.specs.Rows.{RowTallied, SubsTallied};
+ghost use Rattle.text_lines.specs.Lines.{form_of};
+ghost use Rattle.text_sizes.specs.Rows.{RowCounted};
 
-use listing::{Index, refusal};
+use listing::{Index, Refusal};
 use text_lines::lines;
 
-// A row of numbers: the number that refuses it, 0 for none; how many there are; how many of them name an element; and
-// the place after the newline.
+// A row of numbers: how many there are; how many of them name an element; and the place after the newline.
 #[derive(Clone, Copy)]
 pub struct Row {
-    pub no: u16,
     pub count: usize,
     pub known: usize,
     pub next: usize,
-}
-
-// A row that is refused.
-fn refused(no: u16) -> Row
-    ensures { result.no ≡ no }
-{
-    Row {
-        no,
-        count: 0,
-        known: 0,
-        next: 0,
-    }
 }
 
 // Raises the count of the element that x names, of n elements that are counted from place `from` on. Returns 1, or 0
@@ -51,6 +40,7 @@ fn count_known(up: &mut [Index], from: usize, n: usize, x: usize) -> usize
 
 // Counts the numbers of a row that begins at a place, and raises the count of each of n elements, from place `from`
 // on, that one of them names. The numbers are written from place `to` of subs on: each takes two bytes of the text.
+#[tactic(auto, using(crate::proofs::Tallies::rows))]
 fn tally_row(
     text: &[u8],
     at: usize,
@@ -59,12 +49,14 @@ fn tally_row(
     n: usize,
     subs: &mut [Index],
     to: usize,
-) -> Row
+) -> Result<Row, Refusal>
     requires at_in_bounds { (at ≤ length text.now) × (length text.now ≤ limits.text) × (from + n ≤ length up.old) }
     requires to_bound { (2 * to ≤ at) × (length text.now ≤ 2 * length subs.old) }
     requires by_index { (k : ℕ) → get_or up.old k 0 < at }
-    ensures { RowTallied text.now at (values_from 0 (drop at text.now)) from n to
-        up.old up.new subs.old subs.new result }
+    ensures test { told result ≡ on (not (good_row (values_from 0 (drop at text.now)) (drop at text.now)))
+        (plain bad_line) }
+    ensures counted { IfOk result (RowCounted text.now at (values_from 0 (drop at text.now)) from n to
+        up.old up.new subs.old subs.new) }
 {
     let mut count: usize = 0;
     let mut named: usize = 0;
@@ -76,18 +68,18 @@ fn tally_row(
         if w.more {
             i = w.next;
         } else {
-            return Row {
-                no: 0,
+            return Ok(Row {
                 count,
                 known: named,
                 next: w.next,
-            };
+            });
         }
     }
-    refused(refusal::BAD_LINE)
+    Err(Refusal::BadLine)
 }
 
 // The line of an element that begins at a place, counted and written so.
+#[tactic(auto, using(crate::proofs::SubsLines::subs_line))]
 pub fn tally_subs(
     text: &[u8],
     at: usize,
@@ -96,27 +88,28 @@ pub fn tally_subs(
     n: usize,
     subs: &mut [Index],
     to: usize,
-) -> Row
+) -> Result<Row, Refusal>
     requires at_in_bounds { (at ≤ length text.now) × (length text.now ≤ limits.text) × (from + n ≤ length up.old) }
     requires to_bound { (2 * to ≤ at) × (length text.now ≤ 2 * length subs.old) }
     requires by_index { (k : ℕ) → get_or up.old k 0 < at }
-    ensures { SubsTallied text.now at from n to up.old up.new
-        subs.old subs.new result }
+    ensures test { told result ≡ form_of subs_key (values (drop (length subs_key) (drop at text.now)))
+        (drop at text.now) }
+    ensures counted { IfOk result (RowCounted text.now at (values (drop (length subs_key) (drop at text.now)))
+        from n to up.old up.new subs.old subs.new) }
 {
     if !lines::has_key(text, at, b"subs=") {
-        return refused(refusal::WRONG_KEY);
+        return Err(Refusal::WrongKey);
     }
     let row = at + b"subs=".len();
     let Some(&first) = text.get(row) else {
-        return refused(refusal::BAD_LINE);
+        return Err(Refusal::BadLine);
     };
     if first == b'\n' {
-        return Row {
-            no: 0,
+        return Ok(Row {
             count: 0,
             known: 0,
             next: row + 1,
-        };
+        });
     }
     tally_row(text, row, up, from, n, subs, to)
 }

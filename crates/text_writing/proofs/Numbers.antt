@@ -103,3 +103,6 @@ module _ (x at : ℕ) (d : List ℕ) where
 
 -- one law for each number of digits
 pub ruleset digit_counts = (one_digit, two_digits, three_digits, four_digits, five_digits)
+
+-- a number at its last digit, and one digit on
+pub ruleset spelling = (spelling_begun, spelling_next)

@@ -46,3 +46,6 @@ module _ (f : ℕ → List ℕ) where
 
     pub parts_next : (d'' : List ℕ) (q : ℕ) → PutAt (f k) p d' d'' q → PutAt (joined f (k + 1)) at d d'' q
     parts_next d'' q b = put_as (sym (joined_next f k)) (put_then _ _ at d d' d'' p q a b)
+
+-- how long a line is, and as it is written
+pub ruleset line_parts = (line_length, line_put)

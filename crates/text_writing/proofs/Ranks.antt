@@ -12,9 +12,11 @@ use Rattle.listing.specs.Shape.{Shaped}
 use Rattle.listing.specs.Layers.{layers}
 use Rattle.listing.specs.Written.{joined}
 use Rattle.listing.proofs.Entries.{entries_few}
-use Rattle.listing.proofs.Places.{side_at}
+use Rattle.listing.proofs.InCell.{side_there}
+use Rattle.listing.proofs.Places.{side_at, few_in_rank}
+use Rattle.listing.proofs.Listing.{before_next, before_step}
 use Rattle.listing.proofs.ShapeExact.{shaped_ranks}
-use Rattle.listing.proofs.Written.{joined_same}
+use Rattle.listing.proofs.Written.{joined_same, joined_longer}
 use Rattle.text_theory.specs.Text.{rank_key, count_key, subs_key, line, line_bytes, rank_bytes, text_of}
 use Rattle.text_theory.proofs.ByRank.{text_ranks, rank_lines}
 use Rattle.text_writing.specs.Writing.{lines_from}
@@ -80,3 +82,9 @@ module _ {m : Limits} (L : Listing) (S : Shaped m L) where
   pub text_length : length (text_of (layers L))
       ≡ length (rank_first L) + length (joined (rank_bytes (layers L)) (length L.counts))
   text_length = ap length text_put ∙ length-append (rank_first L) _
+
+-- how long the lines of a rank are: one more, and all
+pub ruleset rank_lengths = (joined_longer, side_there, subs_bytes_lem, rank_length, few_in_rank)
+
+-- how long the lines of all ranks are, with one rank more
+pub ruleset text_lengths = (before_next, before_step, joined_longer)

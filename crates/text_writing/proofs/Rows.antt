@@ -9,7 +9,7 @@ use lib.ListN.{length, get_or, take, drop, set, length-append, take-append-drop}
 use lib.Seq.{take_all, take-suc}
 use Rattle.text_theory.specs.Text.{comma, numeral, parted, commas}
 use Rattle.text_writing.specs.Writing.{PutAt}
-use Rattle.text_writing.proofs.Putting.{put_byte, put_then, put_as}
+use Rattle.text_writing.proofs.Putting.{put_none, put_byte, put_then, put_as}
 
 -- ---- commas
 
@@ -88,3 +88,6 @@ module _ (l : List ℕ) {at : ℕ} {d : List ℕ} (j : ℕ) {d' : List ℕ} {p :
 
 -- how long numbers are, one after another
 pub ruleset row_lengths = (parted_none, parted_all, parted_longer, commas_length)
+
+-- numbers as they are written: none, one, and those behind it
+pub ruleset row_puts = (put_none, parted_none, commas_none, commas_both)

@@ -1,11 +1,10 @@
 // How long a text is, before a byte of it is written: a number, a row of numbers, a line, the lines of a rank, all.
 ghost use Rattle.std.specs.Prelude.{◌≡◌, ◌*◌, ◌≤◌, ◌<◌, length};
-ghost use Rattle.listing.specs.Listing.{held, width, limits, before};
-ghost use Rattle.listing.specs.Shape.{Shaped};
+ghost use Rattle.listing.specs.Listing.{held, width, before};
 ghost use Rattle.listing.specs.Layers.{layers};
 ghost use Rattle.text_theory.specs.Text.{numeral, commas, line, line_bytes, rank_bytes, text_of};
 
-use listing::{Index, inner};
+use listing::{Cell, Index, Side};
 
 // How many digits a number has.
 #[tactic(auto, using(crate::proofs::Numbers::digit_counts))]
@@ -41,6 +40,7 @@ fn row_length(list: &[Index]) -> usize
 }
 
 // How long a line is.
+#[tactic(auto, using(crate::proofs::Parts::line_parts))]
 fn line_length(key: &[u8], list: &[Index]) -> usize
     requires { (length key.now < width) × (length list.now < width) }
     ensures { (result ≡ length (line_bytes (line key.now list.now))) × (result < 8 * width) }
@@ -49,30 +49,32 @@ fn line_length(key: &[u8], list: &[Index]) -> usize
 }
 
 // How long the lines of rank r are, which begins at place here.
-fn rank_length(counts: &[Index], ends: &[Index], inc: &[Index], here: usize, r: usize) -> usize
-    requires shaped { Shaped limits (held counts ends inc) }
-    requires here_value { (here ≡ before counts.now r) × (r < length counts.now) }
-    ensures { (result ≡ length (rank_bytes (layers (held counts.entry ends.entry inc.entry)) r))
+#[tactic(auto, using(crate::proofs::Ranks::rank_lengths))]
+fn rank_length(cell: Cell<'_>, here: usize, r: usize) -> usize
+    requires { (here ≡ before cell.slices.counts.now r) × (r < length cell.slices.counts.now) }
+    ensures { (result ≡ length (rank_bytes (layers (held cell.entry.slices)) r))
         × (result ≤ width * (8 * width)) }
 {
+    let counts = cell.slices.counts;
     let mut n = line_length(b"count=", &counts[r..r + 1]);
     for i in 0..counts[r] {
-        n += line_length(b"subs=", inner::side_of(ends, inc, here, i, 0));
+        n += line_length(b"subs=", cell.side_of(here, i, Side::Subs));
     }
     n
 }
 
 // How long the text of a listing is.
-pub fn text_length(counts: &[Index], ends: &[Index], inc: &[Index]) -> usize
-    requires { Shaped limits (held counts ends inc) }
-    ensures { result ≡ length (text_of (layers (held counts.entry ends.entry inc.entry))) }
+#[tactic(auto, using(crate::proofs::Ranks::text_lengths))]
+pub fn text_length(cell: Cell<'_>) -> usize
+    ensures { result ≡ length (text_of (layers (held cell.entry.slices))) }
 {
+    let counts = cell.slices.counts;
     let rank = [(counts.len() - 1) as Index];
     let mut n = line_length(b"rank=", &rank);
     let mut here: usize = 0;
     for (r, &count) in counts.iter().enumerate() {
-        n += rank_length(counts, ends, inc, here, r);
-        here += inner::wide(count);
+        n += rank_length(cell, here, r);
+        here += usize::from(count);
     }
     n
 }

@@ -2,15 +2,14 @@
 // place after it.
 ghost use Rattle.std.specs.Prelude.{◌≡◌, ◌+◌, ◌*◌, ◌≤◌, ◌<◌, length as size};
 ghost use Rattle.order.specs.Lists.{over};
-ghost use Rattle.listing.specs.Listing.{held, limits, before, Ends};
-ghost use Rattle.listing.specs.Shape.{Shaped};
+ghost use Rattle.listing.specs.Listing.{held, before};
 ghost use Rattle.listing.specs.Layers.{layers};
 ghost use Rattle.listing.specs.Written.{joined};
 ghost use Rattle.text_theory.specs.Text.{numeral, parted, commas, line, line_bytes, rank_bytes, text_of};
 ghost use Rattle.text_writing.specs.Writing.{lines_from, PutAt};
 
 use crate::length;
-use listing::{Index, inner};
+use listing::{Cell, Index, Side};
 
 // Writes the bytes of a key.
 fn put_key(key: &[u8], text: &mut [u8], at: usize) -> usize
@@ -23,6 +22,7 @@ fn put_key(key: &[u8], text: &mut [u8], at: usize) -> usize
 }
 
 // Writes a number in decimal, from its last digit to its first.
+#[tactic(auto, using(crate::proofs::Numbers::spelling))]
 fn put_number(x: Index, text: &mut [u8], at: usize) -> usize
     requires { at + size (numeral x) ≤ size text.old }
     ensures { PutAt (numeral x) at text.old text.new result }
@@ -38,6 +38,7 @@ fn put_number(x: Index, text: &mut [u8], at: usize) -> usize
 }
 
 // Writes numbers, each after a comma.
+#[tactic(auto, using(crate::proofs::Rows::row_puts))]
 fn put_more(list: &[Index], text: &mut [u8], at: usize) -> usize
     requires { at + size (parted list.now) ≤ size text.old }
     ensures { PutAt (parted list.now) at text.old text.new result }
@@ -51,6 +52,7 @@ fn put_more(list: &[Index], text: &mut [u8], at: usize) -> usize
 }
 
 // Writes numbers, parted by commas.
+#[tactic(auto, using(crate::proofs::Rows::row_puts))]
 fn put_row(list: &[Index], text: &mut [u8], at: usize) -> usize
     requires { at + size (commas list.now) ≤ size text.old }
     ensures { PutAt (commas list.now) at text.old text.new result }
@@ -63,6 +65,7 @@ fn put_row(list: &[Index], text: &mut [u8], at: usize) -> usize
 }
 
 // Writes a line.
+#[tactic(auto, using(crate::proofs::Parts::line_parts))]
 fn put_line(key: &[u8], list: &[Index], text: &mut [u8], at: usize) -> usize
     requires { at + size (line_bytes (line key.now list.now)) ≤ size text.old }
     ensures { PutAt (line_bytes (line key.now list.now)) at
@@ -75,73 +78,54 @@ fn put_line(key: &[u8], list: &[Index], text: &mut [u8], at: usize) -> usize
 }
 
 // Writes the lines of the n elements from place here on.
-fn put_elements(
-    ends: &[Index],
-    inc: &[Index],
-    here: usize,
-    n: Index,
-    text: &mut [u8],
-    at: usize,
-) -> usize
-    requires ends { Ends ends.now inc.now × (2 * (here + n) ≤ size ends.now) }
-    requires n_bound { at + size (lines_from ends.now inc.now here n) ≤ size text.old }
-    ensures { PutAt (lines_from ends.now inc.now here n) at
+fn put_elements(cell: Cell<'_>, here: usize, n: Index, text: &mut [u8], at: usize) -> usize
+    requires here_bound { 2 * (here + n) ≤ size cell.slices.ends.now }
+    requires n_bound { at + size (lines_from cell.slices.ends.now cell.slices.inc.now here n) ≤ size text.old }
+    ensures { PutAt (lines_from cell.entry.slices.ends.now cell.entry.slices.inc.now here n) at
         text.old text.new result }
 {
     let mut p = at;
     for i in 0..n {
-        let subs = inner::side_of(ends, inc, here, i, 0);
-        p = put_line(b"subs=", subs, text, p);
+        p = put_line(b"subs=", cell.side_of(here, i, Side::Subs), text, p);
     }
     p
 }
 
 // Writes the lines of rank r, which begins at place here.
-fn put_rank(
-    counts: &[Index],
-    ends: &[Index],
-    inc: &[Index],
-    here: usize,
-    r: usize,
-    text: &mut [u8],
-    at: usize,
-) -> usize
-    requires shaped { Shaped limits (held counts ends inc) }
-    requires here_value { (here ≡ before counts.now r) × (r < size counts.now) }
-    requires r_bound { at + size (rank_bytes (layers (held counts ends inc)) r) ≤ size text.old }
-    ensures { PutAt (rank_bytes (layers (held counts.entry ends.entry inc.entry)) r) at
+fn put_rank(cell: Cell<'_>, here: usize, r: usize, text: &mut [u8], at: usize) -> usize
+    requires here_value { (here ≡ before cell.slices.counts.now r) × (r < size cell.slices.counts.now) }
+    requires r_bound { at + size (rank_bytes (layers (held cell.slices)) r) ≤ size text.old }
+    ensures { PutAt (rank_bytes (layers (held cell.entry.slices)) r) at
         text.old text.new result }
 {
+    let counts = cell.slices.counts;
     let p = put_line(b"count=", &counts[r..r + 1], text, at);
-    put_elements(ends, inc, here, counts[r], text, p)
+    put_elements(cell, here, counts[r], text, p)
 }
 
 // Writes the lines of all ranks.
-fn put_ranks(counts: &[Index], ends: &[Index], inc: &[Index], text: &mut [u8], at: usize) -> usize
-    requires shaped { Shaped limits (held counts ends inc) }
-    requires counts_bound { at + size (joined (rank_bytes (layers (held counts ends inc))) (size counts.now))
+fn put_ranks(cell: Cell<'_>, text: &mut [u8], at: usize) -> usize
+    requires { at + size (joined (rank_bytes (layers (held cell.slices))) (size cell.slices.counts.now))
         ≤ size text.old }
     ensures { PutAt
-        (joined (rank_bytes (layers (held counts.entry ends.entry inc.entry))) (size counts.now)) at
+        (joined (rank_bytes (layers (held cell.entry.slices))) (size cell.entry.slices.counts.now)) at
         text.old text.new result }
 {
     let mut p = at;
     let mut here: usize = 0;
-    for (r, &count) in counts.iter().enumerate() {
-        p = put_rank(counts, ends, inc, here, r, text, p);
-        here += inner::wide(count);
+    for (r, &count) in cell.slices.counts.iter().enumerate() {
+        p = put_rank(cell, here, r, text, p);
+        here += usize::from(count);
     }
     p
 }
 
 // Writes the text of a listing.
-pub fn put_text(counts: &[Index], ends: &[Index], inc: &[Index], text: &mut [u8])
-    requires shaped { Shaped limits (held counts ends inc) }
-    requires inc_bound { size (text_of (layers (held counts ends inc))) ≤ size text.old }
-    ensures { text.new
-        ≡ over (text_of (layers (held counts.entry ends.entry inc.entry))) text.old }
+pub fn put_text(cell: Cell<'_>, text: &mut [u8])
+    requires { size (text_of (layers (held cell.slices))) ≤ size text.old }
+    ensures { text.new ≡ over (text_of (layers (held cell.entry.slices))) text.old }
 {
-    let rank = [(counts.len() - 1) as Index];
+    let rank = [(cell.slices.counts.len() - 1) as Index];
     let p = put_line(b"rank=", &rank, text, 0);
-    put_ranks(counts, ends, inc, text, p);
+    put_ranks(cell, text, p);
 }

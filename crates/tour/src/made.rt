@@ -1,8 +1,10 @@
 // Cells that are made as products of others.
 use crate::table::Name;
 use crate::{row, table};
-use listing::{Built, Index, inner, limit};
+use listing::{Index, Slices, limit};
+use listing_outputs::outputs;
 use product::make;
+use product_places::Poles;
 use std::io;
 
 // So many elements and incidences there is room for: more than any product of the tour has.
@@ -10,55 +12,36 @@ const ELEMENTS: usize = 64;
 
 const INCIDENCES: usize = 256;
 
-// What a product left in its slices, as a row.
-fn written(
-    rt: &impl Print,
-    name: Name,
-    b: Built,
-    counts: &[Index],
-    ends: &[Index],
-    inc: &[Index],
-) -> io::Result<()> {
-    if b.answer.no != 0 {
-        return table::refused(rt, name, b.answer);
-    }
-    row::show(
-        rt,
-        name,
-        inner::front(counts, b.counts as usize),
-        inner::front(ends, b.ends as usize),
-        inner::front(inc, b.inc as usize),
-    )
+// A product of two cells, with the name of its row.
+#[derive(Clone, Copy)]
+pub struct Product<'a> {
+    pub name: Name,
+    pub poles: Poles,
+    pub p: Slices<'a>,
+    pub q: Slices<'a>,
 }
 
-// The product of two cells: the duopyramid, or with min the duoprism, with max the duotegum, with both the duocomb.
-pub fn show(
-    rt: &impl Print,
-    name: Name,
-    min: bool,
-    max: bool,
-    pcounts: &[Index],
-    pends: &[Index],
-    pinc: &[Index],
-    qcounts: &[Index],
-    qends: &[Index],
-    qinc: &[Index],
-) -> io::Result<()> {
+// What a product left in its slices, as a row.
+pub fn show(rt: &impl Print, asked: Product<'_>) -> io::Result<()> {
     let mut counts: [Index; limit::RANKS] = [0; limit::RANKS];
     let mut ends: [Index; 2 * ELEMENTS] = [0; 2 * ELEMENTS];
     let mut inc: [Index; INCIDENCES] = [0; INCIDENCES];
-    let b = make::make(
-        min,
-        max,
-        pcounts,
-        pends,
-        pinc,
-        qcounts,
-        qends,
-        qinc,
+    match make::make(
+        asked.poles,
+        asked.p,
+        asked.q,
         &mut counts,
         &mut ends,
         &mut inc,
-    );
-    written(rt, name, b, &counts, &ends, &inc)
+    ) {
+        Ok(n) => {
+            let slices = Slices {
+                counts: &counts,
+                ends: &ends,
+                inc: &inc,
+            };
+            row::show(rt, asked.name, outputs::written(slices, n))
+        }
+        Err(why) => table::refused(rt, asked.name, why),
+    }
 }

@@ -6,7 +6,9 @@ mod names;
 mod row;
 mod table;
 
-use listing::Index;
+use listing::Slices;
+use made::Product;
+use product_places::Poles;
 use std::io;
 use table::Name;
 use tour_cells::{
@@ -19,137 +21,147 @@ use words::print;
 #[derive(Clone, Copy)]
 struct Sample<'a> {
     name: Name,
-    counts: &'a [Index],
-    ends: &'a [Index],
-    inc: &'a [Index],
-}
-
-// A row for each of some cells.
-fn rows(rt: &impl Print, samples: &[Sample]) -> io::Result<()> {
-    for s in samples {
-        row::show(rt, s.name, s.counts, s.ends, s.inc)?;
-    }
-    Ok(())
+    slices: Slices<'a>,
 }
 
 // A box; the insurer's cell, a box with an edge too many, which lies in one face only; a box with a face too few; half
 // of a box, its opposite elements taken for one.
-fn boxes(rt: &impl Print) -> io::Result<()> {
-    let samples = [
-        Sample {
-            name: names::BOX,
-            counts: &whole_box::COUNTS,
-            ends: &whole_box::ENDS,
-            inc: &whole_box::INC,
-        },
-        Sample {
-            name: names::INSURERS_CELL,
-            counts: &leaking_box::COUNTS,
-            ends: &leaking_box::ENDS,
-            inc: &leaking_box::INC,
-        },
-        Sample {
-            name: names::NO_LID,
-            counts: &lidless_box::COUNTS,
-            ends: &lidless_box::ENDS,
-            inc: &lidless_box::INC,
-        },
-        Sample {
-            name: names::HEMICUBE,
-            counts: &hemicube::COUNTS,
-            ends: &hemicube::ENDS,
-            inc: &hemicube::INC,
-        },
-    ];
-    rows(rt, &samples)
-}
+const BOXES: [Sample<'static>; 4] = [
+    Sample {
+        name: names::BOX,
+        slices: whole_box::CELL,
+    },
+    Sample {
+        name: names::INSURERS_CELL,
+        slices: leaking_box::CELL,
+    },
+    Sample {
+        name: names::NO_LID,
+        slices: lidless_box::CELL,
+    },
+    Sample {
+        name: names::HEMICUBE,
+        slices: hemicube::CELL,
+    },
+];
 
-// The nullitope n, the point p, the dyad d and the triangle t, and products of these.
-fn small_and_made(
-    rt: &impl Print,
-    nc: &[Index],
-    ne: &[Index],
-    ni: &[Index],
-    pc: &[Index],
-    pe: &[Index],
-    pi: &[Index],
-    dc: &[Index],
-    de: &[Index],
-    di: &[Index],
-    tc: &[Index],
-    te: &[Index],
-    ti: &[Index],
-) -> io::Result<()> {
-    row::show(rt, names::NULLITOPE, nc, ne, ni)?;
-    row::show(rt, names::POINT, pc, pe, pi)?;
-    row::show(rt, names::DYAD, dc, de, di)?;
-    row::show(rt, names::TRIANGLE, tc, te, ti)?;
-    made::show(rt, names::PRISM_T_D, true, false, tc, te, ti, dc, de, di)?;
-    made::show(rt, names::PRISM_D_D, true, false, dc, de, di, dc, de, di)?;
-    made::show(rt, names::PYRAMID_D_P, false, false, dc, de, di, pc, pe, pi)?;
-    made::show(rt, names::PRISM_N_T, true, false, nc, ne, ni, tc, te, ti)?;
-    made::show(rt, names::TEGUM_D_D, false, true, dc, de, di, dc, de, di)?;
-    made::show(rt, names::COMB_D_D, true, true, dc, de, di, dc, de, di)?;
-    made::show(rt, names::COMB_D_T, true, true, dc, de, di, tc, te, ti)?;
-    made::show(rt, names::COMB_P_P, true, true, pc, pe, pi, pc, pe, pi)?;
-    made::show(rt, names::COMB_T_T, true, true, tc, te, ti, tc, te, ti)
-}
+// The nullitope, the point, the dyad and the triangle.
+const SMALL: [Sample<'static>; 4] = [
+    Sample {
+        name: names::NULLITOPE,
+        slices: nullitope::CELL,
+    },
+    Sample {
+        name: names::POINT,
+        slices: point::CELL,
+    },
+    Sample {
+        name: names::DYAD,
+        slices: dyad::CELL,
+    },
+    Sample {
+        name: names::TRIANGLE,
+        slices: triangle::CELL,
+    },
+];
 
-// The small cells, lent for their own rows and for those of their products.
-fn small(rt: &impl Print) -> io::Result<()> {
-    small_and_made(
-        rt,
-        &nullitope::COUNTS,
-        &nullitope::ENDS,
-        &nullitope::INC,
-        &point::COUNTS,
-        &point::ENDS,
-        &point::INC,
-        &dyad::COUNTS,
-        &dyad::ENDS,
-        &dyad::INC,
-        &triangle::COUNTS,
-        &triangle::ENDS,
-        &triangle::INC,
-    )
-}
+// Products of these.
+const PRODUCTS: [Product<'static>; 9] = [
+    Product {
+        name: names::PRISM_T_D,
+        poles: Poles::DUOPRISM,
+        p: triangle::CELL,
+        q: dyad::CELL,
+    },
+    Product {
+        name: names::PRISM_D_D,
+        poles: Poles::DUOPRISM,
+        p: dyad::CELL,
+        q: dyad::CELL,
+    },
+    Product {
+        name: names::PYRAMID_D_P,
+        poles: Poles::DUOPYRAMID,
+        p: dyad::CELL,
+        q: point::CELL,
+    },
+    Product {
+        name: names::PRISM_N_T,
+        poles: Poles::DUOPRISM,
+        p: nullitope::CELL,
+        q: triangle::CELL,
+    },
+    Product {
+        name: names::TEGUM_D_D,
+        poles: Poles::DUOTEGUM,
+        p: dyad::CELL,
+        q: dyad::CELL,
+    },
+    Product {
+        name: names::COMB_D_D,
+        poles: Poles::DUOCOMB,
+        p: dyad::CELL,
+        q: dyad::CELL,
+    },
+    Product {
+        name: names::COMB_D_T,
+        poles: Poles::DUOCOMB,
+        p: dyad::CELL,
+        q: triangle::CELL,
+    },
+    Product {
+        name: names::COMB_P_P,
+        poles: Poles::DUOCOMB,
+        p: point::CELL,
+        q: point::CELL,
+    },
+    Product {
+        name: names::COMB_T_T,
+        poles: Poles::DUOCOMB,
+        p: triangle::CELL,
+        q: triangle::CELL,
+    },
+];
 
 // Listings with a fault: two smallest elements; a triangle with an entry of one of its lists struck out; three vertices
 // under one edge; one vertex under one edge; an edge with the same vertex twice in its list.
-fn faulty(rt: &impl Print) -> io::Result<()> {
-    let samples = [
-        Sample {
-            name: names::TWO_SMALLEST,
-            counts: &two_minimal::COUNTS,
-            ends: &two_minimal::ENDS,
-            inc: &two_minimal::INC,
-        },
-        Sample {
-            name: names::STRUCK,
-            counts: &struck::COUNTS,
-            ends: &struck::ENDS,
-            inc: &struck::INC,
-        },
-        Sample {
-            name: names::THREE_VERTICES,
-            counts: &three_on_top::COUNTS,
-            ends: &three_on_top::ENDS,
-            inc: &three_on_top::INC,
-        },
-        Sample {
-            name: names::ONE_VERTEX,
-            counts: &one_on_top::COUNTS,
-            ends: &one_on_top::ENDS,
-            inc: &one_on_top::INC,
-        },
-        Sample {
-            name: names::VERTEX_TWICE,
-            counts: &twice_listed::COUNTS,
-            ends: &twice_listed::ENDS,
-            inc: &twice_listed::INC,
-        },
-    ];
-    rows(rt, &samples)
+const FAULTY: [Sample<'static>; 5] = [
+    Sample {
+        name: names::TWO_SMALLEST,
+        slices: two_minimal::CELL,
+    },
+    Sample {
+        name: names::STRUCK,
+        slices: struck::CELL,
+    },
+    Sample {
+        name: names::THREE_VERTICES,
+        slices: three_on_top::CELL,
+    },
+    Sample {
+        name: names::ONE_VERTEX,
+        slices: one_on_top::CELL,
+    },
+    Sample {
+        name: names::VERTEX_TWICE,
+        slices: twice_listed::CELL,
+    },
+];
+
+// A row for each of some cells.
+fn rows(rt: &impl Print, samples: &[Sample<'_>]) -> io::Result<()> {
+    for s in samples {
+        row::show(rt, s.name, s.slices)?;
+    }
+    Ok(())
+}
+
+// A row for each of some products.
+fn products(rt: &impl Print, asked: &[Product<'_>]) -> io::Result<()> {
+    for &product in asked {
+        made::show(rt, product)?;
+    }
+    Ok(())
 }
 
 // What comes before the table, with the heads of its columns.
@@ -181,10 +193,11 @@ under one top.
 
 fn main(rt: HostRuntime) -> io::Result<()> {
     headline(&rt)?;
-    boxes(&rt)?;
+    rows(&rt, &BOXES)?;
     print::end(&rt)?;
-    small(&rt)?;
+    rows(&rt, &SMALL)?;
+    products(&rt, &PRODUCTS)?;
     print::end(&rt)?;
-    faulty(&rt)?;
+    rows(&rt, &FAULTY)?;
     last_words(&rt)
 }

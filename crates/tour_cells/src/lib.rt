@@ -1,4 +1,4 @@
-// Cells by name, each a module with its three slices.
+// Cells by name, each in a module of its own.
 #![tactic(auto)]
 
 pub mod dyad;

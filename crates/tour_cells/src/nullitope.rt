@@ -1,8 +1,8 @@
 // One element.
-use listing::Index;
+use listing::Slices;
 
-pub const COUNTS: [Index; 1] = [1];
-
-pub const ENDS: [Index; 2] = [0, 0];
-
-pub const INC: [Index; 0] = [];
+pub const CELL: Slices<'static> = Slices {
+    counts: &[1],
+    ends: &[0, 0],
+    inc: &[],
+};

@@ -1,8 +1,8 @@
 // A vertex.
-use listing::Index;
+use listing::Slices;
 
-pub const COUNTS: [Index; 2] = [1, 1];
-
-pub const ENDS: [Index; 4] = [0, 1, 2, 2];
-
-pub const INC: [Index; 2] = [0, 0];
+pub const CELL: Slices<'static> = Slices {
+    counts: &[1, 1],
+    ends: &[0, 1, 2, 2],
+    inc: &[0, 0],
+};

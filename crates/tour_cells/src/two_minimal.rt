@@ -1,8 +1,8 @@
 // Two minimal elements and one maximal, with no incidences.
-use listing::Index;
+use listing::Slices;
 
-pub const COUNTS: [Index; 2] = [2, 1];
-
-pub const ENDS: [Index; 6] = [0, 0, 0, 0, 0, 0];
-
-pub const INC: [Index; 0] = [];
+pub const CELL: Slices<'static> = Slices {
+    counts: &[2, 1],
+    ends: &[0, 0, 0, 0, 0, 0],
+    inc: &[],
+};

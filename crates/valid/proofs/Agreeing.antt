@@ -13,13 +13,14 @@ use lib.ListN.{replicate-append-replicate}
 use lib.Seq.{take-suc, get_or-take, get_or-drop, get_or-set_same, get_or-set_other, get_or-append-add, ext_get_or}
 use Rattle.order.specs.Lists.{In, Ascending, occurs}
 use Rattle.order.proofs.Lists.{append_in, ascending_append, occurs_nil, occurs_append, occurs_own, occurs_apart}
-use Rattle.listing.specs.Listing.{Listing, limits, rank, count, before, start, entries, subs, sups, Ends, subs_at}
+use Rattle.listing.specs.declared.Slices.{Slices}
+use Rattle.listing.specs.Listing.{Listing, held, limits, rank, count, before, start, entries, subs, sups, Ends, subs_at}
 use Rattle.listing.specs.Laid.{Laid}
 use Rattle.listing.specs.Layers.{layers, gather, derived}
 use Rattle.listing.specs.Shape.{Shaped}
 use Rattle.listing.proofs.Entries.{entries_length}
 use Rattle.listing.proofs.Listing.{before_zero, before_next, rank_there}
-use Rattle.listing.proofs.Places.{rank_fits, side_fits, few_in_rank}
+use Rattle.listing.proofs.Places.{rank_fits, side_fits, few_before, few_in_rank}
 use Rattle.listing.proofs.ShapeExact.{shaped_ends}
 use Rattle.valid.specs.Agreement.{Agrees, AgreesAt, Cursors, AscendsBelow, AllBelow, Met, AllMet, SomeSups}
 
@@ -32,6 +33,13 @@ each_next P n h p s l = go (ℕ_discrete s n)
     go (no d) = h s (omega arith)
 
 -- ---- cursors
+
+-- one that stands before the end of its sups
+pub cursor_inside : (L : Listing) → Shaped limits L → {place n : ℕ} {next : List ℕ} → Cursors L.ends place n next
+    → {s at c d : ℕ} → s < n → at ≡ s → c < get_or L.ends (2 * (place + at) + 1) 0 → d ≡ c → d < length L.inc
+cursor_inside L S {place} k {at = at} h a f e =
+    let good = shaped_ends L S in
+    omega (arith, good.inside (2 * (place + at) + 1) (omega (arith, k)))
 
 module _ (inc : List ℕ) (n : ℕ) where
   -- none has moved
@@ -73,10 +81,11 @@ module _ (inc : List ℕ) (n : ℕ) where
       stand = λ y j k l. one_stands e y j l (ℕ_discrete s y);
     }
 
-    -- the same, where s and the cursor were widened
-    pub met_at : (at c : ℕ) → at ≡ s → c ≡ get_or next at 0 → get_or inc c 0 ≡ x
-        → Met inc n one next (set next at (get_or next at 0 + 1))
-    met_at at c a e f = rw a (met_one (rw (e, a) at f))
+  -- the same, where s and the cursor were widened
+  pub met_at : {ends : List ℕ} {place : ℕ} {next : List ℕ} → Cursors ends place n next → {s x at c : ℕ} → s < n
+      → at ≡ s → c ≡ get_or next at 0 → get_or inc c 0 ≡ x
+      → Met inc n (λ y. replicate (occurs y (s ∷ [])) x) next (set next at (get_or next at 0 + 1))
+  met_at {next = next} k {s} {x} h a e f = rw a (met_one s x next (omega (arith, k)) (rw (e, a) at f))
 
   -- some numbers, and others behind them
   module _ (so so' all : ℕ → List ℕ) (next next' next'' : List ℕ) (m : Met inc n so next next')
@@ -196,16 +205,27 @@ entries_run ends inc good k h l e at =
     ∙ get_or-drop a inc i 0
     ∙ at i (omega (arith, n)))
 
-module _ (L : Listing) (S : Shaped limits L) where
+module _ (s : Slices) (S : Shaped limits (held s)) (r place : ℕ) (e : place ≡ before s.counts.now r) where
   -- there are cursors and ends for a rank
-  pub fits_rank : (r place : ℕ) (next : List ℕ) → length next ≡ limits.elements → place ≡ before L.counts r
-      → Cursors L.ends place (count L r) next
-  fits_rank r place next w e = record {
+  pub fits_rank : (next : List ℕ) → length next ≡ limits.elements
+      → Cursors s.ends.now place (get_or s.counts.now r 0) next
+  fits_rank next w = record {
     whole = w;
-    few = few_in_rank L S r;
-    listed = omega (arith, e, rank_fits L S r);
+    few = few_in_rank (held s) S r;
+    listed = omega (arith, rank_fits (held s) S r);
   }
 
+  -- and ends for the rank above it, which begins where it ends
+  module _ (size : ℕ) (f : size ≡ get_or s.counts.now r 0) where
+    pub few_through : place + size ≤ limits.elements
+    few_through = omega (arith, before_next s.counts.now r, few_before (held s) S (r + 1))
+
+    pub fits_above : (m : ℕ) → m ≡ get_or s.counts.now (r + 1) 0 → 2 * (place + size + m) ≤ length s.ends.now
+    fits_above m g = omega (arith, before_next s.counts.now r, rank_fits (held s) S (r + 1))
+
+pub ruleset ranks = (before_zero, fits_rank, few_through, fits_above)
+
+module _ (L : Listing) (S : Shaped limits L) where
   -- the next rank begins where one ends
   pub next_begins : (r place size : ℕ) → place ≡ before L.counts r → size ≡ count L r
       → place + size ≡ before L.counts (r + 1)

@@ -1,6 +1,6 @@
 -- A listing whose subs tell all is incident, and its lists ascend: so tests 2 and 19 pass it.
 -- Assumes nothing.
-use mathlib.Core.Path.{◌≡◌, refl}
+use mathlib.Core.Path.{◌≡◌, refl, sym}
 use mathlib.Core.Logic.{inl}
 use mathlib.Core.List.{List, [], ◌∷◌}
 use Prim.Native.Nat.{ℕ, zero, suc, ◌-◌, ◌<◌}
@@ -76,8 +76,13 @@ module _ {L : Listing} (a : Agrees L) where
 
   -- ---- both tests
 
-  pub agrees_fine : incidences_test L or_else ascent_test L ≡ fine
+  pub agrees_matched : (incidences_test L).no ≡ 0
+  agrees_matched = (incidences_exact L).1 agrees_incident
+
+  pub agrees_fine : fine ≡ incidences_test L or_else ascent_test L
   unfolding ascent_test
   agrees_fine =
-      (clear_exact (clear_or (incidences_test L) (clear_of _ _ _))).0
-      (no_or _ _ ((incidences_exact L).1 agrees_incident) ((ascent_exact L).1 agrees_ascends))
+      sym ((clear_exact (clear_or (incidences_test L) (clear_of _ _ _))).0
+      (no_or _ _ agrees_matched ((ascent_exact L).1 agrees_ascends)))
+
+  pub ruleset agreeing = (agrees_matched, agrees_fine)

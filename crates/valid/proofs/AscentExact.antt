@@ -3,7 +3,7 @@
 -- Assumes nothing.
 use mathlib.Core.Path.{◌≡◌, refl, sym, ap, ◌∙◌}
 use mathlib.Core.Logic.{◌↔◌, ◌⊎◌, inl, inr}
-use mathlib.Core.Bool.{true, false, not, ◌&&◌}
+use mathlib.Core.Bool.{Bool, true, false, not, ◌&&◌}
 use mathlib.Core.List.{List, [], ◌∷◌}
 use Prim.Native.Nat.{ℕ, ◌+◌, ◌*◌, ◌≤◌, ◌<◌}
 use native.Mathlib.Numerals.{add-one}
@@ -19,8 +19,10 @@ use Rattle.listing.specs.Listing.{Listing, before, entries, side}
 use Rattle.listing.specs.Refusals.{not_ascending}
 use Rattle.listing.proofs.Answers.{or_no, no_or, on_no, on_off}
 use Rattle.order.proofs.Tests.{and_true}
+use Rattle.listing.proofs.InCell.{few_here}
 use Rattle.listing.proofs.Places.{at_sides, side_at}
 use Rattle.listing.proofs.Elements.{elements_exact}
+use Rattle.valid_incidence.proofs.Turns.{all}
 use Rattle.valid_diamond.specs.Dyadic.{Distinct}
 use Rattle.valid.specs.Ascent.{climbs, side_ascent, element_ascent, ascent_test, AscendsAt, Ascends}
 
@@ -30,18 +32,25 @@ module _ (l : List ℕ) (k from : ℕ) where
   climbs_step : k < length l
       → climbs from (drop k l) ≡ leb from (get_or l k 0) && climbs (get_or l k 0 + 1) (drop (k + 1) l)
   unfolding climbs
-  climbs_step h = ap (climbs from) (drop-cons l k 0 h ∙ ap (λ (n : ℕ). get_or l k 0 ∷ drop n l) (sym (add-one k)))
+  climbs_step h = rw (add-one k, drop-cons l k 0 h)
 
-  pub climbs_stop : k < length l → {x : ℕ} → x ≡ get_or l k 0 → x < from → climbs from (drop k l) ≡ false
-  climbs_stop h e f = climbs_step h ∙ rw (← e) (rw (lt-leb _ _ f))
-
-  pub climbs_next : k < length l → {x : ℕ} → x ≡ get_or l k 0 → from ≤ x
-      → climbs from (drop k l) ≡ climbs (x + 1) (drop (k + 1) l)
-  climbs_next h e f = climbs_step h ∙ rw (← e) (rw (le-leb _ _ f))
-
-  pub climbs_end : length l ≤ k → climbs from (drop k l) ≡ true
+  climbs_end : length l ≤ k → climbs from (drop k l) ≡ true
   unfolding climbs
   climbs_end h = ap (climbs from) (drop_of_length-le l h)
+
+-- the same as a loop over the list meets it, which keeps that the answer is that for what stands from place k on
+module _ (W : Bool) (l : List ℕ) (k from : ℕ) (e : W ≡ climbs from (drop k l)) where
+  module _ (h : k < length l) (x : ℕ) (z : x ≡ get_or l k 0) where
+    pub climb_halt : x < from → false ≡ W
+    climb_halt f = sym (e ∙ climbs_step l k from h ∙ rw (← z, lt-leb from x f))
+
+    pub climb_next : from ≤ x → W ≡ climbs (x + 1) (drop (k + 1) l)
+    climb_next f = e ∙ climbs_step l k from h ∙ rw (← z, le-leb from x f)
+
+  pub climb_done : length l ≤ k → true ≡ W
+  climb_done h = sym (e ∙ climbs_end l k from h)
+
+pub ruleset climbing = (climb_halt, climb_next, climb_done)
 
 -- ---- a list, as a whole
 
@@ -78,11 +87,13 @@ module _ (L : Listing) where
   -- the list at a side, read from where its rank begins
   module _ (here r i s : ℕ) {l : List ℕ} (e : here ≡ before L.counts r)
       (k : l ≡ entries L.ends L.inc (2 * (here + i) + s)) where
-    pub side_climbs : true ≡ climbs 0 l → side_ascent L r i s ≡ fine
+    pub side_climbs : true ≡ climbs 0 l → fine ≡ side_ascent L r i s
     side_climbs h = rw (← side_at L here r i s e, ← k, ← h)
 
-    pub side_falls : false ≡ climbs 0 l → side_ascent L r i s ≡ refusal not_ascending r i s 0
+    pub side_falls : false ≡ climbs 0 l → refusal not_ascending r i s 0 ≡ side_ascent L r i s
     side_falls h = rw (← side_at L here r i s e, ← k, ← h)
+
+    pub ruleset sides = (side_climbs, side_falls)
 
   pub element_exact : (r i : ℕ) → (element_ascent L r i).no ≡ 0 ↔ AscendsAt L r i
   unfolding element_ascent
@@ -97,6 +108,9 @@ module _ (L : Listing) where
   pub ascent_exact : (ascent_test L).no ≡ 0 ↔ Ascends L
   unfolding ascent_test Ascends
   ascent_exact = elements_exact L (element_ascent L) (AscendsAt L) (λ r i h. element_exact r i)
+
+-- the laws by which a loop over ranks answers the first refusal, where it also keeps where its rank begins
+pub ruleset ranks = (all, few_here)
 
 -- In a listing whose lists ascend no list holds an index twice.
 pub ascends_distinct : (L : Listing) → Ascends L → Distinct L

@@ -7,4 +7,5 @@ pub mod AgreementTests
 pub mod TestNumbers
 pub mod TestsBroken
 pub mod TestsClear
-pub mod FirstRefusal
+pub mod InClosed
+pub mod ClosedSteps

@@ -8,7 +8,10 @@ use lib.ListN.{length}
 use native.Mathlib.Omega.{arith}
 use Rattle.order.specs.Lists.{has, occurs}
 use Rattle.listing.specs.declared.Answer.{Answer}
+use Rattle.listing.specs.declared.Side.{Side}
+use Rattle.listing.specs.declared.Side.TheVariants.{Subs, Sups}
 use Rattle.listing.specs.Answers.{refusal, fine, on}
+use Rattle.listing.specs.Told.{bare_no, not_back_no, missing_no}
 use Rattle.listing.specs.Listing.{Listing, rank, count, side, subs, sups}
 use Rattle.listing.proofs.Among.{Among, among_fine, among_or, among_cond, among_is, among_on, among_in, among_of}
 use Rattle.valid_incidence.specs.declared.incidence.Way.{Way}
@@ -33,25 +36,31 @@ bounded_numbers L =
     (count L 0) (count L (rank L)) 0 0
 
 -- Test 2 refuses with a number from 11 to 16.
--- the refusals of a way do
-abbrev Numbered : Way → Type 0
-Numbered w =
-    (11 ≤ w.none) × (w.none ≤ 16) × (11 ≤ w.missing) × (w.missing ≤ 16) × (11 ≤ w.oneway) × (w.oneway ≤ 16)
+-- the refusals of a side do
+record Numbered (s : Side) : Type 0 where
+  bare : (11 ≤ bare_no s) × (bare_no s ≤ 16)
+  missing : (11 ≤ missing_no s) × (missing_no s ≤ 16)
+  not_back : (11 ≤ not_back_no s) × (not_back_no s ≤ 16)
 
-list_numbers : (ends inc : List ℕ) (w : Way) → Numbered w → (r i : ℕ) (l : List ℕ)
-    → Among 11 16 (list_test ends inc w r i l)
+numbered : (s : Side) → Numbered s
+numbered Subs = record { bare = omega arith; missing = omega arith; not_back = omega arith }
+numbered Sups = record { bare = omega arith; missing = omega arith; not_back = omega arith }
+
+list_numbers : (ends inc : List ℕ) (w : Way) (r i : ℕ) (l : List ℕ) → Among 11 16 (list_test ends inc w r i l)
 unfolding list_test along_test entry_test
-list_numbers ends inc w n r i l =
-    among_or (among_on w.none n.0 n.1 (w.asked && eqb (length l) 0) r i 0 0)
-    (among_in _ (λ x. among_cond (ltb x w.size) (on (not (has (back ends inc w x) i)) (refusal w.oneway r i x 0))
-    (refusal w.missing r i x 0) (among_on w.oneway n.4 n.5 (not (has (back ends inc w x) i)) r i x 0)
-    (among_is w.missing n.2 n.3 r i x 0)) l)
+list_numbers ends inc w r i l =
+    let n = numbered w.side in
+    let one_way = refusal (not_back_no w.side) r i in
+    let gone = refusal (missing_no w.side) r i in
+    among_or (among_on (bare_no w.side) n.bare.0 n.bare.1 (w.asked && eqb (length l) 0) r i 0 0)
+    (among_in _ (λ x. among_cond (ltb x w.size) (on (not (has (back ends inc w x) i)) (one_way x 0)) (gone x 0)
+    (among_on (not_back_no w.side) n.not_back.0 n.not_back.1 (not (has (back ends inc w x) i)) r i x 0)
+    (among_is (missing_no w.side) n.missing.0 n.missing.1 r i x 0)) l)
 
 element_numbers : (L : Listing) (r i : ℕ) → Among 11 16 (element_test L r i)
 unfolding element_test
 element_numbers L r i =
-    among_or (list_numbers _ _ (down L r) (omega arith) r i (subs L r i))
-    (list_numbers _ _ (up L r) (omega arith) r i (sups L r i))
+    among_or (list_numbers _ _ (down L r) r i (subs L r i)) (list_numbers _ _ (up L r) r i (sups L r i))
 
 pub incidence_numbers : (L : Listing) → Among 11 16 (incidences_test L)
 unfolding incidences_test

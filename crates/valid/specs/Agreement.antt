@@ -1,7 +1,7 @@
 -- Listings whose subs tell all: what the quick look finds where it says yes.
 --
--- Agrees         nothing lies under the one element of rank 0; above it each element has subs, which ascend and exist one
---                rank lower; below the top each has sups; and the sups of each are those derived from the subs
+-- Agrees         nothing lies under the one element of rank 0; above it each element has subs, which ascend and exist
+--                one rank lower; below the top each has sups; and the sups of each are those derived from the subs
 -- Cursors        there are cursors and ends for n elements from a place on
 -- AscendsBelow   a list ascends, and all that stands in it is below n
 -- AllBelow       so do the first m of some lists, and none of them is empty

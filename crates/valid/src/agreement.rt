@@ -1,15 +1,13 @@
-// A quick look at a shaped and bounded listing, which may say no, but whose yes is proved: whether subs and sups match
-// up and all lists ascend. Each element has a cursor that goes along its sups, while the elements over it are met in
-// their order with their subs: so each incidence is looked at once, and nothing is searched for.
+// A quick look at a bounded cell, which may say no, but whose yes is proved: whether subs and sups match up and all
+// lists ascend. Each element has a cursor that goes along its sups, while the elements over it are met in their order
+// with their subs: so each incidence is looked at once, and nothing is searched for.
 ghost use Rattle.std.specs.Prelude.{◌≡◌, true, [], ◌∷◌, ◌+◌, ◌*◌, ◌≤◌, ◌<◌, length, get_or, replicate};
 ghost use Rattle.order.specs.Lists.{occurs};
-ghost use Rattle.listing.specs.Listing.{held, limits, Ends, subs_at};
+ghost use Rattle.listing.specs.Listing.{held, subs_at};
 ghost use Rattle.listing.specs.Layers.{gather};
-ghost use Rattle.listing.specs.Laid.{Laid};
-ghost use Rattle.listing.specs.Shape.{Shaped};
 ghost use Rattle.valid.specs.Agreement.{Agrees, Cursors, AscendsBelow, AllBelow, Met, AllMet, SomeSups};
 
-use listing::{Index, inner, limit};
+use listing::{Cell, Index, Side, limit, reading};
 
 // Where the elements of a rank stand: the place of the first, and how many there are.
 #[derive(Clone, Copy)]
@@ -18,38 +16,19 @@ struct Rank {
     size: Index,
 }
 
-// Sets the cursor of each element of a rank to where its sups begin.
-fn set_cursors(next: &mut [Index; limit::ELEMENTS], ends: &[Index], low: Rank)
-    requires { Cursors ends.now low.place low.size next.old }
-    ensures { Laid 0 (λ s. get_or ends.now (2 * (low.place + s)) 0) low.size
-        next.old next.new }
-{
-    for at in 0..inner::wide(low.size) {
-        next[at] = ends[2 * (low.place + at)];
-    }
-}
-
 // Whether the next sup of element s of the lower rank is x; its cursor then goes on.
-fn meet(
-    next: &mut [Index; limit::ELEMENTS],
-    ends: &[Index],
-    inc: &[Index],
-    low: Rank,
-    s: Index,
-    x: Index,
-) -> bool
-    requires ends { Ends ends.now inc.now }
-    requires cursors { Cursors ends.now low.place low.size next.old }
+fn meet(next: &mut [Index; limit::ELEMENTS], cell: Cell<'_>, low: Rank, s: Index, x: Index) -> bool
+    requires cursors { Cursors cell.slices.ends.now low.place low.size next.old }
     requires s_lt_size { s < low.size }
-    ensures { result ≡ true → Met inc.now low.size (λ y. replicate (occurs y (s ∷ [])) x)
+    ensures { result ≡ true → Met cell.entry.slices.inc.now low.size (λ y. replicate (occurs y (s ∷ [])) x)
         next.old next.new }
 {
-    let at = inner::wide(s);
+    let at = usize::from(s);
     let cursor = next[at];
-    if ends[2 * (low.place + at) + 1] <= cursor {
+    if cell.slices.ends[2 * (low.place + at) + 1] <= cursor {
         return false;
     }
-    if inc[inner::wide(cursor)] != x {
+    if cell.slices.inc[usize::from(cursor)] != x {
         return false;
     }
     next[at] = cursor + 1;
@@ -59,16 +38,14 @@ fn meet(
 // Whether the subs of element x ascend, are elements of the lower rank, and each has x as its next sup.
 fn meet_list(
     next: &mut [Index; limit::ELEMENTS],
-    ends: &[Index],
-    inc: &[Index],
+    cell: Cell<'_>,
     low: Rank,
     subs: &[Index],
     x: Index,
 ) -> bool
-    requires ends { Ends ends.now inc.now }
-    requires cursors { Cursors ends.now low.place low.size next.old }
+    requires { Cursors cell.slices.ends.now low.place low.size next.old }
     ensures ascends_below { result ≡ true → AscendsBelow low.size subs.now }
-    ensures met { result ≡ true → Met inc.now low.size (λ y. replicate (occurs y subs.now) x)
+    ensures met { result ≡ true → Met cell.entry.slices.inc.now low.size (λ y. replicate (occurs y subs.now) x)
         next.old next.new }
 {
     let mut from: usize = 0;
@@ -76,40 +53,34 @@ fn meet_list(
         if low.size <= s {
             return false;
         }
-        if inner::wide(s) < from {
+        if usize::from(s) < from {
             return false;
         }
-        if !meet(next, ends, inc, low, s, x) {
+        if !meet(next, cell, low, s, x) {
             return false;
         }
-        from = inner::wide(s) + 1;
+        from = usize::from(s) + 1;
     }
     true
 }
 
 // The same of all elements of the rank above, in their order; none of them is without subs.
-fn meet_rank(
-    next: &mut [Index; limit::ELEMENTS],
-    ends: &[Index],
-    inc: &[Index],
-    low: Rank,
-    high: Rank,
-) -> bool
-    requires ends { Ends ends.now inc.now }
-    requires cursors { Cursors ends.now low.place low.size next.old }
-    requires size_in_bounds { 2 * (high.place + high.size) ≤ length ends.now }
+#[tactic(auto, using(crate::proofs::Agreeing::met_none, crate::proofs::Agreeing::gather_none))]
+fn meet_rank(next: &mut [Index; limit::ELEMENTS], cell: Cell<'_>, low: Rank, high: Rank) -> bool
+    requires cursors { Cursors cell.slices.ends.now low.place low.size next.old }
+    requires size_in_bounds { 2 * (high.place + high.size) ≤ length cell.slices.ends.now }
     ensures all_below { result ≡ true → AllBelow low.size
-        (subs_at ends.now inc.now high.place) high.size }
-    ensures met { result ≡ true → Met inc.now low.size
-        (λ y. gather (subs_at ends.now inc.now high.place) y high.size)
+        (subs_at cell.entry.slices.ends.now cell.entry.slices.inc.now high.place) high.size }
+    ensures met { result ≡ true → Met cell.entry.slices.inc.now low.size
+        (λ y. gather (subs_at cell.entry.slices.ends.now cell.entry.slices.inc.now high.place) y high.size)
         next.old next.new }
 {
     for x in 0..high.size {
-        let subs = inner::side_of(ends, inc, high.place, x, 0);
+        let subs = cell.side_of(high.place, x, Side::Subs);
         if subs.is_empty() {
             return false;
         }
-        if !meet_list(next, ends, inc, low, subs, x) {
+        if !meet_list(next, cell, low, subs, x) {
             return false;
         }
     }
@@ -122,7 +93,7 @@ fn all_met(next: &[Index; limit::ELEMENTS], ends: &[Index], low: Rank, some: boo
     ensures all_met { result ≡ true → AllMet ends.now low.place low.size next.now }
     ensures some_sups { result ≡ true → some ≡ true → SomeSups ends.now low.place low.size }
 {
-    for at in 0..inner::wide(low.size) {
+    for at in 0..usize::from(low.size) {
         let k = 2 * (low.place + at);
         if next[at] != ends[k + 1] {
             return false;
@@ -135,11 +106,13 @@ fn all_met(next: &[Index; limit::ELEMENTS], ends: &[Index], low: Rank, some: boo
 }
 
 // Whether subs and sups match up, and all lists ascend, as far as one pass tells.
-pub fn agree(counts: &[Index], ends: &[Index], inc: &[Index]) -> bool
-    requires shaped { Shaped limits (held counts ends inc) }
-    requires counts_value { get_or counts.now 0 0 ≡ 1 }
-    ensures { result ≡ true → Agrees (held counts.entry ends.entry inc.entry) }
+#[tactic(auto, using(crate::proofs::Agreeing::ranks))]
+pub fn agree(cell: Cell<'_>) -> bool
+    requires { get_or cell.slices.counts.now 0 0 ≡ 1 }
+    ensures { result ≡ true → Agrees (held cell.entry.slices) }
 {
+    let counts = cell.slices.counts;
+    let ends = cell.slices.ends;
     // the one element of rank 0 has nothing under it
     if ends[0] != 0 {
         return false;
@@ -148,13 +121,13 @@ pub fn agree(counts: &[Index], ends: &[Index], inc: &[Index]) -> bool
     let mut here: usize = 0;
     for (r, &size) in counts.iter().enumerate() {
         let low = Rank { place: here, size };
-        here += inner::wide(size);
+        here += usize::from(size);
         let high = Rank {
             place: here,
-            size: inner::count_at(counts, r + 1),
+            size: reading::count_at(counts, r + 1),
         };
-        set_cursors(&mut next, ends, low);
-        if !meet_rank(&mut next, ends, inc, low, high) {
+        reading::set_cursors(&mut next, ends, low.place, usize::from(low.size));
+        if !meet_rank(&mut next, cell, low, high) {
             return false;
         }
         if !all_met(&next, ends, low, r + 1 < counts.len()) {

@@ -1,27 +1,21 @@
-// Test 1, on a listing that is known to be shaped.
-ghost use Rattle.std.specs.Prelude.{◌≡◌, List, ℕ, ◌<◌, length};
-ghost use Rattle.listing.specs.Listing.{listing};
+// Test 1, of a cell.
+ghost use Rattle.std.specs.Prelude.{◌≡◌};
+ghost use Rattle.listing.specs.Listing.{held};
+ghost use Rattle.listing.specs.Told.{told};
 ghost use Rattle.valid.specs.Bounds.{bounded_test};
 
-use listing::{Answer, Index, refusal};
+use listing::{Cell, Refusal};
 
-// Test 1, on counts that are not empty.
+// One minimal and one maximal element.
 #[tactic(auto, unfolding(crate::specs::Bounds::bounded_test))]
-pub fn check_bounded(counts: &[Index]) -> Answer
-    requires { 0 < length counts.now }
-    ensures { (e i : List ℕ) → result ≡ bounded_test (listing counts.now e i) }
+pub fn check_bounded(cell: Cell<'_>) -> Result<(), Refusal>
+    ensures { told result ≡ bounded_test (held cell.entry.slices) }
 {
-    let min_count = counts[0];
-    let rank = counts.len() - 1;
-    let max_count = counts[rank];
-    if min_count == 1 && max_count == 1 {
-        return listing::inner::plain(0);
+    let counts = cell.slices.counts;
+    let smallest = counts[0];
+    let largest = counts[counts.len() - 1];
+    if smallest != 1 || largest != 1 {
+        return Err(Refusal::NotBounded { smallest, largest });
     }
-    Answer {
-        no: refusal::NOT_BOUNDED,
-        a: min_count,
-        b: max_count,
-        c: 0,
-        d: 0,
-    }
+    Ok(())
 }

@@ -5,7 +5,7 @@ use mathlib.Core.Bool.{Bool, true, false}
 use mathlib.Core.List.{List, [], ◌∷◌, ◌++◌}
 use Prim.Native.Nat.{ℕ, ◌+◌, ◌-◌, ◌*◌}
 use native.Mathlib.Omega.{arith}
-use borrow.Author.Tests.{eq-eqb}
+use borrow.Author.Tests.{eq-eqb, eqb-true}
 use lib.Dec.{eqb}
 use lib.ListN.{length, get_or}
 use Rattle.order.specs.Lists.{occurs}
@@ -33,13 +33,14 @@ module _ (ends inc : List ℕ) (b : ℕ) (l : List ℕ) {first second : List ℕ
     (f : first ≡ entries ends inc (2 * (b + get_or l 0 0) + 0))
     (s : second ≡ entries ends inc (2 * (b + get_or l 1 0) + 0))
     (two : length l ≡ 2) (one : length first ≡ 1) (other : length second ≡ 1) where
-  pub one_twice : get_or first 0 0 ≡ get_or second 0 0
-      → subs_of_all ends inc b l ≡ get_or first 0 0 ∷ get_or first 0 0 ∷ []
+  pub one_twice : eqb (get_or first 0 0) (get_or second 0 0) ≡ true
+      → (x : ℕ) × (subs_of_all ends inc b l ≡ x ∷ x ∷ [])
   unfolding subs_of_all
-  one_twice e =
+  one_twice same =
+      let e = eqb-true _ _ same in
       let x = sym f ∙ one_number first one in
       let y = sym s ∙ one_number second other ∙ ap (λ (n : ℕ). n ∷ []) (sym e) in
-      ap (subs_of_all ends inc b) (two_numbers l two) ∙ ap₂ (λ (p q : List ℕ). p ++ (q ++ [])) x y
+      (_, ap (subs_of_all ends inc b) (two_numbers l two) ∙ ap₂ (λ (p q : List ℕ). p ++ (q ++ [])) x y)
 
 -- ---- it passes
 

@@ -116,16 +116,16 @@ module _ {n : ℕ} (t : List ℕ) (met twice : ℕ) (S : TotalsIn n t met twice)
       }
 
   -- as many were met twice as were met: none was met once
-  pub lone_none : (f : ℕ → Answer) (k : ℕ) → met ≡ twice → lone_in f t k ≡ fine
+  pub lone_none : (f : ℕ → Answer) (k : ℕ) → met ≡ twice → fine ≡ lone_in f t k
   unfolding lone_in
   lone_none f k e =
       let z : at_least 1 t ≡ at_least 2 t = omega (arith, S) in
-      of_fine _ (λ x. ap (λ (b : Bool). on b (f x)) (ne_eqb (get_or t x 0) 1 (none_one t x z))) 0 k
+      sym (of_fine _ (λ x. ap (λ (b : Bool). on b (f x)) (ne_eqb (get_or t x 0) 1 (none_one t x z))) 0 k)
 
 -- ---- what is left, where counts are set back
 
 -- a count that is not 0 is set back: at least one was left, and now one less is
-module _ {n : ℕ} (t : List ℕ) (left : ℕ) (C : MetIn n t left) (x : ℕ) (h : x < n) (g : 0 < get_or t x 0) where
+module _ {n : ℕ} (t : List ℕ) (left : ℕ) (C : MetIn n t left) (x : ℕ) (h : x < n) (g : get_or t x 0 ≡ 0 → ⊥) where
   one_less : at_least 1 (set t x 0) + 1 ≡ left
   one_less =
       let c = get_or t x 0 in

@@ -17,9 +17,16 @@ use Rattle.listing.specs.Answers.{fine, on, ◌or_else◌, first_of}
 use Rattle.listing.specs.Listing.{Listing, Limits, count, before, entries, subs}
 use Rattle.listing.specs.Shape.{Shaped}
 use Rattle.listing.specs.declared.Answer.{Answer}
+use Rattle.listing.specs.declared.Refusal.{Refusal}
+use Rattle.listing.specs.Told.{answer_of, told}
+use Rattle.listing.proofs.Told.{refuses, told_err, of_ok, of_over}
+use Rattle.listing.proofs.Listing.{before_zero, before_next}
 use Rattle.listing.proofs.Answers.{or_fine, or_stop, or_no, no_or, on_off, stops, then_stop, then_go}
+use Rattle.std.proofs.Common.{Result}
+use Rattle.std.specs.Result.{IsErrAnd}
 use Rattle.listing.proofs.Answers.{of_stop, of_next, of_end, or_assoc, of_same}
 use Rattle.valid_incidence.specs.Incidence.{Incident}
+use Rattle.valid_incidence.proofs.Turns.{all}
 use Rattle.listing.proofs.Places.{side_fits, few_in_rank}
 use Rattle.valid_diamond.specs.Dyadic.{subs_of_all, walk, third_test, seen_after, lone_test, third, lone}
 use Rattle.valid_diamond.specs.Dyadic.{sections_test, dyadic_test}
@@ -120,9 +127,9 @@ module _ {n : ℕ} (f : ℕ → Answer) {t : List ℕ} (seen : List ℕ) where
     walked_all e = record { answer = e ∙ sym (third_fine f seen done w.clear); tally = λ z. w.tally }
 
 -- what a callee tallied without refusal has been walked
-pub tallied_walked : {n : ℕ} {t : List ℕ} {f : ℕ → Answer} {seen l : List ℕ} {a : Answer} → Tallied n t f seen l a
-    → a.no ≡ 0 → Walked n f t seen l
-tallied_walked T z = record { clear = ap (λ (a : Answer). a.no) (sym T.answer) ∙ z; tally = T.tally z }
+tallied_walked : {n : ℕ} {t : List ℕ} {f : ℕ → Answer} {seen l : List ℕ} → Tallied n t f seen l fine
+    → Walked n f t seen l
+tallied_walked T = record { clear = ap (λ (a : Answer). a.no) (sym T.answer); tally = T.tally refl }
 
 -- ---- along one list
 
@@ -130,25 +137,30 @@ tallied_walked T z = record { clear = ap (λ (a : Answer). a.no) (sym T.answer) 
 pub inside_at : (l : List ℕ) (n j : ℕ) → ((x : ℕ) → In x l → x < n) → j < length l → get_or l j 0 < n
 inside_at l n j f h = f (get_or l j 0) (in_at l j h)
 
-module _ {n : ℕ} (f : ℕ → Answer) {t : List ℕ} (seen l : List ℕ) (j : ℕ) (w : Walked n f t seen (take j l)) where
-  pub list_more : j < length l → (x : ℕ) → x ≡ get_or l j 0 → x < n → get_or t x 0 < 2
+-- the index at place j is x, and x had been met less than twice, or twice
+module _ {n : ℕ} {t : List ℕ} (seen l : List ℕ) (j : ℕ) (inside : (x : ℕ) → In x l → x < n) (h : j < length l)
+    (x : ℕ) (e : x ≡ get_or l j 0) where
+  pub list_more : (f : ℕ → Answer) → Walked n f t seen (take j l) → get_or t x 0 < 2
       → Walked n f (set t x (get_or t x 0 + 1)) seen (take (j + 1) l)
-  list_more h x e k g =
+  list_more f w g =
+      let k : x < n = omega (arith, inside_at l n j inside h) in
       rw (add-one j, take-suc l j 0 h, ← e)
       (walked_more f seen w (x ∷ []) (walked_one f (seen_after seen (take j l)) x k w.tally g))
 
-  pub list_stop : {u : List ℕ} → j < length l → (x : ℕ) → x ≡ get_or l j 0 → x < n → 2 ≤ get_or t x 0
-      → ((f (get_or l j 0)).no ≡ 0 → ⊥) → Tallied n u f seen l (f (get_or l j 0))
-  list_stop {u} h x e k g z =
+  pub list_halt : {u : List ℕ} (r i : ℕ) → Walked n (third r i) t seen (take j l) → 2 ≤ get_or t x 0
+      → Tallied n u (third r i) seen l (third r i (get_or l j 0))
+  list_halt {u} r i w g =
+      let f = third r i in
       let y = get_or l j 0 in
       let s = seen_after seen (take j l) in
-      let c = w.tally.counts x k ∙ ap (λ (v : ℕ). occurs v s) e in
-      let o = third_one f s y (omega (arith, c)) z in
-      let a = walked_stop f seen w {u = u} (y ∷ []) (drop (suc j) l) (sym o) z in
+      let c = w.tally.counts x (omega (arith, inside_at l n j inside h)) ∙ ap (λ (v : ℕ). occurs v s) e in
+      let o = third_one f s y (omega (arith, c)) (λ z. omega arith) in
+      let a = walked_stop f seen w {u = u} (y ∷ []) (drop (suc j) l) (sym o) (λ z. omega arith) in
       subst (λ (m : List ℕ). Tallied n u f seen m (f y)) (sym (split_at l j 0 h)) a
 
-  pub list_all : {a : Answer} → length l ≤ j → a ≡ fine → Tallied n t f seen l a
-  list_all h e = rw (take_all j l h) at (walked_all f seen w e)
+pub list_done : {n : ℕ} (f : ℕ → Answer) {t : List ℕ} (seen l : List ℕ) (j : ℕ) → Walked n f t seen (take j l)
+    → length l ≤ j → Tallied n t f seen l fine
+list_done f seen l j w h = rw (take_all j l h) at (walked_all f seen w refl)
 
 -- ---- along the subs of a list's elements
 
@@ -196,21 +208,26 @@ module _ (ends inc : List ℕ) (b : ℕ) where
 
     module _ (l : List ℕ) (j : ℕ) (w : Walked n f t seen (walk_of (take j l))) where
       -- a callee walks the list at place j: without refusal, and with one
-      module _ {u : List ℕ} {a : Answer} (h : j < length l) {list : List ℕ} (e : list ≡ subs_of (get_or l j 0))
-          (tallied : (s : List ℕ) → Tally n t s → Tallied n u f s list a) where
-        here : Tallied n u f (seen_after seen (walk_of (take j l))) (subs_of (get_or l j 0)) a
-        here = rw e at (tallied (seen_after seen (walk_of (take j l))) w.tally)
+      module _ {u : List ℕ} (h : j < length l) {list : List ℕ} (e : list ≡ subs_of (get_or l j 0)) where
+        here : {a : Answer} → ((s : List ℕ) → Tally n t s → Tallied n u f s list a)
+            → Tallied n u f (seen_after seen (walk_of (take j l))) (subs_of (get_or l j 0)) a
+        here tallied = rw e at (tallied (seen_after seen (walk_of (take j l))) w.tally)
 
-        pub walk_more : a.no ≡ 0 → Walked n f u seen (walk_of (take (j + 1) l))
-        walk_more z = rw (walk_next l j h) (walked_more f seen w (subs_of (get_or l j 0)) (tallied_walked here z))
+        pub walk_more : ((s : List ℕ) → Tally n t s → Tallied n u f s list fine)
+            → Walked n f u seen (walk_of (take (j + 1) l))
+        walk_more tallied =
+            rw (walk_next l j h) (walked_more f seen w (subs_of (get_or l j 0)) (tallied_walked (here tallied)))
 
-        pub walk_stop : (a.no ≡ 0 → ⊥) → Tallied n u f seen (walk_of l) a
-        walk_stop z =
+        pub walk_halt : {A : Type 0} (v : Result A Refusal) (d : Refusal) → IsErrAnd v (λ x. x ≡ d)
+            → ((s : List ℕ) → Tally n t s → Tallied n u f s list (answer_of d))
+            → Tallied n u f seen (walk_of l) (told v)
+        walk_halt v d why tallied =
             let rest = walk_of (drop (suc j) l) in
-            rw (walk_split l j h) (walked_stop f seen w (subs_of (get_or l j 0)) rest here.answer z)
+            let stop = walked_stop f seen w (subs_of (get_or l j 0)) rest (here tallied).answer (refuses d) in
+            rw (walk_split l j h, told_err v d why) stop
 
-      pub walk_all : {a : Answer} → length l ≤ j → a ≡ fine → Tallied n t f seen (walk_of l) a
-      walk_all h e = rw (take_all j l h) at (walked_all f seen w e)
+      pub walk_done : length l ≤ j → Tallied n t f seen (walk_of l) fine
+      walk_done h = rw (take_all j l h) at (walked_all f seen w refl)
 
 -- where test 2 passes, the subs of an element's subs can be walked
 pub walkable : {m : Limits} (L : Listing) → Shaped m L → Incident L → (r i : ℕ) → i < count L r → {b : ℕ} {l : List ℕ}
@@ -228,16 +245,16 @@ walkable L S I r i h p q =
 
 -- ---- the indices met once
 
-module _ (W : Answer) (f : ℕ → Answer) (t : List ℕ) (x n : ℕ)
-    (e : W ≡ first_of (λ y. on (eqb (get_or t y 0) 1) (f y)) x n) (h : x < n) where
-  pub lone_stop : (k : ℕ) → k ≡ x → get_or t k 0 ≡ 1 → ((f x).no ≡ 0 → ⊥) → f x ≡ W
-  lone_stop k q c z =
-      let o : on (eqb (get_or t x 0) 1) (f x) ≡ f x = rw (eq-eqb (get_or t x 0) 1 (rw q at c)) in
-      sym (of_stop W _ x n e h (stops (sym o) z) ∙ o)
+module _ (W : Answer) (r i : ℕ) (t : List ℕ) (x n : ℕ)
+    (e : W ≡ first_of (λ y. on (eqb (get_or t y 0) 1) (lone r i y)) x n) (h : x < n) (k : ℕ) (q : k ≡ x) where
+  pub lone_stop : get_or t k 0 ≡ 1 → lone r i x ≡ W
+  lone_stop c =
+      let o : on (eqb (get_or t x 0) 1) (lone r i x) ≡ lone r i x = rw (eq-eqb (get_or t x 0) 1 (rw q at c)) in
+      sym (of_stop W _ x n e h (stops (sym o) (λ z. omega arith)) ∙ o)
 
-  pub lone_next : (k : ℕ) → k ≡ x → (get_or t k 0 ≡ 1 → ⊥)
-      → W ≡ first_of (λ y. on (eqb (get_or t y 0) 1) (f y)) (x + 1) n
-  lone_next k q c = of_next W _ x n e h (on_off _ (f x) (ne_eqb (get_or t x 0) 1 (rw q at c)))
+  pub lone_next : (get_or t k 0 ≡ 1 → ⊥)
+      → W ≡ first_of (λ y. on (eqb (get_or t y 0) 1) (lone r i y)) (x + 1) n
+  lone_next c = of_next W _ x n e h (on_off _ (lone r i x) (ne_eqb (get_or t x 0) 1 (rw q at c)))
 
 -- the tally tells what was seen
 pub lone_same : {n : ℕ} (f : ℕ → Answer) (t seen : List ℕ) (m : ℕ) → Tally n t seen → m ≤ n
@@ -260,6 +277,24 @@ module _ (L : Listing) (r i : ℕ) where
   sections_go e z f = then_go e z f
 
 -- below rank 2 there are no sections
-pub dyadic_low : (L : Listing) (h : ℕ) → h < 2 → dyadic_test L h ≡ fine
+pub dyadic_low : (L : Listing) (h : ℕ) → h < 2 → fine ≡ dyadic_test L h
 unfolding dyadic_test
-dyadic_low L h k = of_end _ _ 2 (h + 1) refl (omega arith)
+dyadic_low L h k = sym (of_end _ _ 2 (h + 1) refl (omega arith))
+
+-- ---- the ranks
+
+-- rank 1 begins after rank 0
+pub before_one : (counts : List ℕ) (n : ℕ) → n ≡ get_or counts 0 0 → n ≡ before counts (2 - 1)
+before_one counts n e = omega (arith, e, before_next counts 0, before_zero counts)
+
+-- the last rank passes
+pub last_ok : (W : Answer) (f : ℕ → Answer) (i n : ℕ) → W ≡ first_of f i n → i < n → n ≤ i + 1 → fine ≡ f i → fine ≡ W
+last_ok W f i n e h l z = of_over W f (i + 1) n (of_ok W f i n e h z) l
+
+-- ---- for `using`
+
+pub ruleset along_list = (inside_at, list_halt)
+
+pub ruleset along_lists = (list_there, list_inside)
+
+pub ruleset along_ranks = (all, dyadic_low, last_ok)

@@ -1,5 +1,5 @@
-// The diamond: whether exactly two elements lie between any two that are two ranks apart and have one between them. No
-// entries: the functions in the module ask for a listing that is shaped, with subs and sups that match up.
+// The diamond: whether exactly two elements lie between any two that are two ranks apart and have one between them.
+// It is asked of a listing whose subs and sups match up.
 #![tactic(auto)]
 
 pub mod dyadic;

@@ -17,6 +17,8 @@ use Rattle.listing.specs.declared.Answer.{Answer}
 use Rattle.listing.specs.Answers.{refusal, on}
 use Rattle.listing.specs.Listing.{Listing, rank, count, below, subs, sups}
 use Rattle.listing.proofs.Answers.{or_no, no_or, on_no, on_off, in_each, in_all}
+use Rattle.listing.specs.Told.{bare_no}
+use Rattle.listing.proofs.Told.{bare_some, not_back_some, missing_some}
 use Rattle.listing.proofs.Elements.{elements_exact}
 use Rattle.valid_incidence.specs.declared.incidence.Way.{Way}
 use Rattle.valid_incidence.specs.Ways.{down, up, back, entry_test, along_test, list_test}
@@ -25,18 +27,6 @@ use Rattle.valid_incidence.proofs.Entries.{entry_fine, entry_oneway, entry_missi
 
 abbrev number : Answer → ℕ
 number a = a.no
-
--- the refusals of a way are refusals
-pub record Refuses (w : Way) : Type 0 where
-  pub none : 0 < w.none
-  pub missing : 0 < w.missing
-  pub oneway : 0 < w.oneway
-
-pub down_refuses : (L : Listing) (r : ℕ) → Refuses (down L r)
-down_refuses L r = record { none = omega arith; missing = omega arith; oneway = omega arith }
-
-pub up_refuses : (L : Listing) (r : ℕ) → Refuses (up L r)
-up_refuses L r = record { none = omega arith; missing = omega arith; oneway = omega arith }
 
 -- a list holds something where asked
 some_exact : (t : Bool) (l : List ℕ) (a : Answer) → (a.no ≡ 0 → ⊥)
@@ -52,7 +42,7 @@ some_exact t l a z = (there, λ f. on_off (t && eqb (length l) 0) a (back_again 
     back_again true f = let p = f refl in ne_eqb (length l) 0 (in_some l p.0 p.1)
     back_again false f = refl
 
-module _ (ends inc : List ℕ) (w : Way) (R : Refuses w) (r i : ℕ) where
+module _ (ends inc : List ℕ) (w : Way) (r i : ℕ) where
   -- ---- an entry
 
   -- what it must be: an element of the way that leads back
@@ -71,10 +61,10 @@ module _ (ends inc : List ℕ) (w : Way) (R : Refuses w) (r i : ℕ) where
         there true p true q e = (ltb-true x w.size p, (has_yes i (back ends inc w x)).0 q)
         there true p false q e =
             let o = entry_oneway ends inc w r i x (ltb-true x w.size p) q in
-            absurd (omega (arith, R.oneway, ap number (sym o) ∙ e))
+            absurd (omega (arith, not_back_some w.side, ap number (sym o) ∙ e))
         there false p c q e =
             let o = entry_missing ends inc w r i x (ltb-false x w.size p) in
-            absurd (omega (arith, R.missing, ap number (sym o) ∙ e))
+            absurd (omega (arith, missing_some w.side, ap number (sym o) ∙ e))
 
         back_again : LeadsBack x → entry.no ≡ 0
         back_again p = ap number (entry_fine ends inc w r i x p.0 ((has_yes i (back ends inc w x)).1 p.1))
@@ -89,7 +79,7 @@ module _ (ends inc : List ℕ) (w : Way) (R : Refuses w) (r i : ℕ) where
   list_exact : (list : List ℕ) → (list_test ends inc w r i list).no ≡ 0 ↔ Along list
   unfolding list_test along_test
   list_exact list =
-      let none = some_exact w.asked list (refusal w.none r i 0 0) (λ z. omega (arith, R.none)) in (
+      let none = some_exact w.asked list (refusal (bare_no w.side) r i 0 0) (λ z. omega (arith, bare_some w.side)) in (
         λ e.
             let p = or_no _ _ e in
             record { some = none.0 p.0; each = λ x m. (entry_exact x).0 (in_each _ list p.1 x m) },
@@ -109,7 +99,7 @@ module _ (L : Listing) where
   module _ (r i : ℕ) where
     pub lower_exact : (lower L r i).no ≡ 0 ↔ LowerAt L r i
     lower_exact =
-        let e = list_exact L.ends L.inc (down L r) (down_refuses L r) r i (subs L r i) in (
+        let e = list_exact L.ends L.inc (down L r) r i (subs L r i) in (
           λ z. record {
             some = λ k. (e.0 z).some (lt-ltb 0 r k);
             each = λ x m.
@@ -125,7 +115,7 @@ module _ (L : Listing) where
 
     pub upper_exact : (upper L r i).no ≡ 0 ↔ UpperAt L r i
     upper_exact =
-        let e = list_exact L.ends L.inc (up L r) (up_refuses L r) r i (sups L r i) in (
+        let e = list_exact L.ends L.inc (up L r) r i (sups L r i) in (
           λ z. record { some = λ k. (e.0 z).some (lt-ltb r (rank L) k); each = (e.0 z).each },
           λ a. e.1 (record { some = λ t. a.some (ltb-true r (rank L) t); each = a.each }),
         )

@@ -10,10 +10,7 @@ use Rattle.valid_incidence.specs.Ways.{down, up, WayFits}
 
 module _ {m : Limits} (L : Listing) (S : Shaped m L) (r : ℕ) where
   pub down_fits : WayFits L.ends (down L r)
-  down_fits = record {
-    places = omega (arith, before_last L.counts r, before_all L.counts r, S.two_ends_each);
-    sides = omega arith;
-  }
+  down_fits = omega (arith, before_last L.counts r, before_all L.counts r, S.two_ends_each)
 
   pub up_fits : WayFits L.ends (up L r)
-  up_fits = record { places = rank_fits L S (r + 1); sides = omega arith }
+  up_fits = rank_fits L S (r + 1)

@@ -3,7 +3,7 @@ ghost use Rattle.std.specs.Prelude.{◌≡◌, ◌+◌, ◌*◌, ◌<◌, length
 ghost use Rattle.volume_metres.specs.Points.{point_of};
 ghost use Rattle.volume_metres.specs.Formulas.{det_in};
 
-use listing::{Index, inner};
+use listing::Index;
 
 // Where a vertex stands.
 #[derive(Clone, Copy)]
@@ -18,7 +18,7 @@ pub fn point_of(coordinates: &[f64], v: Index) -> Point
     requires { 3 * v + 2 < length coordinates.now }
     ensures { result ≡ point_of coordinates.now v }
 {
-    let i = 3 * inner::wide(v);
+    let i = 3 * usize::from(v);
     Point {
         x: coordinates[i],
         y: coordinates[i + 1],

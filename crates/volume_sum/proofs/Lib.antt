@@ -1,2 +1,4 @@
 pub mod Edges
 pub mod SixRows
+pub mod InFaces
+pub mod InFlags

@@ -64,3 +64,5 @@ module _ (L : Listing) (xs : List Float) (w : ℕ) (table bytes : List ℕ) (k :
   pub six_odd : get_or bytes k 0 ≢ 0
       → in_floats xs (six_formula L before) ≡ in_floats xs (six_formula L (evens (rows w table (k + 1)) bytes))
   six_odd e = rw (evens_next, ne_eqb (get_or bytes k 0) 0 e, append-nil) refl
+
+pub ruleset six = (row_cut, six_none, six_even, six_odd)

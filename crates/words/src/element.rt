@@ -1,54 +1,58 @@
 // The elements of a cell, as an engineer names them.
-use crate::print::{blank, number, text};
-use listing::refusal;
-use std::io;
-
-// An element of a rank that has no name.
-fn unnamed(rt: &impl Print, r: u16) -> io::Result<()> {
-    text(rt, b"rank ")?;
-    number(rt, r)?;
-    text(rt, b" element")
-}
+use listing::{Element, Index};
+use std::fmt;
 
 // What an element of a rank is called.
-fn kind(rt: &impl Print, r: u16) -> io::Result<()> {
-    match r {
-        1 => text(rt, b"vertex"),
-        2 => text(rt, b"edge"),
-        3 => text(rt, b"face"),
-        4 => text(rt, b"cell"),
-        _ => unnamed(rt, r),
+#[derive(Drop)]
+struct Kind(Index);
+
+impl fmt::Display for Kind {
+    fn fmt<W: fmt::Write>(&self, f: &mut fmt::Formatter<W>) -> fmt::Result {
+        match self.0 {
+            1 => f.write_str("vertex"),
+            2 => f.write_str("edge"),
+            3 => f.write_str("face"),
+            4 => f.write_str("cell"),
+            rank => write!(f, "rank {rank} element"),
+        }
     }
 }
 
-// What several elements of a rank are called.
-fn kinds(rt: &impl Print, r: u16) -> io::Result<()> {
-    if r == 1 {
-        text(rt, b"vertices")
-    } else {
-        kind(rt, r)?;
-        text(rt, b"s")
+// An element, by its name.
+#[derive(Drop)]
+pub struct Name(pub Element);
+
+impl fmt::Display for Name {
+    fn fmt<W: fmt::Write>(&self, f: &mut fmt::Formatter<W>) -> fmt::Result {
+        let Element { rank, index } = self.0;
+        if rank == 0 {
+            f.write_str("the smallest element")
+        } else {
+            write!(f, "{} {index}", Kind(rank))
+        }
     }
 }
 
-// Element i of rank r.
-pub fn one(rt: &impl Print, r: u16, i: u16) -> io::Result<()> {
-    if r == 0 {
-        text(rt, b"the smallest element")
-    } else {
-        kind(rt, r)?;
-        blank(rt)?;
-        number(rt, i)
+// What a refused section has of a rank, where it has a third element.
+#[derive(Drop)]
+pub struct MoreThanTwo(pub Index);
+
+impl fmt::Display for MoreThanTwo {
+    fn fmt<W: fmt::Write>(&self, f: &mut fmt::Formatter<W>) -> fmt::Result {
+        if self.0 == 1 {
+            f.write_str("more than two vertices")
+        } else {
+            write!(f, "more than two {}s", Kind(self.0))
+        }
     }
 }
 
-// How many elements of a rank lie in a section that is refused: more than two, or only one.
-pub fn several(rt: &impl Print, no: u16, r: u16) -> io::Result<()> {
-    if no == refusal::THIRD_BETWEEN {
-        text(rt, b"more than two ")?;
-        kinds(rt, r)
-    } else {
-        text(rt, b"only one ")?;
-        kind(rt, r)
+// What it has of a rank, where it has a lone element.
+#[derive(Drop)]
+pub struct OnlyOne(pub Index);
+
+impl fmt::Display for OnlyOne {
+    fn fmt<W: fmt::Write>(&self, f: &mut fmt::Formatter<W>) -> fmt::Result {
+        write!(f, "only one {}", Kind(self.0))
     }
 }

@@ -1,120 +1,135 @@
-// What an answer says, in words: those of docs/REFUSALS.md, with the elements named as an engineer names them. Every
-// function here prints, and returns only whether it could. None is a `Display`: a sentence would need a type of its
-// own, which is made only to be printed in the same line.
+// What is refused, in words: those of docs/REFUSALS.md, with the elements named as an engineer names them.
 #![tactic(auto)]
 
 mod element;
-pub mod print;
 mod sentence;
 
-use listing::{Answer, Index, refusal};
-use print::{number, text};
-use std::{io, num};
+use element::{MoreThanTwo, Name, OnlyOne};
+use listing::{Answer, Element, Index, Refusal, Side};
+use std::fmt;
 
-// How many there are at each end, where it is not one and one.
-fn ends(rt: &impl Print, a: Answer) -> io::Result<()> {
-    number(rt, a.a)?;
-    text(rt, b" smallest and ")?;
-    number(rt, a.b)?;
-    text(rt, b" largest elements")
+// Why a listing of rank top, or what is asked of it, is refused.
+#[derive(Clone, Copy)]
+pub struct Reason {
+    why: Refusal,
+    top: usize,
 }
 
-// An element with nothing under it, or nothing over it.
-fn nothing(rt: &impl Print, a: Answer) -> io::Result<()> {
-    element::one(rt, a.a, a.b)?;
-    if a.no == refusal::NO_SUBS {
-        text(rt, b" has nothing under it")
-    } else {
-        text(rt, b" has nothing over it")
+// A refusal that is not one of a listing's structure: there is no top to name.
+impl From<Refusal> for Reason {
+    fn from(why: Refusal) -> Self {
+        Reason { why, top: 0 }
     }
 }
 
-// An entry of an element, one rank lower or higher, that does not list the element back.
-fn not_back(rt: &impl Print, a: Answer) -> io::Result<()> {
-    if a.no == refusal::SUB_NOT_BACK {
-        element::one(rt, num::wrapping_sub_u16(a.a, 1), a.c)?;
-    } else {
-        element::one(rt, num::wrapping_add_u16(a.a, 1), a.c)?;
-    }
-    text(rt, b" does not list ")?;
-    element::one(rt, a.a, a.b)?;
-    text(rt, b" back")
+// The same, and then its number.
+#[derive(Drop)]
+pub struct Numbered(pub Reason);
+
+// What a test says: that it accepts, or why it refuses.
+#[derive(Drop)]
+pub struct Verdict(Option<Reason>);
+
+// The element that an entry of an element names: it lies one rank lower or higher.
+fn entered(of: Element, side: Side, entry: Index) -> Element {
+    let rank = match side {
+        Side::Subs => of.rank.wrapping_sub(1),
+        Side::Sups => of.rank.wrapping_add(1),
+    };
+    Element { rank, index: entry }
 }
 
-// An entry of an element that is not there.
-fn missing(rt: &impl Print, a: Answer) -> io::Result<()> {
-    element::one(rt, a.a, a.b)?;
-    if a.no == refusal::SUB_MISSING {
-        text(rt, b" lists sub ")?;
-    } else {
-        text(rt, b" lists sup ")?;
+// What an entry of a list is called.
+fn entry_of(side: Side) -> &'static str {
+    match side {
+        Side::Subs => "sub",
+        Side::Sups => "sup",
     }
-    number(rt, a.c)?;
-    text(rt, b", which is missing")
 }
 
-// A section without two elements: what its upper end has over the smallest element, or else what its lower end lies in.
-// An upper end of rank top is the whole cell, and goes without saying.
-fn section(rt: &impl Print, a: Answer, top: usize) -> io::Result<()> {
-    if a.a == 0 {
-        element::one(rt, a.c, a.d)?;
-        text(rt, b" has ")?;
-        element::several(rt, a.no, 1)
-    } else {
-        element::one(rt, a.a, a.b)?;
-        text(rt, b" lies in ")?;
-        element::several(rt, a.no, num::wrapping_add_u16(a.a, 1))?;
-        if a.c as usize != top {
-            text(rt, b" of ")?;
-            element::one(rt, a.c, a.d)?;
+// Where the elements of a list lie.
+fn place_of(side: Side) -> &'static str {
+    match side {
+        Side::Subs => "under",
+        Side::Sups => "over",
+    }
+}
+
+impl Reason {
+    // Why a listing with these counts is refused.
+    pub fn of(why: Refusal, counts: &[Index]) -> Self {
+        let top = listing_shape::rank(counts).unwrap_or(0);
+        Reason { why, top }
+    }
+
+    // A section without two elements between its ends: what its upper end has over the smallest element, or else what
+    // its lower end lies in. An upper end of rank top is the whole cell, and goes without saying.
+    fn section<W: fmt::Write, D: fmt::Display + Drop>(
+        &self,
+        f: &mut fmt::Formatter<W>,
+        low: Element,
+        high: Element,
+        between: D,
+    ) -> fmt::Result {
+        if low.rank == 0 {
+            write!(f, "{} has {between}", Name(high))
+        } else if usize::from(high.rank) == self.top {
+            write!(f, "{} lies in {between}", Name(low))
+        } else {
+            write!(f, "{} lies in {between} of {}", Name(low), Name(high))
         }
-        Ok(())
     }
 }
 
-// A list that does not ascend: subs or sups.
-fn not_ascending(rt: &impl Print, a: Answer) -> io::Result<()> {
-    if a.c == 0 {
-        text(rt, b"the subs of ")?;
-    } else {
-        text(rt, b"the sups of ")?;
-    }
-    element::one(rt, a.a, a.b)?;
-    text(rt, b" do not ascend")
-}
-
-// A refusal, of a listing of rank top where it is one of its structure. Each number has an arm of its own: arms for two
-// are slower to check.
-pub fn refusal(rt: &impl Print, a: Answer, top: usize) -> io::Result<()> {
-    let no = a.no;
-    match no {
-        refusal::NOT_BOUNDED => ends(rt, a),
-        refusal::NO_SUBS => nothing(rt, a),
-        refusal::NO_SUPS => nothing(rt, a),
-        refusal::SUB_NOT_BACK => not_back(rt, a),
-        refusal::SUP_NOT_BACK => not_back(rt, a),
-        refusal::SUB_MISSING => missing(rt, a),
-        refusal::SUP_MISSING => missing(rt, a),
-        refusal::THIRD_BETWEEN => section(rt, a, top),
-        refusal::LONE_BETWEEN => section(rt, a, top),
-        refusal::NOT_ASCENDING => not_ascending(rt, a),
-        _ => sentence::of(rt, no),
-    }
-}
-
-// What an answer says of a listing of rank top: that it accepts, or the refusal with its number.
-pub fn answer(rt: &impl Print, a: Answer, top: usize) -> io::Result<()> {
-    if a.no == 0 {
-        text(rt, b"accepts")
-    } else {
-        refusal(rt, a, top)?;
-        text(rt, b" (")?;
-        number(rt, a.no)?;
-        text(rt, b")")
+impl fmt::Display for Reason {
+    fn fmt<W: fmt::Write>(&self, f: &mut fmt::Formatter<W>) -> fmt::Result {
+        match self.why {
+            Refusal::NotBounded { smallest, largest } => {
+                write!(f, "{smallest} smallest and {largest} largest elements")
+            }
+            Refusal::Bare { of, side } => {
+                write!(f, "{} has nothing {} it", Name(of), place_of(side))
+            }
+            Refusal::NotBack { of, side, entry } => {
+                let other = entered(of, side, entry);
+                write!(f, "{} does not list {} back", Name(other), Name(of))
+            }
+            Refusal::Missing { of, side, entry } => {
+                let called = entry_of(side);
+                write!(f, "{} lists {called} {entry}, which is missing", Name(of))
+            }
+            Refusal::ThirdBetween { low, high } => {
+                self.section(f, low, high, MoreThanTwo(low.rank.wrapping_add(1)))
+            }
+            Refusal::LoneBetween { low, high } => {
+                self.section(f, low, high, OnlyOne(low.rank.wrapping_add(1)))
+            }
+            Refusal::NotAscending { of, side } => {
+                write!(f, "the {}s of {} do not ascend", entry_of(side), Name(of))
+            }
+            why => f.write_str(sentence::of(why)),
+        }
     }
 }
 
-// What a test says of a listing with these counts.
-pub fn verdict(rt: &impl Print, a: Answer, counts: &[Index]) -> io::Result<()> {
-    answer(rt, a, listing_shape::rank(counts).value)
+impl fmt::Display for Numbered {
+    fn fmt<W: fmt::Write>(&self, f: &mut fmt::Formatter<W>) -> fmt::Result {
+        write!(f, "{} ({})", self.0, Answer::from(self.0.why).no)
+    }
+}
+
+impl Verdict {
+    // What a test of a listing with these counts says.
+    pub fn of(why: Option<Refusal>, counts: &[Index]) -> Self {
+        Verdict(why.map(|why| Reason::of(why, counts)))
+    }
+}
+
+impl fmt::Display for Verdict {
+    fn fmt<W: fmt::Write>(&self, f: &mut fmt::Formatter<W>) -> fmt::Result {
+        match self.0 {
+            None => f.write_str("accepts"),
+            Some(reason) => write!(f, "{}", Numbered(reason)),
+        }
+    }
 }

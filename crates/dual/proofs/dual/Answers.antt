@@ -1,66 +1,60 @@
--- `dual`: the closed test, then the room, and then all that is asked for writing holds. Assumes nothing.
-use mathlib.Core.Path.{sym, ap, ◌∙◌}
+-- The closed test, then the room, and then all that is asked for writing holds.
+use mathlib.Core.Path.{refl, sym, ap, ◌∙◌}
 use mathlib.Core.List.{List}
 use Prim.Native.Nat.{ℕ}
 use native.Mathlib.Omega.{arith}
 use Rattle.order.specs.Lists.{over}
-use Rattle.listing.specs.Listing.{Listing, listing}
-use Rattle.listing.proofs.Answers.{then_stop}
+use Rattle.listing.specs.Listing.{Listing, listing, held}
+use Rattle.listing.proofs.Told.{then_halt}
 use Rattle.listing_outputs.specs.declared.outputs.Room.{Room}
 use Rattle.listing_outputs.specs.Output.{need_of}
-use Rattle.listing_outputs.proofs.Output.{made_refused, made_written}
+use Rattle.listing_outputs.proofs.Output.{made_err, made_ok}
 use Rattle.dual_theory.specs.Dual.{dual_of}
-use Rattle.dual_theory.proofs.DualLists.{dual_counts}
+use Rattle.dual_theory.proofs.DualLists.{dual_counts, dual_counts_length, dual_ends_length, dual_inc_length}
 use Rattle.dual.specs.Duals.{dual_test}
 use Rattle.dual.specs.Writing.{reversed}
-use Rattle.dual.proofs.DualBroken.{passed_shaped, same_need, room_answered, room_there}
+use Rattle.dual.proofs.DualBroken.{passed_shaped, room_answered, room_there}
 use Rattle.dual.proofs.dual.Goals as goal
 
-pub returns-then-c-ne0 : goal.returns-then-c-ne0
+pub returns-in_err-closed : goal.returns-in_err-closed
 unfolding dual_test
-returns-then-c-ne0 c =
-    let h = c.if-c-ne0.true in
-    made_refused _ _ h _ (then_stop _ c.closed-c.ensures h) _ _ (c.refused.ensures _ h)
+returns-in_err-closed c = made_err _ _ c.from_residual.ensures.1 (then_halt _ _ c.in_err-closed.ensures.value) _
 
-pub returns-then-t-ne0 : goal.returns-then-t-ne0
-returns-then-t-ne0 c =
-    let L : Listing = listing c.args.pcounts.now c.args.pends.now c.args.pinc.now in
+pub returns-in_err-check_room : goal.returns-in_err-check_room
+returns-in_err-check_room c =
     let room : Room = need_of (listing c.args.counts.now c.args.ends.now c.args.inc.now) in
-    let t = room_answered L _ _ room c.closed-c.ensures c.if-c-ne0.false c.check_room-t.ensures in
-    let h = c.if-t-ne0.true in
-    made_refused _ _ h _ t _ _ (c.refused-then-t-ne0.ensures _ h)
+    let t = room_answered (held c.args.slices) _ room c.in_ok-closed.ensures.value c.in_err-check_room.ensures in
+    made_err _ _ c.from_residual-in_err-check_room.ensures.1 t _
 
 pub put_counts-requires : goal.put_counts-requires
 put_counts-requires c =
-    let L : Listing = listing c.args.pcounts.now c.args.pends.now c.args.pinc.now in
     let room : Room = need_of (listing c.args.counts.now c.args.ends.now c.args.inc.now) in
-    (room_there L _ _ room c.closed-c.ensures c.if-c-ne0.false c.check_room-t.ensures c.if-t-ne0.false).0
+    let closed = c.in_ok-closed.ensures.value in
+    (room_there (held c.args.slices) _ room closed c.in_ok-check_room.ensures refl).0
 
 pub put_lists-requires : goal.put_lists-requires
 put_lists-requires c =
-    let L : Listing = listing c.args.pcounts.now c.args.pends.now c.args.pinc.now in
     let room : Room = need_of (listing c.args.counts.now c.args.ends.now c.args.inc.now) in
-    let f = room_there L _ _ room c.closed-c.ensures c.if-c-ne0.false c.check_room-t.ensures c.if-t-ne0.false in
-    record {
-      shaped = passed_shaped L _ c.closed-c.ensures c.if-c-ne0.false;
-      pends_in_bounds = (f.1, f.2);
-    }
+    let closed = c.in_ok-closed.ensures.value in
+    let f = room_there (held c.args.slices) _ room closed c.in_ok-check_room.ensures refl in
+    rw (c.cell-cell.ensures ∙ c.in_ok-closed.ensures.same) (f.1, f.2)
 
-pub written-requires : goal.written-requires
-written-requires c =
-    let L : Listing = listing c.args.pcounts.now c.args.pends.now c.args.pinc.now in
-    let S = passed_shaped L _ c.closed-c.ensures c.if-c-ne0.false in
+pub lengths-requires : goal.lengths-requires
+lengths-requires c =
+    let S = passed_shaped (held c.args.slices) c.in_ok-closed.ensures.value in
     (omega (arith, S.few_ranks), omega (arith, S.two_ends_each, S.few_elements), omega (arith, S.few_incidences))
 
 pub returns : goal.returns
 unfolding reversed
 returns c =
-    let L : Listing = listing c.args.pcounts.now c.args.pends.now c.args.pinc.now in
+    let L : Listing = held c.args.slices in
     let room : Room = need_of (listing c.args.counts.now c.args.ends.now c.args.inc.now) in
-    let S = passed_shaped L _ c.closed-c.ensures c.if-c-ne0.false in
-    let t = room_answered L _ _ room c.closed-c.ensures c.if-c-ne0.false c.check_room-t.ensures in
-    let z = c.if-t-ne0.false in
-    let w = c.written.ensures (dual_of L) (same_need L S) z in
-    let e = sym (dual_counts L S) in
-    let n = c.put_counts.ensures ∙ ap (λ (k : List ℕ). over k c.args.counts.now) e in
-    made_written _ _ z _ t _ _ _ w n c.put_lists.ensures.ends_after c.put_lists.ensures.inc_after
+    let closed = c.in_ok-closed.ensures.value in
+    let S = passed_shaped L closed in
+    let same = c.cell-cell.ensures ∙ c.in_ok-closed.ensures.same in
+    let put = rw same at c.put_lists.ensures in
+    let long = c.lengths.ensures in
+    let n = c.put_counts.ensures ∙ ap (λ (k : List ℕ). over k c.args.counts.now) (sym (dual_counts L S)) in
+    made_ok (room_answered L _ room closed c.in_ok-check_room.ensures) (dual_of L) _ _ _
+    (long.0 ∙ sym (dual_counts_length L S)) (long.1 ∙ sym (dual_ends_length L S))
+    (long.2 ∙ sym (dual_inc_length L S)) n put.ends_after put.inc_after

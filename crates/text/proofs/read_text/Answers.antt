@@ -1,71 +1,37 @@
--- `read_text`: the text's own test, then the room, and then all that is asked for writing holds. Assumes nothing.
-use mathlib.Core.Path.{◌≡◌, sym, ap, ◌∙◌}
-use mathlib.Core.List.{List}
-use Prim.Native.Nat.{ℕ}
-use native.Mathlib.Omega.{arith}
+-- The text's own test, then the room, and then all that is asked for writing holds.
+use mathlib.Core.Path.{ap, ◌∙◌}
 use Rattle.order.proofs.Lists.{zeros}
-use Rattle.listing.specs.declared.Answer.{Answer}
-use Rattle.listing.specs.Answers.{plain}
 use Rattle.listing.specs.Listing.{limits}
-use Rattle.listing.proofs.Answers.{no_of, or_no}
-use Rattle.listing_outputs.specs.Output.{Fits}
-use Rattle.listing_outputs.proofs.Output.{room_fits, made_refused, made_written}
-use Rattle.text_theory.specs.Said.{said, listing_in, text_test}
-use Rattle.text.specs.Texts.{read_test}
-use Rattle.text.proofs.Read.{read_stops, read_goes, text_source}
+use Rattle.listing_outputs.specs.declared.outputs.Room.{Room}
+use Rattle.listing_outputs.proofs.Output.{made_err, made_ok}
+use Rattle.text_theory.specs.Said.{said}
+use Rattle.text.proofs.Read.{read_halt, read_then, read_fits, text_source}
 use Rattle.text.proofs.read_text.Goals as goal
 
--- a text that no test refuses has a listing for which there is room
-room : (t : List ℕ) (c e i : ℕ) {a : Answer} → a ≡ read_test limits t c e i → (a.no ≡ 0) → Fits (listing_in t) c e i
-unfolding read_test
-room t c e i h z = room_fits (listing_in t) _ _ _ (or_no (text_test limits t) _ (no_of h z)).1
+pub measure-requires : goal.measure-requires
+measure-requires c = zeros limits.elements
 
-pub measure-s-requires : goal.measure-s-requires
-measure-s-requires c =
-    record {
-      elements_in_bounds = (omega arith, zeros limits.elements);
-      ranks_in_bounds = (omega arith, omega arith, omega arith);
-    }
+pub returns-in_err-need : goal.returns-in_err-need
+returns-in_err-need c = made_err _ _ c.from_residual.ensures.1 (read_halt _ _ _ _ _ c.in_err-need.ensures.test) _
 
-pub returns-then-s-ne0 : goal.returns-then-s-ne0
-returns-then-s-ne0 c =
-    let own : text_test limits c.args.text.now ≡ plain c.measure-s.result.no = c.measure-s.ensures.test in
-    let h = c.if-s-ne0.true in
-    let p = c.plain.ensures in
-    let R = listing_in c.args.text.now in
-    let n : c.plain.result.no ≡ 0 → ⊥ = λ z. h (sym (ap (λ (a : Answer). a.no) p) ∙ z) in
-    made_refused _ R n _ (p ∙ read_stops limits _ _ _ _ _ own h) _ _ (c.refused.ensures R n)
-
-pub returns-then-t-ne0 : goal.returns-then-t-ne0
-returns-then-t-ne0 c =
-    let m = c.measure-s.ensures in
-    let z = c.if-s-ne0.false in
-    let R = listing_in c.args.text.now in
-    let h = c.if-t-ne0.true in
-    let tested = read_goes limits _ _ _ _ _ m.test z _ (m.need z) _ c.check_room-t.ensures in
-    made_refused _ R h _ tested _ _ (c.refused-then-t-ne0.ensures R h)
+pub returns-in_err-check_room : goal.returns-in_err-check_room
+returns-in_err-check_room c =
+    let m = c.in_ok-need.ensures in
+    let e = read_then _ _ _ _ m.sizes.need m.test c.in_err-check_room.ensures in
+    made_err _ _ c.from_residual-in_err-check_room.ensures.1 e _
 
 pub build-requires : goal.build-requires
 build-requires c =
-    let m = c.measure-s.ensures in
-    let z = c.if-s-ne0.false in
-    let tested = read_goes limits _ _ _ _ _ m.test z _ (m.need z) _ c.check_room-t.ensures in
-    let fits = room c.args.text.now _ _ _ tested c.if-t-ne0.false in
-    (said c.args.text.now, text_source _ _ _ _ _ _ m z _ _ _ fits)
-
-pub written-requires : goal.written-requires
-written-requires c =
-    let e = c.measure-s.ensures in
-    let s = e.shaped c.if-s-ne0.false in
-    rw (e.need c.if-s-ne0.false)
-    (omega (arith, s.few_ranks), omega (arith, s.two_ends_each, s.few_elements), omega (arith, s.few_incidences))
+    let m = c.in_ok-need.ensures in
+    (said c.args.text.now, text_source m.sizes (read_fits _ _ _ _ m.sizes.need c.in_ok-check_room.ensures))
 
 pub returns : goal.returns
 returns c =
-    let m = c.measure-s.ensures in
-    let z = c.if-s-ne0.false in
-    let tested = read_goes limits _ _ _ _ _ m.test z _ (m.need z) _ c.check_room-t.ensures in
-    let fits = room c.args.text.now _ _ _ tested c.if-t-ne0.false in
-    let R = listing_in c.args.text.now in
-    let w = c.build.ensures (said c.args.text.now) (text_source _ _ _ _ _ _ m z _ _ _ fits) in
-    made_written _ R c.if-t-ne0.false _ tested _ _ _ (c.written.ensures R (m.need z) c.if-t-ne0.false) w.counts w.ends w.inc
+    let m = c.in_ok-need.ensures in
+    let e = read_then _ _ _ _ m.sizes.need m.test c.in_ok-check_room.ensures in
+    let source = text_source m.sizes (read_fits _ _ _ _ m.sizes.need c.in_ok-check_room.ensures) in
+    let o = c.build.ensures (said c.args.text.now) source in
+    let n = c.lengths.ensures in
+    let k = m.sizes.need in
+    made_ok e _ _ _ _ (n.0 ∙ ap (λ (r : Room). r.counts) k) (n.1 ∙ ap (λ (r : Room). r.ends) k)
+    (n.2 ∙ ap (λ (r : Room). r.inc) k) o.counts o.ends o.inc

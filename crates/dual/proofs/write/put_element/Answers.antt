@@ -32,7 +32,7 @@ put_list-requires c =
 
 pub returns : goal.returns
 returns c =
-    let turned : ℕ → List ℕ = turned_from c.args.pends.now c.args.pinc.now c.args.at in
+    let turned : ℕ → List ℕ = turned_from c.args.cell.slices.ends.now c.args.cell.slices.inc.now c.args.at in
     let u = c.list_of-sups.ensures ∙ sym (turned_sups _ _ c.args.at) in
     let v = c.list_of-subs.ensures ∙ sym (turned_subs _ _ c.args.at) in
     let a = lists_is _ _ _ _ _ _ _ turned u c.put_list-q.ensures in

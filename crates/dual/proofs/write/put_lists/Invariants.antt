@@ -2,7 +2,7 @@
 -- those of the first ranks. The r counts that are left are the first ones.
 -- Assumes nothing.
 use mathlib.Core.Path.{◌≡◌}
-use Rattle.listing.specs.Listing.{listing, before}
+use Rattle.listing.specs.Listing.{held, before}
 use Rattle.dual.specs.Writing.{ListsPut}
 use Rattle.dual.proofs.Backward.{FirstLeft, left_of}
 use Rattle.dual.proofs.Putting.{none}
@@ -12,8 +12,8 @@ use Rattle.dual.proofs.write.put_lists.Given as goal
 
 abbrev pub invariant-loop-n : goal.invariant-loop-n
 invariant-loop-n l =
-    let L = listing l.pcounts l.pends l.pinc in
+    let L = held l.cell.slices in
     let r = left_of l.n-iterator.iter in
-    FirstLeft l.pcounts l.n-iterator.iter × (l.here ≡ before l.pcounts r)
+    FirstLeft l.cell.slices.counts.now l.n-iterator.iter × (l.here ≡ before l.cell.slices.counts.now r)
     × ListsPut (dual_list L) (put_of L r) none l.initial.ends l.initial.inc l.ends
     l.inc l.p

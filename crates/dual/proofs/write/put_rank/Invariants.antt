@@ -6,4 +6,4 @@ use Rattle.dual.proofs.write.put_rank.Given as goal
 
 abbrev pub invariant-loop-k : goal.invariant-loop-k
 invariant-loop-k l =
-    ListsPut (turned_from l.pends l.pinc l.here) (2 * l.k) l.initial.q l.initial.ends l.initial.inc l.ends l.inc l.q
+    ListsPut (turned_from l.cell.slices.ends.now l.cell.slices.inc.now l.here) (2 * l.k) l.initial.q l.initial.ends l.initial.inc l.ends l.inc l.q

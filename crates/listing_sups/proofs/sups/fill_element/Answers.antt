@@ -19,14 +19,14 @@ pub fill_entry-requires-clause-x_in_bounds : goal.fill_entry-requires-clause-x_i
 fill_entry-requires-clause-x_in_bounds c = λ h.
     let v = c.loop-t.invariant in
     let r = element_room _ _ _ _ _ _ _ _ _ _ (omega arith, c.loop-t-test.true, c.requires.lo_le_hi.1)
-    c.requires.apart v.1 v.0 _ c.wide-x.ensures.0 h in
+    c.requires.apart v.1 v.0 _ c.from-x.ensures h in
     omega (arith, v.1.same_length, c.requires.lo_le_hi)
 
 pub fill_entry-requires-clause-x_bound : goal.fill_entry-requires-clause-x_bound
 fill_entry-requires-clause-x_bound c = λ h.
     let v = c.loop-t.invariant in
     let r = element_room _ _ _ _ _ _ _ _ _ _ (omega arith, c.loop-t-test.true, c.requires.lo_le_hi.1)
-    c.requires.apart v.1 v.0 _ c.wide-x.ensures.0 h in
+    c.requires.apart v.1 v.0 _ c.from-x.ensures h in
     omega (arith, c.requires.lo_le_hi)
 
 pub loop-t-preserved : goal.loop-t-preserved
@@ -34,7 +34,7 @@ loop-t-preserved c =
     let v = c.loop-t.invariant in
     let inside : (c.args.lo ≤ c.loop-t.t) × (c.loop-t.t < c.args.hi) × (c.args.hi ≤ length c.args.inc.now) =
     (omega arith, c.loop-t-test.true, c.requires.lo_le_hi.1) in
-    let x = c.wide-x.ensures.0 in
+    let x = c.from-x.ensures in
     let w = c.fill_entry.ensures in (
       element_raised _ _ _ _ _ _ _ _ _ _ inside c.requires.apart v.1 v.0 _ _ _ x w.raised w.strewn,
       element_strewn _ _ _ _ _ _ _ _ _ _ inside c.requires.apart v.1 v.0 _ _ _ x w.raised w.strewn,

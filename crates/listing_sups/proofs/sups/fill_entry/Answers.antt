@@ -6,7 +6,7 @@ use Rattle.listing_sups.proofs.sups.fill_entry.Goals as goal
 
 pub returns-then-x-n : goal.returns-then-x-n
 returns-then-x-n c =
-    rw c.wide-cursor.ensures.0 record {
+    rw c.from-cursor.ensures record {
       raised = raised_one _ _ _ _ c.if-x-n.true c.requires.n_in_bounds.0;
       strewn = strewn_one _ _ _ _ c.args.next.now _ c.if-x-n.true (c.requires.x_in_bounds c.if-x-n.true);
     }

@@ -17,7 +17,7 @@ fill_element-requires-clause-apart c =
     let q = c.requires in
     let v = c.loop-k.invariant in
     rank_apart _ _ _ _ _ _ _ _ _ _ q.ends q.m_in_bounds c.loop-k-test.true q.apart v.1 v.0 _ _ c.start_of-lo.ensures
-    c.wide-hi.ensures.0
+    c.from-hi.ensures
 
 pub loop-k-preserved : goal.loop-k-preserved
 loop-k-preserved c =
@@ -25,7 +25,7 @@ loop-k-preserved c =
     let v = c.loop-k.invariant in
     let i = c.loop-k-test.true in
     let lo = c.start_of-lo.ensures in
-    let hi = c.wide-hi.ensures.0 in
+    let hi = c.from-hi.ensures in
     let w = c.fill_element.ensures in (
       rank_raised _ _ _ _ _ _ _ _ _ _ q.ends q.m_in_bounds i q.apart v.1 v.0 _ _ lo hi _ _ w.raised w.strewn,
       rank_strewn _ _ _ _ _ _ _ _ _ _ q.ends q.m_in_bounds i q.apart v.1 v.0 _ _ lo hi _ _ w.raised w.strewn,

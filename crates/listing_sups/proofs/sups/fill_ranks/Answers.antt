@@ -18,24 +18,24 @@ loop-pair-init c =
 pub overflow_add-from : goal.overflow_add-from
 overflow_add-from c =
     let v = c.loop-pair.invariant in
-    let n = c.wide-n.ensures.0 in
-    let m = c.wide-m.ensures.0 in
+    let n = c.from-n.ensures in
+    let m = c.from-m.ensures in
     let p = pair_read _ _ _ _ _ _ _ _ v.0 v.1 c.in-Some.is c.next.ensures.steps n m in
     omega (arith, p.in_all, c.requires.fillable.few)
 
 pub fill_rank-requires-clause-n_in_bounds : goal.fill_rank-requires-clause-n_in_bounds
 fill_rank-requires-clause-n_in_bounds c =
     let v = c.loop-pair.invariant in
-    let n = c.wide-n.ensures.0 in
-    let m = c.wide-m.ensures.0 in
+    let n = c.from-n.ensures in
+    let m = c.from-m.ensures in
     let p = pair_read _ _ _ _ _ _ _ _ v.0 v.1 c.in-Some.is c.next.ensures.steps n m in
-    omega (arith, p.in_all, c.requires.counts_in_bounds, c.loop-pair.auto.next, c.wide-m.ensures)
+    omega (arith, p.in_all, c.requires.counts_in_bounds, c.loop-pair.auto.next, c.from-m.ensures)
 
 pub fill_rank-requires-clause-m_in_bounds : goal.fill_rank-requires-clause-m_in_bounds
 fill_rank-requires-clause-m_in_bounds c =
     let v = c.loop-pair.invariant in
-    let n = c.wide-n.ensures.0 in
-    let m = c.wide-m.ensures.0 in
+    let n = c.from-n.ensures in
+    let m = c.from-m.ensures in
     let p = pair_read _ _ _ _ _ _ _ _ v.0 v.1 c.in-Some.is c.next.ensures.steps n m in
     omega (arith, p.in_all, c.requires.fillable.two_each)
 
@@ -43,16 +43,16 @@ pub fill_rank-requires-clause-apart : goal.fill_rank-requires-clause-apart
 fill_rank-requires-clause-apart c =
     let L : Listing = listing c.args.counts.now c.args.ends.now c.args.inc.now in
     let v = c.loop-pair.invariant in
-    let n = c.wide-n.ensures.0 in
-    let m = c.wide-m.ensures.0 in
+    let n = c.from-n.ensures in
+    let m = c.from-m.ensures in
     let p = pair_read _ _ _ _ _ _ _ _ v.0 v.1 c.in-Some.is c.next.ensures.steps n m in
     rank_ready (turn L _ _ _ _ _ _ _ c.requires.fillable v.1 v.2 v.3 p)
 
 pub overflow_add-from-in-loop-pair : goal.overflow_add-from-in-loop-pair
 overflow_add-from-in-loop-pair c =
     let v = c.loop-pair.invariant in
-    let n = c.wide-n.ensures.0 in
-    let m = c.wide-m.ensures.0 in
+    let n = c.from-n.ensures in
+    let m = c.from-m.ensures in
     let p = pair_read _ _ _ _ _ _ _ _ v.0 v.1 c.in-Some.is c.next.ensures.steps n m in
     omega (arith, p.in_all, c.requires.fillable.few)
 
@@ -60,8 +60,8 @@ pub loop-pair-preserved : goal.loop-pair-preserved
 loop-pair-preserved c =
     let L : Listing = listing c.args.counts.now c.args.ends.now c.args.inc.now in
     let v = c.loop-pair.invariant in
-    let n = c.wide-n.ensures.0 in
-    let m = c.wide-m.ensures.0 in
+    let n = c.from-n.ensures in
+    let m = c.from-m.ensures in
     let p = pair_read _ _ _ _ _ _ _ _ v.0 v.1 c.in-Some.is c.next.ensures.steps n m in
     let t = turn L _ _ _ _ _ _ _ c.requires.fillable v.1 v.2 v.3 p in
     let w = c.fill_rank.ensures in (

@@ -14,4 +14,4 @@ tally_entry-requires-clause-x_bound c =
 pub loop-x-preserved : goal.loop-x-preserved
 loop-x-preserved c =
     raised_then _ _ _ _ _ _ _ _ c.loop-x.invariant c.tally_entry.ensures
-    (λ y. occurs_take y c.args.list.now _ _ c.loop-x-test.true c.wide.ensures.0)
+    (λ y. occurs_take y c.args.list.now _ _ c.loop-x-test.true c.from.ensures)

@@ -16,7 +16,7 @@ pub tally_list-requires-clause-by_index : goal.tally_list-requires-clause-by_ind
 tally_list-requires-clause-by_index c =
     let e = c.args.here + c.loop-a.a in
     rank_few _ _ c.requires.ends e (omega (arith, c.requires.m_in_bounds)) _ c.loop-a.invariant.1 _
-    c.list_of.ensures (omega (arith, c.type_inv.ends (2 * e)))
+    c.list_of.ensures.value c.list_of.ensures.end_fits
 
 pub loop-a-preserved : goal.loop-a-preserved
 loop-a-preserved c =
@@ -24,8 +24,8 @@ loop-a-preserved c =
     let w = c.tally_list.ensures in
     let e = c.args.here + c.loop-a.a in
     let z : c.args.here + (c.loop-a.a + 1) ≡ e + 1 = omega arith in (
-      rank_next _ _ _ _ _ _ _ _ _ _ v.0 w c.list_of.ensures,
+      rank_next _ _ _ _ _ _ _ _ _ _ v.0 w c.list_of.ensures.value,
       rw z
           (rank_most _ _ c.requires.ends e (omega (arith, c.requires.m_in_bounds)) _ v.1 _
-          c.list_of.ensures _ _ _ w),
+          c.list_of.ensures.value _ _ _ w),
     )

@@ -11,5 +11,5 @@ use Rattle.listing_sups.proofs.sups.tally_rank.Given as goal
 
 abbrev pub invariant-loop-a : goal.invariant-loop-a
 invariant-loop-a l =
-    Raised l.from l.n (λ y. sum (λ b. occurs y (subs_at l.ends l.inc l.here b)) l.a) l.initial.up l.up
-    × ((k : ℕ) → get_or l.up k 0 ≤ start l.ends (2 * (l.here + l.a)))
+    Raised l.from l.n (λ y. sum (λ b. occurs y (subs_at l.slices.ends.now l.slices.inc.now l.here b)) l.a) l.initial.up l.up
+    × ((k : ℕ) → get_or l.up k 0 ≤ start l.slices.ends.now (2 * (l.here + l.a)))

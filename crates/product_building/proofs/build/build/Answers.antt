@@ -1,10 +1,9 @@
--- `build`: what put_counts, put_elements and fill leave is the product.
--- Assumes nothing.
+-- What put_counts, put_elements and fill leave is the product.
 use mathlib.Core.Path.{sym}
 use native.Mathlib.Omega.{arith}
 use lib.Seq.{length-take-le}
 use Rattle.order.proofs.Lists.{zeros}
-use Rattle.listing.specs.Listing.{listing, limits}
+use Rattle.listing.specs.Listing.{held, limits}
 use Rattle.listing_sups.proofs.Unfilled.{fill_asked, filled_all}
 use Rattle.product_building.proofs.Built.{Buildable, counts_room, BeforeFill, product_unfilled}
 use Rattle.product_building.proofs.build.build.Goals as goal
@@ -18,8 +17,8 @@ tally-requires-2-clause-by_index c = zeros limits.elements
 
 pub put_counts-ranks-requires-clause-q_in_bounds : goal.put_counts-ranks-requires-clause-q_in_bounds
 put_counts-ranks-requires-clause-q_in_bounds c =
-    let ready : Buildable c.args.poles (listing c.args.p.now c.args.pends.now c.args.pinc.now)
-    (listing c.args.q.now c.args.qends.now c.args.qinc.now) c.args.counts.now c.args.ends.now c.args.inc.now = record {
+    let a = c.args in
+    let ready : Buildable a.poles (held a.p) (held a.q) a.counts.now a.ends.now a.inc.now = record {
       plan = c.requires.plan;
       room = c.requires.qinc_in_bounds;
     } in
@@ -27,8 +26,8 @@ put_counts-ranks-requires-clause-q_in_bounds c =
 
 -- what is written before the sups are filled in
 before : (c : After-put_elements-n) → let a = c.args in
-    BeforeFill a.poles (listing a.p.now a.pends.now a.pinc.now) (listing a.q.now a.qends.now a.qinc.now)
-    a.counts.now a.ends.now a.inc.now c.put_counts-ranks.new.counts c.put_elements-n.new.ends c.put_elements-n.new.inc
+    BeforeFill a.poles (held a.p) (held a.q) a.counts.now a.ends.now a.inc.now
+    c.put_counts-ranks.new.counts c.put_elements-n.new.ends c.put_elements-n.new.inc
     c.put_counts-ranks.result c.put_elements-n.result
 before c =
     let a = c.put_counts-ranks.ensures in

@@ -1,5 +1,4 @@
--- `put_counts`: the three parts, each where the one before ended, are the counts.
--- Assumes nothing.
+-- The three parts, each where the one before ended, are the counts.
 use Rattle.product_building.proofs.CountsLaid.{counts_laid}
 use Rattle.product_building.proofs.build.put_counts.Goals as goal
 

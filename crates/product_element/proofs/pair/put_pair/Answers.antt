@@ -1,9 +1,8 @@
--- `put_pair`: the plan says what the pair has under it and how many lie over it, and put_element writes that.
--- Assumes nothing.
+-- The plan says what the pair has under it and how many lie over it, and put_element writes that.
 use Prim.Native.Nat.{◌+◌, ◌*◌, ◌≤◌, ◌<◌}
 use native.Mathlib.Omega.{arith}
 use lib.ListN.{length}
-use Rattle.listing.specs.Listing.{listing, width, limits}
+use Rattle.listing.specs.Listing.{width, limits}
 use Rattle.product_places.proofs.Numbers.{bit_le}
 use Rattle.product_element.proofs.Fits.{PairIn, right_there, up_p, up_q, cap_few, index, index_few}
 use Rattle.product_element.proofs.Fits.{left_shift_few, right_shift_few, InHand, pair_asked, pair_put}
@@ -12,8 +11,7 @@ use Rattle.product_element.proofs.pair.put_pair.Goals.{Start, After-get_element_
 
 -- the pair that is asked for
 asked : (c : Start) → let a = c.args in
-    PairIn a.poles (listing a.p.now a.pends.now a.pinc.now) (listing a.q.now a.qends.now a.qinc.now)
-    a.psups.now a.qsups.now a.ends.now a.inc.now a.block a.pair.a a.pair.b
+    PairIn a.factors a.ends.now a.inc.now a.block a.pair.a a.pair.b
 asked c =
     let l = c.requires.a_bound in
     record { ready = c.requires.writable; block = c.requires.block_of; left = l.0; right = l.1 }
@@ -22,7 +20,7 @@ asked c =
 small : (c : Start) → let a = c.args.pair.a in
     let b = c.args.pair.b in
     let B = c.args.block in
-    (2 * (B.base + B.qbefore + b) + 0 < length c.args.qends.now)
+    (2 * (B.base + B.qbefore + b) + 0 < length c.args.factors.q.slices.ends.now)
     × (B.base ≤ 1)
     × (B.pbefore + a ≤ limits.elements)
     × (B.qbefore + b ≤ limits.elements)
@@ -35,7 +33,7 @@ small c =
     let x = asked c in
     let r = right_shift_few x in (
       right_there x,
-      omega (arith, c.requires.block_of.base, bit_le c.args.poles.min),
+      omega (arith, c.requires.block_of.base, bit_le c.args.factors.poles.min),
       up_p x,
       up_q x,
       cap_few x,
@@ -47,9 +45,8 @@ small c =
 
 -- what is in hand when it is written
 hand : (c : After-get_element_index-e) → let a = c.args in
-    InHand a.poles (listing a.p.now a.pends.now a.pinc.now) (listing a.q.now a.qends.now a.qinc.now)
-    a.psups.now a.qsups.now a.ends.now a.inc.now a.block a.pair.a a.pair.b
-    a.left.now c.subs_in_use-right.result.now c.sups_over-sups.result c.get_element_index-e.result a.at
+    InHand a.factors a.ends.now a.inc.now a.block a.pair.a a.pair.b a.left.now c.subs_in_use-right.result.now
+    c.sups_over-sups.result c.get_element_index-e.result a.at
 hand c =
     let l = c.requires.a_bound in
     record {

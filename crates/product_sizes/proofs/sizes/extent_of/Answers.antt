@@ -1,5 +1,4 @@
--- `extent_of`: there is a rank in use, its counts are small, and what is counted is what the layers in use have.
--- Assumes nothing.
+-- There is a rank in use, its counts are small, and what is counted is what the layers in use have.
 use mathlib.Core.Path.{refl, ◌∙◌}
 use Prim.Native.Nat.{◌+◌, ◌*◌, ◌≤◌, ◌<◌}
 use native.Mathlib.Omega.{arith}
@@ -18,7 +17,7 @@ asked : (c : After-range-p) → let a = c.args in
     let x = c.range-p.result.now in
     let n = before x (length x) in
     (0 < length x) × (length x ≤ limits.ranks) × (get_or x 0 0 ≤ n) × (bit a.poles.min + n ≤ limits.elements)
-    × (2 * (bit a.poles.min + n) ≤ length a.ends.now)
+    × (2 * (bit a.poles.min + n) ≤ length a.slices.ends.now)
 asked c = room _ _ _ c.requires _ c.range-p.ensures
 
 pub elements_before-elements-requires : goal.elements_before-elements-requires
@@ -51,7 +50,7 @@ subs_listed-subs-requires c =
     let b = c.from-base.ensures ∙ bit_is _ in record {
       ends = shaped_ends _ S;
       from_le_to = (
-        omega (arith, c.wide-lowest.ensures.0),
+        omega (arith, c.from-lowest.ensures),
         omega arith,
         omega arith,
         S.few_incidences,
@@ -62,8 +61,8 @@ pub returns : goal.returns
 returns c =
     let u = c.requires in
     let n = c.elements_before-elements.ensures in
-    let l = c.wide-lowest.ensures.0 in
-    let h = c.wide-highest.ensures.0 in
+    let l = c.from-lowest.ensures in
+    let h = c.from-highest.ensures in
     let k = c.range-p.ensures in
     let b = c.from-base.ensures ∙ bit_is _ in record {
       little = little _ _ _ u _ k _ refl n l h _ b c.subs_listed-subs.ensures.upper_bound;

@@ -1,6 +1,5 @@
--- `put_elements`: the lowest element, the pairs and the highest one follow one another, each where the one before
+-- The lowest element, the pairs and the highest one follow one another, each where the one before
 -- ended.
--- Assumes nothing.
 use mathlib.Core.Path.{refl}
 use Prim.Native.Nat.{◌+◌}
 use native.Mathlib.Omega.{arith}
@@ -24,14 +23,6 @@ put_ranks-to-requires-clause-at_value c =
     let low = min_put _ _ _ _ _ _ c.requires.plan _ _ _ c.args.inc.now _ refl c.pairs_in-lowest.ensures w.value
     w.ends_after in
     low.place
-
-pub put_max-requires-clause-max_in_bounds : goal.put_max-requires-clause-max_in_bounds
-put_max-requires-clause-max_in_bounds c =
-    let e = c.from.result + c.pairs_to.result in
-    let b = c.put_ranks-to.ensures in
-    let s = c.pairs_in-highest.ensures in
-    let r = max_asked _ _ _ _ _ _ c.requires.plan _ _ e b.place s (omega (arith, bit_is)) in
-    omega (arith, r)
 
 pub put_max-requires-clause-n_in_bounds : goal.put_max-requires-clause-n_in_bounds
 put_max-requires-clause-n_in_bounds c =

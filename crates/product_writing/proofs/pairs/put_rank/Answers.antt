@@ -1,11 +1,10 @@
--- `put_rank`: each block stands where the one before ended, and behind the last begins the next rank.
--- Assumes nothing.
+-- Each block stands where the one before ended, and behind the last begins the next rank.
 use mathlib.Core.Path.{◌≡◌}
 use Prim.Native.Nat.{ℕ, ◌+◌, ◌-◌}
 use native.Mathlib.Omega.{arith}
 use Rattle.listing_sups.proofs.Laying.{put_then}
-use Rattle.product_places.specs.Places.{first_at}
 use Rattle.product_places.proofs.Numbers.{first_next}
+use Rattle.product_element.specs.Writing.{first_in}
 use Rattle.product_element.proofs.Fits.{first_few, block_put}
 use Rattle.product_writing.proofs.pairs.put_rank.Goals as goal
 
@@ -21,7 +20,7 @@ block_of-block-requires-clause-i_bound c =
 
 pub loop-i-preserved : goal.loop-i-preserved
 loop-i-preserved c =
-    let number : ℕ → ℕ = λ i. first_at c.args.poles.min c.args.p.now c.args.q.now c.args.rank i in
+    let number : ℕ → ℕ = first_in c.args.factors c.args.rank in
     let i = c.loop-i.i in
     let whole : i + (c.args.rank - i) ≡ c.args.rank = omega arith in
     put_then _ (number 0) (number i) (number (i + 1)) _ _ _ _ _ _ _ _ c.loop-i.invariant
@@ -29,6 +28,6 @@ loop-i-preserved c =
 
 pub returns : goal.returns
 returns c =
-    let s = c.args in
-    let e : c.loop-i.i ≡ s.rank + 1 = omega arith in
-    rw (← first_next s.poles.min s.p.now s.q.now s.rank, ← e) c.loop-i.invariant
+    let f = c.args.factors in
+    let e : c.loop-i.i ≡ c.args.rank + 1 = omega arith in
+    rw (← first_next f.poles.min f.p.slices.counts.now f.q.slices.counts.now c.args.rank, ← e) c.loop-i.invariant

@@ -1,17 +1,16 @@
--- `put_ranks`: each rank stands where the one before ended, and the pairs are few.
--- Assumes nothing.
+-- Each rank stands where the one before ended, and the pairs are few.
 use mathlib.Core.Path.{refl}
 use Prim.Native.Nat.{ℕ, ◌+◌}
 use native.Mathlib.Omega.{arith}
 use Rattle.listing_sups.proofs.Laying.{put_none, put_then}
-use Rattle.product_places.specs.Places.{first_at}
 use Rattle.product_places.proofs.Numbers.{bit_is, pairs_none, pairs_next}
+use Rattle.product_element.specs.Writing.{first_in}
 use Rattle.product_element.proofs.Fits.{first_few}
 use Rattle.product_writing.proofs.pairs.put_ranks.Goals as goal
 
 pub loop-rank-init : goal.loop-rank-init
 loop-rank-init c = (
-  omega (arith, c.from-start.ensures, bit_is, pairs_none c.args.p.now c.args.q.now),
+  omega (arith, c.from-start.ensures, bit_is, pairs_none c.args.factors.p.slices.counts.now c.args.factors.q.slices.counts.now),
   put_none _ _ _ _ _ _ c.requires.at_value refl,
 )
 
@@ -27,9 +26,9 @@ overflow_add-start c =
 
 pub loop-rank-preserved : goal.loop-rank-preserved
 loop-rank-preserved c =
-    let number : ℕ → ℕ = λ r. first_at c.args.poles.min c.args.p.now c.args.q.now r 0 in
+    let number : ℕ → ℕ = λ r. first_in c.args.factors r 0 in
     let r = c.loop-rank.rank in
     let v = c.loop-rank.invariant in (
-      omega (arith, v.0, c.pairs_in-start.ensures, pairs_next c.args.p.now c.args.q.now r),
+      omega (arith, v.0, c.pairs_in-start.ensures, pairs_next),
       put_then _ (number 0) (number r) (number (r + 1)) _ _ _ _ _ _ _ _ v.1 c.put_rank-to.ensures,
     )

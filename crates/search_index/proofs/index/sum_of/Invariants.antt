@@ -3,7 +3,7 @@
 -- Assumes nothing.
 use mathlib.Core.Path.{◌≡◌}
 use Prim.Native.Nat.{◌+◌, ◌*◌, ◌≤◌}
-use lib.ListN.{length, take, drop}
+use lib.ListN.{length, drop}
 use Rattle.listing.specs.Listing.{width}
 use Rattle.search_index.specs.Hash.{hashes, sum_from}
 use Rattle.search_index.proofs.index.sum_of.Given as goal
@@ -12,4 +12,4 @@ abbrev pub invariant-loop-x : goal.invariant-loop-x
 invariant-loop-x l =
     let r = length l.yielded in
     (l.sum ≤ r * (width * hashes))
-    × (sum_from 0 (take l.w l.flag) ≡ l.sum + sum_from r (drop r (take l.w l.flag)))
+    × (sum_from 0 l.flag ≡ l.sum + sum_from r (drop r l.flag))

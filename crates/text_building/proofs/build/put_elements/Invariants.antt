@@ -10,5 +10,5 @@ use Rattle.text_building.proofs.build.put_elements.Given as goal
 
 abbrev pub invariant-loop-e : goal.invariant-loop-e
 invariant-loop-e l = (lists : ℕ → List ℕ)
-    → Flat lists l.many l.subs l.up l.n (length l.initial.ends) (length l.initial.inc)
+    → Flat lists l.notes.many l.notes.subs l.notes.up l.n (length l.initial.ends) (length l.initial.inc)
     → Reached lists l.e l.p l.initial.ends l.initial.inc l.ends l.inc

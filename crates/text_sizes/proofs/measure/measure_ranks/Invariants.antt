@@ -8,5 +8,5 @@ use Rattle.text_sizes.specs.Measure.{CountsNoted, Arrived}
 use Rattle.text_sizes.proofs.measure.measure_ranks.Given as goal
 
 abbrev pub invariant-loop : goal.invariant-loop
-invariant-loop l = Arrived limits l.text l.s l.up l.many l.subs × CountsNoted limits (said l.text) l.s.rank l.noted
-    × (l.s.no ≡ 0) × (l.s.rank ≡ l.counter)
+invariant-loop l = Arrived limits l.text l.s l.notes.up l.notes.many l.notes.subs
+    × CountsNoted limits (said l.text) l.s.rank l.notes.counts × (l.s.rank ≡ l.counter)

@@ -4,11 +4,11 @@
 use mathlib.Core.Path.{◌≡◌}
 use Prim.Native.Nat.{◌+◌, ◌*◌, ◌≤◌}
 use lib.ListN.{length}
-use Rattle.listing.specs.Listing.{listing, width}
+use Rattle.listing.specs.Listing.{held, width}
 use Rattle.listing.specs.Written.{joined}
 use Rattle.text_writing.proofs.Ranks.{count_bytes, subs_bytes}
 use Rattle.text_writing.proofs.length.rank_length.Given as goal
 
 abbrev pub invariant-loop-i : goal.invariant-loop-i
-invariant-loop-i l = let L = listing l.counts l.ends l.inc in
+invariant-loop-i l = let L = held l.cell.slices in
     (l.n ≡ length (count_bytes L l.r) + length (joined (subs_bytes L l.r) l.i)) × (l.n ≤ 8 * width * (l.i + 1))

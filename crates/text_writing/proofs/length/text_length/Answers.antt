@@ -3,33 +3,22 @@ use native.Mathlib.Omega.{arith}
 use mathlib.Core.Path.{◌≡◌, sym, ◌∙◌}
 use Prim.Native.Nat.{◌+◌}
 use lib.ListN.{length}
-use Rattle.listing.specs.Listing.{listing}
-use Rattle.listing.specs.Layers.{layers}
 use Rattle.listing.specs.Written.{joined}
 use Rattle.listing.proofs.Listing.{before_zero, before_next}
 use Rattle.listing.proofs.Places.{few_before}
-use Rattle.listing.proofs.Written.{joined_longer}
-use Rattle.text_theory.specs.Text.{rank_bytes}
 use Rattle.text_writing.proofs.Ranks as ranks
 use Rattle.text_writing.proofs.length.text_length.Goals as goal
 
 pub loop-r-init : goal.loop-r-init
 unfolding joined
-loop-r-init c = (sym (before_zero c.args.counts.now), omega arith, omega arith)
+loop-r-init c = (sym (before_zero c.args.cell.slices.counts.now), omega arith, omega arith)
 
 pub overflow_add-here : goal.overflow_add-here
 overflow_add-here c =
-    omega (arith, before_next c.args.counts.now c.loop-r.r, few_before _ c.requires (c.loop-r.r + 1))
-
-pub loop-r-preserved : goal.loop-r-preserved
-loop-r-preserved c =
-    let L = listing c.args.counts.now c.args.ends.now c.args.inc.now in (
-      omega (arith, before_next c.args.counts.now c.loop-r.r),
-      omega (arith, joined_longer (rank_bytes (layers L)) c.loop-r.r),
-      omega arith,
-    )
+    let b = before_next c.args.cell.slices.counts.now c.loop-r.r in
+    omega (arith, b, few_before _ c.args.cell.shaped (c.loop-r.r + 1))
 
 pub returns : goal.returns
 returns c =
-    let e : c.loop-r.r ≡ length c.args.counts.now = omega arith in
-    rw e at c.loop-r.invariant.1 ∙ sym (ranks.text_length _ c.requires)
+    let e : c.loop-r.r ≡ length c.args.cell.slices.counts.now = omega arith in
+    rw e at c.loop-r.invariant.1 ∙ sym (ranks.text_length _ c.args.cell.shaped)

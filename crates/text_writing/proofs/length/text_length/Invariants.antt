@@ -4,7 +4,7 @@
 use mathlib.Core.Path.{◌≡◌}
 use Prim.Native.Nat.{◌+◌, ◌*◌, ◌≤◌}
 use lib.ListN.{length}
-use Rattle.listing.specs.Listing.{listing, width, before}
+use Rattle.listing.specs.Listing.{held, width, before}
 use Rattle.listing.specs.Layers.{layers}
 use Rattle.listing.specs.Written.{joined}
 use Rattle.text_theory.specs.Text.{rank_bytes}
@@ -12,6 +12,6 @@ use Rattle.text_writing.proofs.Ranks.{rank_first}
 use Rattle.text_writing.proofs.length.text_length.Given as goal
 
 abbrev pub invariant-loop-r : goal.invariant-loop-r
-invariant-loop-r l = let L = listing l.counts l.ends l.inc in
-    (l.here ≡ before l.counts l.r) × (l.n ≡ length (rank_first L) + length (joined (rank_bytes (layers L)) l.r))
+invariant-loop-r l = let L = held l.cell.slices in
+    (l.here ≡ before L.counts l.r) × (l.n ≡ length (rank_first L) + length (joined (rank_bytes (layers L)) l.r))
     × (l.n ≤ 8 * width * width * (l.r + 1))

@@ -17,13 +17,13 @@ loop-i-init c = parts_none _ _ _
 pub put_line-p-requires : goal.put_line-p-requires
 unfolding lines_from
 put_line-p-requires c =
-    let own = ap (λ (l : List ℕ). length (line_bytes (line subs_key l))) c.side_of-subs.ensures in
-    let f = line_from c.args.ends.now c.args.inc.now c.args.here in
+    let own = ap (λ (l : List ℕ). length (line_bytes (line subs_key l))) c.side_of.ensures in
+    let f = line_from c.args.cell.slices.ends.now c.args.cell.slices.inc.now c.args.here in
     omega (arith, own, parts_room f _ _ _ _ _ c.loop-i.invariant c.args.n c.loop-i-test.true c.requires.n_bound)
 
 pub loop-i-preserved : goal.loop-i-preserved
 loop-i-preserved c =
-    let own = ap (λ (l : List ℕ). line_bytes (line subs_key l)) c.side_of-subs.ensures in
+    let own = ap (λ (l : List ℕ). line_bytes (line subs_key l)) c.side_of.ensures in
     parts_next _ _ _ _ _ _ c.loop-i.invariant _ _ (put_as own c.put_line-p.ensures)
 
 pub returns : goal.returns

@@ -5,4 +5,6 @@ use Rattle.text_writing.specs.Writing.{line_from, PutAt}
 use Rattle.text_writing.proofs.write.put_elements.Given as goal
 
 abbrev pub invariant-loop-i : goal.invariant-loop-i
-invariant-loop-i l = PutAt (joined (line_from l.ends l.inc l.here) l.i) l.at l.initial.text l.text l.p
+invariant-loop-i l =
+    let lines = line_from l.cell.slices.ends.now l.cell.slices.inc.now l.here in
+    PutAt (joined lines l.i) l.at l.initial.text l.text l.p

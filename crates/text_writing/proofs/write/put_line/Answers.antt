@@ -5,26 +5,6 @@ use lib.ListN.{length}
 use Rattle.text_writing.proofs.Parts.{line_length, line_put}
 use Rattle.text_writing.proofs.write.put_line.Goals as goal
 
-pub put_key-from-requires : goal.put_key-from-requires
-put_key-from-requires c = omega (arith, line_length c.args.key.now c.args.list.now)
-
-pub put_row-end-requires : goal.put_row-end-requires
-put_row-end-requires c =
-    let k = c.put_key-from.ensures in
-    omega (arith, line_length c.args.key.now c.args.list.now, k.next, k.laid.same_length)
-
-pub bounds-text-end : goal.bounds-text-end
-bounds-text-end c =
-    let k = c.put_key-from.ensures in
-    let r = c.put_row-end.ensures in
-    omega (arith, line_length c.args.key.now c.args.list.now, k.next, r.next, k.laid.same_length, r.laid.same_length)
-
-pub overflow_add-result : goal.overflow_add-result
-overflow_add-result c =
-    let k = c.put_key-from.ensures in
-    let r = c.put_row-end.ensures in
-    omega (arith, line_length c.args.key.now c.args.list.now, k.next, r.next, k.laid.same_length, r.laid.same_length)
-
 pub returns : goal.returns
 returns c =
     let k = c.put_key-from.ensures in

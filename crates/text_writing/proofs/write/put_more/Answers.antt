@@ -1,14 +1,9 @@
 -- `put_more`. There is room for a comma and the next number, as there is for all. Assumes nothing.
 use native.Mathlib.Omega.{arith}
-use mathlib.Core.Path.{sym}
 use lib.ListN.{length-set}
 use Rattle.text_theory.specs.Text.{comma}
-use Rattle.text_writing.proofs.Putting.{put_none, put_as}
-use Rattle.text_writing.proofs.Rows.{parted_none, row_room, row_next}
+use Rattle.text_writing.proofs.Rows.{row_room, row_next}
 use Rattle.text_writing.proofs.write.put_more.Goals as goal
-
-pub loop-x-init : goal.loop-x-init
-loop-x-init c = put_as (sym parted_none) (put_none _ _)
 
 pub bounds-text-p : goal.bounds-text-p
 bounds-text-p c = omega (arith, row_room _ _ c.loop-x.invariant c.loop-x-test.true c.requires)

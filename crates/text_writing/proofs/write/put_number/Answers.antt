@@ -1,13 +1,7 @@
 -- `put_number`. All but the first digit from the last on, and then the first (Spelling). Assumes nothing.
 use native.Mathlib.Omega.{arith}
-use Rattle.text_writing.proofs.Numbers.{spelling_begun, spelling_next, spelling_first, spelling_done}
+use Rattle.text_writing.proofs.Numbers.{spelling_first, spelling_done}
 use Rattle.text_writing.proofs.write.put_number.Goals as goal
-
-pub loop-p-init : goal.loop-p-init
-loop-p-init c = spelling_begun _ _ _ _ (omega (arith, c.digits.ensures.0))
-
-pub loop-p-preserved : goal.loop-p-preserved
-loop-p-preserved c = spelling_next _ _ _ c.requires _ _ _ c.loop-p.invariant c.loop-p-test.true
 
 pub overflow_cast-text-2 : goal.overflow_cast-text-2
 overflow_cast-text-2 c =

@@ -1,6 +1,4 @@
--- `all_met`. Invariant: the cursors of the elements before `at` have come to the end, and where `some` is set these
--- have sups.
--- Assumes nothing.
+-- Invariant: the cursors of the elements before `at` have come to the end, and where `some` is set these have sups.
 use mathlib.Core.Path.{◌≡◌}
 use mathlib.Core.Bool.{true}
 use Rattle.valid.specs.Agreement.{AllMet, SomeSups}

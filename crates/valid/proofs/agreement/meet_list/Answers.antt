@@ -16,9 +16,9 @@ loop-s-preserved c =
     let v = c.loop-s.invariant in
     let t = c.loop-s-test.true in
     let s = get_or c.args.subs.now c.loop-s.s-index 0 in
-    let f : c.loop-s.from ≤ s = omega (arith, c.if-wide-from.false, c.wide.ensures.0) in
+    let f : c.loop-s.from ≤ s = omega (arith, c.if-from.false, c.from.ensures) in
     let m = c.meet.ensures c.if-not-meet.false in (
       subs_next _ _ _ t refl _ v.1 f _ c.if-low-s.false v.0,
-      λ y k. omega (arith, below_next _ _ _ t refl _ v.1 f y k, c.wide-from.ensures.0),
+      λ y k. omega (arith, below_next _ _ _ t refl _ v.1 f y k, c.from-from.ensures),
       met_next _ _ _ t refl _ _ _ _ _ _ v.2 m,
     )

@@ -5,16 +5,13 @@ use Prim.Native.Nat.{◌<◌}
 use lib.ListN.{length}
 use Rattle.std.proofs.lemmas.Bool.Decides.{nat_tests}
 use native.Mathlib.Omega.{arith}
-use Rattle.valid.proofs.Agreeing.{met_none, gather_none, all_below_next, met_all_next}
+use Rattle.valid.proofs.Agreeing.{all_below_next, met_all_next}
 use Rattle.valid.proofs.agreement.meet_rank.Goals as goal
-
-pub loop-x-init : goal.loop-x-init
-loop-x-init c = (λ k h. absurd (omega arith), met_none _ _ _ _ (gather_none _))
 
 pub loop-x-preserved : goal.loop-x-preserved
 loop-x-preserved c =
     let l = c.loop-x in
-    let f = subs_at c.args.ends.now c.args.inc.now c.args.high.place in
+    let f = subs_at c.args.cell.slices.ends.now c.args.cell.slices.inc.now c.args.high.place in
     let e = c.side_of-subs.ensures in
     let m = c.meet_list.ensures in
     let t = c.if-not-meet_list.false in

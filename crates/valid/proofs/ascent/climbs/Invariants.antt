@@ -1,5 +1,4 @@
--- `climbs`. Invariant: the list climbs from 0 exactly if what is left of it climbs from `from`.
--- Assumes nothing.
+-- Invariant: the list climbs from 0 exactly if what is left of it climbs from `from`.
 use mathlib.Core.Path.{◌≡◌}
 use lib.ListN.{drop}
 use Rattle.valid.specs.Ascent.{climbs}

@@ -1,5 +1,4 @@
 -- Invariant: the answer to the whole is the answer from index x on.
--- Assumes nothing.
 use mathlib.Core.Path.{◌≡◌}
 use lib.Dec.{eqb}
 use lib.ListN.{get_or}

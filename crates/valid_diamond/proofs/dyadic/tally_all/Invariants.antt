@@ -1,6 +1,5 @@
 -- Invariant: the totals are those of the tally, and the lists so far have been walked without refusal: the tally counts
 -- them and nothing else.
--- Assumes nothing.
 use mathlib.Core.List.{[]}
 use lib.ListN.{take}
 use Rattle.listing.specs.Listing.{limits}
@@ -10,6 +9,7 @@ use Rattle.valid_diamond.proofs.Walks.{Walked}
 use Rattle.valid_diamond.proofs.dyadic.tally_all.Given as goal
 
 abbrev pub invariant-loop-sub : goal.invariant-loop-sub
-invariant-loop-sub l = let walked = subs_of_all l.ends l.inc l.b (take l.sub-index l.subs) in
+invariant-loop-sub l =
+    let walked = subs_of_all l.cell.slices.ends.now l.cell.slices.inc.now l.b (take l.sub-index l.subs) in
     TotalsIn limits.elements l.tally l.totals.met l.totals.twice
     × Walked limits.elements (third l.of.rank l.of.index) l.tally [] walked

@@ -1,6 +1,5 @@
 -- Invariant: the totals so far are those of the tally; and whatever the tally counted before, the indices so far have
 -- been walked without refusal and are counted on top of it.
--- Assumes nothing.
 use mathlib.Core.List.{List}
 use Prim.Native.Nat.{ℕ}
 use lib.ListN.{take}

@@ -1,6 +1,5 @@
 -- Each sub that is taken stands in the list. Where none of the counts is left, and where all subs were taken, the tally
 -- is that of nothing.
--- Assumes nothing.
 use Rattle.std.proofs.Common.{refl}
 use Rattle.valid_diamond.specs.Dyadic.{subs_of_all}
 use Rattle.valid_diamond.specs.Tally.{undone}
@@ -15,8 +14,8 @@ loop-sub-init c = (refl, c.requires.met_in)
 pub returns-then-left-eq0 : goal.returns-then-left-eq0
 returns-then-left-eq0 c = (left_none _ _ c.loop-sub.invariant.1).0 c.if-left-eq0.true
 
-pub side_of-requires-clause-s_in_bounds : goal.side_of-requires-clause-s_in_bounds
-side_of-requires-clause-s_in_bounds c =
+pub side_of-requires : goal.side_of-requires
+side_of-requires c =
     let stands = taken_in c.args.subs.now _ _ _ (cc) _ c.loop-sub.yielded_by _ _ c.in-Some.is c.next.ensures.steps in
     c.requires.walkable.there _ stands
 
@@ -30,7 +29,7 @@ loop-sub-preserved c =
     let loop = c.loop-sub in
     let now = c.undo_list-left.ensures in
     let more = subs_more loop.yielded c.in-Some.field-0 c.args.tally.now in
-    (more _ _ _ _ _ loop.invariant.0 _ c.side_of.ensures now.tally_after, now.met_in_2)
+    (more _ _ _ _ _ loop.invariant.0 _ c.side_of.ensures now.tally_after, now.left_in)
 
 pub returns : goal.returns
 returns c =

@@ -1,5 +1,4 @@
 -- Each index that is taken stands in the list, and at the end all were taken.
--- Assumes nothing.
 use Rattle.std.proofs.Common.{refl, arith}
 use Rattle.valid_diamond.specs.Tally.{undone}
 use Rattle.valid_diamond.proofs.Undoing.{taken_in, taken_all, index_more}
@@ -20,7 +19,7 @@ loop-sub_sub-preserved c =
     let loop = c.loop-sub_sub in
     let now = c.undo_count-left.ensures in
     let start = c.args.tally.now in
-    let e = index_more loop.yielded c.in-Some.field-0 start _ _ loop.invariant.0 _ c.wide.ensures.0 now.tally_after in
+    let e = index_more loop.yielded c.in-Some.field-0 start _ _ loop.invariant.0 _ c.from.ensures now.tally_after in
     (e, now.met_in)
 
 pub returns-clause-tally_after : goal.returns-clause-tally_after

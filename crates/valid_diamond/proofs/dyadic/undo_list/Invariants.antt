@@ -1,6 +1,5 @@
 -- Invariant: the tally at hand is that of the start, with the counts of the indices so far set back; and `left` of its
 -- counts are not 0.
--- Assumes nothing.
 use mathlib.Core.Path.{◌≡◌}
 use Rattle.listing.specs.Listing.{limits}
 use Rattle.valid_diamond.specs.Tally.{MetIn, undone}

@@ -1,45 +1,44 @@
--- The elements that the lists may name are there. Then the answer is the first refusal of the two lists.
--- Assumes nothing.
-use mathlib.Core.Path.{◌≡◌, ◌∙◌}
+-- Both lists of the element are where the code looks, and so are its neighbours'. Then the first refusal of the two.
+use mathlib.Core.Path.{◌∙◌}
 use native.Mathlib.Omega.{arith}
-use Rattle.listing.specs.Listing.{Listing, held}
-use Rattle.listing.proofs.Places.{side_at}
-use Rattle.valid_incidence.proofs.Entries.{list_same, lower, element_stop, element_go}
+use Rattle.listing.specs.Listing.{held}
+use Rattle.listing.proofs.Listing.{rank_there}
+use Rattle.listing.proofs.Places.{side_fits, side_at, few_before}
+use Rattle.listing.proofs.Told.{told_err, then_ok, then_halt}
+use Rattle.valid_incidence.proofs.Entries.{list_same}
 use Rattle.valid_incidence.proofs.Ways.{down_fits, up_fits}
-use Rattle.valid_incidence.proofs.incidence.check_element.Goals.{After-check_list-a}
+use Rattle.valid_incidence.specs.Incidence.{element_test}
 use Rattle.valid_incidence.proofs.incidence.check_element.Goals as goal
 
-low : (c : After-check_list-a) → let a = c.args in c.check_list-a.result ≡ lower (held a.counts a.ends a.inc) a.r a.i
-low c =
-    let a = c.args in
-    let L : Listing = held a.counts a.ends a.inc in
-    let list = c.side_of-subs.ensures ∙ side_at L _ _ _ _ c.requires.here_value.0 in
-    c.check_list-a.ensures ∙ list_same _ _ _ _ _ _ (c.way_down.ensures a.ends.now a.inc.now) list
+pub side_of-subs-requires : goal.side_of-subs-requires
+side_of-subs-requires c =
+    rw c.requires.0 (side_fits _ c.args.cell.shaped c.args.r c.args.i 0 c.requires.1 (omega arith))
 
-pub check_list-a-requires-clause-way_fits : goal.check_list-a-requires-clause-way_fits
-check_list-a-requires-clause-way_fits c =
-    let a = c.args in
-    rw (c.way_down.ensures a.ends.now a.inc.now) (down_fits (held a.counts a.ends a.inc) c.requires.shaped a.r)
+pub check_list-requires : goal.check_list-requires
+check_list-requires c = rw c.way_down.ensures (down_fits _ c.args.cell.shaped c.args.r)
 
-pub check_list-a-requires-clause-none_nonzero : goal.check_list-a-requires-clause-none_nonzero
-check_list-a-requires-clause-none_nonzero c =
-    rw (c.way_down.ensures c.args.ends.now c.args.inc.now) (omega arith)
+pub returns-in_err-check_list : goal.returns-in_err-check_list
+unfolding element_test
+returns-in_err-check_list c =
+    let lower = list_same _ _ _ _ _ _ c.way_down.ensures (c.side_of-subs.ensures ∙ side_at _ _ _ _ _ c.requires.0) in
+    told_err _ _ c.from_residual.ensures.1 ∙ then_halt _ _ (c.in_err-check_list.ensures ∙ lower)
 
-pub returns-then-a-ne0 : goal.returns-then-a-ne0
-returns-then-a-ne0 c = element_stop _ _ _ (low (goal.at.returns-then-a-ne0 c).After-check_list-a) c.if-a-ne0.true
+pub side_of-sups-requires : goal.side_of-sups-requires
+side_of-sups-requires c =
+    rw c.requires.0 (side_fits _ c.args.cell.shaped c.args.r c.args.i 1 c.requires.1 (omega arith))
 
-pub check_list-requires-clause-way_fits : goal.check_list-requires-clause-way_fits
-check_list-requires-clause-way_fits c =
-    let a = c.args in
-    rw (c.way_up.ensures a.ends.now a.inc.now) (up_fits (held a.counts a.ends a.inc) c.requires.shaped a.r)
+pub way_up-requires-clause-r_in_bounds : goal.way_up-requires-clause-r_in_bounds
+way_up-requires-clause-r_in_bounds c =
+    let L = held c.args.cell.slices in
+    let there = rank_there L c.args.r c.args.i c.requires.1 in
+    (there, omega (arith, few_before L c.args.cell.shaped c.args.r))
 
-pub check_list-requires-clause-none_nonzero : goal.check_list-requires-clause-none_nonzero
-check_list-requires-clause-none_nonzero c = rw (c.way_up.ensures c.args.ends.now c.args.inc.now) (omega arith)
+pub check_list-requires-2 : goal.check_list-requires-2
+check_list-requires-2 c = rw c.way_up.ensures (up_fits _ c.args.cell.shaped c.args.r)
 
 pub returns : goal.returns
+unfolding element_test
 returns c =
-    let a = c.args in
-    let L : Listing = held a.counts a.ends a.inc in
-    let list = c.side_of-sups.ensures ∙ side_at L _ _ _ _ c.requires.here_value.0 in
-    let high = c.check_list.ensures ∙ list_same _ _ _ _ _ _ (c.way_up.ensures a.ends.now a.inc.now) list in
-    element_go L _ _ (low (goal.at.returns c).After-check_list-a) c.if-a-ne0.false high
+    let lower = list_same _ _ _ _ _ _ c.way_down.ensures (c.side_of-subs.ensures ∙ side_at _ _ _ _ _ c.requires.0) in
+    let upper = list_same _ _ _ _ _ _ c.way_up.ensures (c.side_of-sups.ensures ∙ side_at _ _ _ _ _ c.requires.0) in
+    then_ok _ (c.in_ok-check_list.ensures ∙ lower) _ (c.check_list-2.ensures ∙ upper)

@@ -1,0 +1,70 @@
+// A flag is met: it was found before, or it is new and there is room for it, or there is none.
+ghost use Rattle.std.specs.Prelude.{◌≡◌, ◌+◌, ◌*◌, ◌≤◌, ◌<◌, length};
+ghost use Rattle.listing.specs.Listing.{limits};
+ghost use Rattle.search_theory.specs.Search.{meet as meet_in, index_in};
+ghost use Rattle.search_index.specs.Hash.{hash_of};
+ghost use Rattle.search_index.specs.Rows.{rows, same_list};
+ghost use Rattle.search_index.specs.Index.{Indexed};
+ghost use Rattle.search_store.specs.Held.{state_of, Held, Added, Moved};
+
+use crate::{Found, Store};
+use listing::{Index, Refusal};
+use search_index::row;
+
+impl<'a> Store<'a> {
+    // The row of a flag among the first n, n where it stands in none. Its hash is h.
+    #[tactic(auto, using(search_index::proofs::Hash::hash_small))]
+    fn find(&self, flag: &[Index], h: usize, n: u16) -> u16
+        requires hash { h ≡ hash_of flag.now }
+        requires indexed { Indexed (length flag.now) n self.now.table.now self.now.chains }
+        ensures { result ≡ index_in same_list (rows (length flag.now) self.now.table.now n) flag.now }
+    {
+        let mut p = self.chains.heads[h];
+        while p != 0 {
+            let k = p - 1;
+            if *row::row_at(&*self.table, usize::from(k), flag.len()) == *flag {
+                return k;
+            }
+            p = self.chains.next[usize::from(k)];
+        }
+        n
+    }
+
+    // The flag, whose hash is h, goes into row n, with a byte.
+    #[tactic(auto, using(search_index::proofs::Hash::hash_small))]
+    fn add(&mut self, flag: &[Index], h: usize, byte: u8, n: u16)
+        requires hash { h ≡ hash_of flag.now }
+        requires fits { (n * length flag.now + length flag.now ≤ length self.now.table.now)
+            × (n < length self.now.bytes.now) × (n < limits.flags) }
+        ensures { Added self.old flag.now h byte n self.new }
+    {
+        let at = usize::from(n);
+        row::put_row(self.table, at, flag);
+        self.bytes[at] = byte;
+        self.chains.enter(h, n);
+    }
+
+    // The flag, whose hash is h, is met, and should have the byte.
+    #[tactic(auto, using(crate::proofs::Meets::row_fits))]
+    pub fn meet(&mut self, flag: &[Index], h: usize, byte: u8, s: Found) -> Result<Found, Refusal>
+        requires hash { h ≡ hash_of flag.now }
+        requires held { Held (length flag.now) self.now s.count }
+        ensures { Moved (length flag.now) self.old s self.new result
+            (meet_in same_list self.old.room byte
+            (state_of (length flag.now) self.old.table.now self.old.bytes.now s) flag.now) }
+    {
+        let n = s.count;
+        let k = self.find(flag, h, n);
+        if k < n {
+            if s.place != 0 || self.bytes[usize::from(k)] == byte {
+                return Ok(s);
+            }
+            return Ok(Found { place: n, ..s });
+        }
+        if self.room <= usize::from(n) {
+            return Err(Refusal::MoreFlags);
+        }
+        self.add(flag, h, byte, n);
+        Ok(Found { count: n + 1, ..s })
+    }
+}
