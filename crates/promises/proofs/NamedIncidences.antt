@@ -15,12 +15,13 @@ use Rattle.order.proofs.Lists.{has_no}
 use Rattle.order.proofs.Tests.{and_true}
 use Rattle.listing.specs.declared.Answer.{Answer}
 use Rattle.listing.specs.Answers.{refusal, on}
+use Rattle.listing.specs.Told.{not_back_no, missing_no}
 use Rattle.listing.specs.Listing.{Listing, rank, count, below, subs, sups}
 use Rattle.valid_incidence.specs.declared.incidence.Way.{Way}
 use Rattle.valid_incidence.specs.Ways.{down, up, back, entry_test, along_test, list_test}
 use Rattle.valid_incidence.specs.Incidence.{element_test, incidences_test, SubBack, LowerAt, IncidentAt}
 use Rattle.valid_incidence.proofs.Entries.{lower, upper}
-use Rattle.valid_incidence.proofs.IncidenceExact.{Refuses, down_refuses, up_refuses, LeadsBack, entry_exact, below_is}
+use Rattle.valid_incidence.proofs.IncidenceExact.{LeadsBack, entry_exact, below_is}
 use Rattle.valid_incidence.proofs.IncidenceExact.{lower_exact, element_exact}
 use Rattle.promises.specs.Named.{FirstAt, FirstIn, Named}
 use Rattle.promises.specs.Named.{named_no_subs, named_no_sups, named_sub_not_back, named_sup_not_back}
@@ -47,12 +48,12 @@ module _ (h : ℕ) (L : Listing) where
   abbrev Tell : Answer → Type 0
   Tell = Tells N
 
-  module _ (w : Way) (R : Refuses w) (r i : ℕ) where
+  module _ (w : Way) (r i : ℕ) where
     abbrev Back : ℕ → Type 0
-    Back = LeadsBack L.ends L.inc w R r i
+    Back = LeadsBack L.ends L.inc w r i
 
-    entry_tells : (x : ℕ) → (x < w.size → ¬ In i (back L.ends L.inc w x) → N (refusal w.oneway r i x 0))
-        → (w.size ≤ x → N (refusal w.missing r i x 0)) → Tell (entry_test L.ends L.inc w r i x)
+    entry_tells : (x : ℕ) → (x < w.size → ¬ In i (back L.ends L.inc w x) → N (refusal (not_back_no w.side) r i x 0))
+        → (w.size ≤ x → N (refusal (missing_no w.side) r i x 0)) → Tell (entry_test L.ends L.inc w r i x)
     unfolding entry_test
     entry_tells x one miss =
         let l = back L.ends L.inc w x in
@@ -63,13 +64,13 @@ module _ (h : ℕ) (L : Listing) where
     -- along a list: what the refusals come to
     along_tells : (list : List ℕ)
         → ((x : ℕ) → FirstIn Back x list → x < w.size → ¬ In i (back L.ends L.inc w x)
-        → N (refusal w.oneway r i x 0))
-        → ((x : ℕ) → FirstIn Back x list → w.size ≤ x → N (refusal w.missing r i x 0))
+        → N (refusal (not_back_no w.side) r i x 0))
+        → ((x : ℕ) → FirstIn Back x list → w.size ≤ x → N (refusal (missing_no w.side) r i x 0))
         → Tell (along_test L.ends L.inc w r i list)
     unfolding along_test
     along_tells list one miss =
         tells_in N _ list (λ x f.
-        let K = first_map (λ y z. (entry_exact L.ends L.inc w R r i y).0 z) f in
+        let K = first_map (λ y z. (entry_exact L.ends L.inc w r i y).0 z) f in
         entry_tells x (one x K) (miss x K))
 
   none_tells : (t : Bool) (list : List ℕ) (a : Answer) → (t ≡ true → list ≡ [] → N a)
@@ -84,7 +85,7 @@ module _ (h : ℕ) (L : Listing) where
     lower_tells =
         tells_or N _ _
         (none_tells (ltb 0 r) (subs L r i) _ (λ a e. named_no_subs r i F (ltb-true 0 r a) e)) (λ _.
-        along_tells (down L r) (down_refuses L r) r i (subs L r i)
+        along_tells (down L r) r i (subs L r i)
         (λ x K l n. let p = (below_is L r x).0 l in named_sub_not_back r i x F (kept K) p.0 p.1 n)
         (λ x K l. named_sub_missing r i x F (kept K) (missing x l)))
       where
@@ -100,7 +101,7 @@ module _ (h : ℕ) (L : Listing) where
     upper_tells D =
         tells_or N _ _
         (none_tells (ltb r (rank L)) (sups L r i) _ (λ a e. named_no_sups r i F D (ltb-true r (rank L) a) e)) (λ _.
-        along_tells (up L r) (up_refuses L r) r i (sups L r i)
+        along_tells (up L r) r i (sups L r i)
         (λ x K l n. named_sup_not_back r i x F D K l n)
         (λ x K l. named_sup_missing r i x F D K l))
 

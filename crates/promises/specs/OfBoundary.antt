@@ -1,18 +1,23 @@
 -- What is promised of the entries, while the other families speak of the functions for C: what the contract of an fd_
--- function admits, that of its entry admits too, for the same arguments, and the other way. So all that is promised of
--- the fd_ function holds of its entry. Four of them cross as numbers: the class, the sign, the volume, the next event.
--- The last is said of `SaidStep` and `Stepped`, of which the two contracts consist: they are lent a record, a form of
--- which the prover makes no reading (proofs/Cursor.antt).
+-- function admits, that of its entry admits too, for the same arguments gathered into structs and with the same answer
+-- as a result, and the other way. So all that is promised of the fd_ function holds of its entry, as what that answers
+-- is told. Three of them cross as numbers: the class, the sign, the next event. The last is said of `SaidStep` and
+-- `Stepped`, of which the two contracts consist: they are lent a record, a form of which the prover makes no reading
+-- (proofs/Cursor.antt).
 --
 -- BoundaryTaken   any slices and numbers are taken
 -- Boundary        each fd_ function answers and writes as its entry does
 -- BoundaryBack    and each entry as its fd_ function does
 -- BoundaryOnce    no second answer fits
-use Rattle.std.specs.Prelude.{◌≡◌, ℕ}
+use Rattle.std.specs.Prelude.{◌≡◌, true, false, ℕ, Option}
 use Rattle.listing.specs.Refusals.{band_no}
+use Rattle.listing.specs.Told.{told, told_number, told_built}
 use Rattle.search_events.specs.declared.Event.{Event}
 use Rattle.search_events.specs.declared.Said.{Said}
 use Rattle.flag.specs.Orientations.{of_byte}
+use Rattle.flag.specs.Changed.{told_changed}
+use Rattle.search.specs.SearchedBy.{told_searched}
+use Rattle.text.specs.WrittenTexts.{told_written}
 use Rattle.search_events.specs.Events.{said_of, Stepped, SaidStep}
 use Rattle.listing_shape.proofs.class.Reads as class
 use Rattle.listing_shape.proofs.rank.Reads as rank
@@ -29,13 +34,9 @@ use Rattle.flag.proofs.Orientation.sign.Reads as sign
 use Rattle.search.proofs.search.Reads as search
 use Rattle.body.proofs.one_body.Reads as one_body
 use Rattle.dual.proofs.dual.Reads as dual
-use Rattle.volume.specs.Volumes.{number_of, six_fold, measured_of}
+use Rattle.volume.specs.Volumes.{told_measured}
 use Rattle.volume.proofs.six_volume.Reads as six_volume
-use Rattle.volume.proofs.numbers.Reads as numbers
-use Rattle.product.proofs.duopyramid.Reads as duopyramid
-use Rattle.product.proofs.duoprism.Reads as duoprism
-use Rattle.product.proofs.duotegum.Reads as duotegum
-use Rattle.product.proofs.duocomb.Reads as duocomb
+use Rattle.product.proofs.make.make.Reads as make
 use Rattle.text.proofs.read_text.Reads as read_text
 use Rattle.text.proofs.check_text.Reads as check_text
 use Rattle.text.proofs.write_text.Reads as write_text
@@ -62,7 +63,7 @@ use Rattle.flumedrac.proofs.fd_duocomb.Reads as fd_duocomb
 use Rattle.flumedrac.proofs.fd_read_text.Reads as fd_read_text
 use Rattle.flumedrac.proofs.fd_check_text.Reads as fd_check_text
 use Rattle.flumedrac.proofs.fd_write_text.Reads as fd_write_text
-use Rattle.promises.specs.Entries.{Takes, Says, SaysOfTwo, PassesOn, PassesAs, PassesBack, OneAnswer, OneOutcome}
+use Rattle.promises.specs.Entries.{Takes, SaysOfTwo, PassesOn, Told, Gathered, ByPoles, OneAnswer, OneOutcome}
 use Rattle.promises.specs.Entries.{outputs, turned_into, tables, body_tables, read_into, written_into}
 
 pub record BoundaryTaken : Type 0 where
@@ -71,7 +72,7 @@ pub record BoundaryTaken : Type 0 where
       × Takes fd_class.Asked × Takes bounded.Asked × Takes check_incidences.Asked × Takes is_dyadic.Asked
       × Takes is_valid.Asked × Takes closed.Asked
   -- products
-  pub products : Takes duopyramid.Asked × Takes duoprism.Asked × Takes duotegum.Asked × Takes duocomb.Asked
+  pub products : Takes make.Asked
   -- texts
   pub texts : Takes read_text.Asked × Takes check_text.Asked × Takes write_text.Asked
   -- flags; of next_event and fd_next_event it stands in proofs/Cursor.antt
@@ -81,93 +82,89 @@ pub record BoundaryTaken : Type 0 where
   -- duals
   pub duals : Takes dual.Asked
   -- volumes
-  pub volumes : Takes six_volume.Asked × Takes numbers.Asked
+  pub volumes : Takes six_volume.Asked
 
 pub record Boundary : Type 0 where
-  pub rank_passes : PassesOn fd_rank.Post rank.Post
-  pub el_count_passes : PassesOn fd_el_count.Post el_count.Post
-  pub vertex_count_passes : PassesOn fd_vertex_count.Post vertex_count.Post
-  pub facet_count_passes : PassesOn fd_facet_count.Post facet_count.Post
-  pub bounded_passes : PassesOn fd_bounded.Post bounded.Post
-  pub check_incidences_passes : PassesOn fd_check_incidences.Post check_incidences.Post
-  pub is_dyadic_passes : PassesOn fd_is_dyadic.Post is_dyadic.Post
-  pub is_valid_passes : PassesOn fd_is_valid.Post is_valid.Post
-  pub closed_passes : PassesOn fd_closed.Post closed.Post
-  pub change_passes : PassesOn fd_change.Post change.Post
-  pub search_passes : PassesOn fd_search.Post search.Post
-  pub one_body_passes : PassesOn fd_one_body.Post one_body.Post
-  pub dual_passes : PassesOn fd_dual.Post dual.Post
-  pub duopyramid_passes : PassesOn fd_duopyramid.Post duopyramid.Post
-  pub duoprism_passes : PassesOn fd_duoprism.Post duoprism.Post
-  pub duotegum_passes : PassesOn fd_duotegum.Post duotegum.Post
-  pub duocomb_passes : PassesOn fd_duocomb.Post duocomb.Post
-  pub read_text_passes : PassesOn fd_read_text.Post read_text.Post
-  pub check_text_passes : PassesOn fd_check_text.Post check_text.Post
-  pub write_text_passes : PassesOn fd_write_text.Post write_text.Post
+  pub rank_passes : PassesOn fd_rank.Post (Told told_number rank.Post)
+  pub el_count_passes : PassesOn fd_el_count.Post (Told told_number el_count.Post)
+  pub vertex_count_passes : PassesOn fd_vertex_count.Post (Told told_number vertex_count.Post)
+  pub facet_count_passes : PassesOn fd_facet_count.Post (Told told_number facet_count.Post)
+  pub bounded_passes : PassesOn fd_bounded.Post (Gathered told bounded.Post)
+  pub check_incidences_passes : PassesOn fd_check_incidences.Post (Gathered told check_incidences.Post)
+  pub is_dyadic_passes : PassesOn fd_is_dyadic.Post (Gathered told is_dyadic.Post)
+  pub is_valid_passes : PassesOn fd_is_valid.Post (Gathered told is_valid.Post)
+  pub closed_passes : PassesOn fd_closed.Post (Gathered told closed.Post)
+  pub change_passes : PassesOn fd_change.Post (Gathered told_changed change.Post)
+  pub search_passes : PassesOn fd_search.Post (Gathered told_searched search.Post)
+  pub one_body_passes : PassesOn fd_one_body.Post (Gathered told_searched one_body.Post)
+  pub dual_passes : PassesOn fd_dual.Post (Gathered told_built dual.Post)
+  pub duopyramid_passes : PassesOn fd_duopyramid.Post (ByPoles false false told_built make.Post)
+  pub duoprism_passes : PassesOn fd_duoprism.Post (ByPoles true false told_built make.Post)
+  pub duotegum_passes : PassesOn fd_duotegum.Post (ByPoles false true told_built make.Post)
+  pub duocomb_passes : PassesOn fd_duocomb.Post (ByPoles true true told_built make.Post)
+  pub read_text_passes : PassesOn fd_read_text.Post (Told told_built read_text.Post)
+  pub check_text_passes : PassesOn fd_check_text.Post (Told (λ d. (told d).no) check_text.Post)
+  pub write_text_passes : PassesOn fd_write_text.Post (Gathered told_written write_text.Post)
   -- the number of the class
   pub class_passes : SaysOfTwo fd_class.Post class.Post (λ a r x c b y. a.0 ≡ c.0 → r ≡ band_no b)
   -- the sign of the orientation that the byte stands for
   pub sign_passes : SaysOfTwo fd_sign.Post sign.Post (λ a r x c s y. of_byte a.0 ≡ c.0 → r ≡ s)
-  -- the volume, in numbers
-  pub six_volume_passes : PassesAs measured_of fd_six_volume.Post six_volume.Post
-  -- these are told by the number and the value of its case
-  pub volume_by_case : Says numbers.Post (λ a r x. (r.no ≡ number_of a.0) × (r.six ≡ six_fold a.0))
+  pub six_volume_passes : PassesOn fd_six_volume.Post (Gathered told_measured six_volume.Post)
   -- the next event, in numbers
   pub next_event_passes : (at count place at' : ℕ) (s : Said) → SaidStep at count place at' s
-      → (e : Event) × Stepped at count place at' e × (s ≡ said_of e)
+      → (e : Option Event) × Stepped at count place at' e × (s ≡ said_of e)
 
 pub record BoundaryBack : Type 0 where
-  pub rank_back : PassesOn rank.Post fd_rank.Post
-  pub el_count_back : PassesOn el_count.Post fd_el_count.Post
-  pub vertex_count_back : PassesOn vertex_count.Post fd_vertex_count.Post
-  pub facet_count_back : PassesOn facet_count.Post fd_facet_count.Post
-  pub bounded_back : PassesOn bounded.Post fd_bounded.Post
-  pub check_incidences_back : PassesOn check_incidences.Post fd_check_incidences.Post
-  pub is_dyadic_back : PassesOn is_dyadic.Post fd_is_dyadic.Post
-  pub is_valid_back : PassesOn is_valid.Post fd_is_valid.Post
-  pub closed_back : PassesOn closed.Post fd_closed.Post
-  pub change_back : PassesOn change.Post fd_change.Post
-  pub search_back : PassesOn search.Post fd_search.Post
-  pub one_body_back : PassesOn one_body.Post fd_one_body.Post
-  pub dual_back : PassesOn dual.Post fd_dual.Post
-  pub duopyramid_back : PassesOn duopyramid.Post fd_duopyramid.Post
-  pub duoprism_back : PassesOn duoprism.Post fd_duoprism.Post
-  pub duotegum_back : PassesOn duotegum.Post fd_duotegum.Post
-  pub duocomb_back : PassesOn duocomb.Post fd_duocomb.Post
-  pub read_text_back : PassesOn read_text.Post fd_read_text.Post
-  pub check_text_back : PassesOn check_text.Post fd_check_text.Post
-  pub write_text_back : PassesOn write_text.Post fd_write_text.Post
-  -- the class and the sign are said of both in Boundary; the volume, in numbers
-  pub six_volume_back : PassesBack measured_of fd_six_volume.Post six_volume.Post
+  pub rank_back : PassesOn (Told told_number rank.Post) fd_rank.Post
+  pub el_count_back : PassesOn (Told told_number el_count.Post) fd_el_count.Post
+  pub vertex_count_back : PassesOn (Told told_number vertex_count.Post) fd_vertex_count.Post
+  pub facet_count_back : PassesOn (Told told_number facet_count.Post) fd_facet_count.Post
+  pub bounded_back : PassesOn (Gathered told bounded.Post) fd_bounded.Post
+  pub check_incidences_back : PassesOn (Gathered told check_incidences.Post) fd_check_incidences.Post
+  pub is_dyadic_back : PassesOn (Gathered told is_dyadic.Post) fd_is_dyadic.Post
+  pub is_valid_back : PassesOn (Gathered told is_valid.Post) fd_is_valid.Post
+  pub closed_back : PassesOn (Gathered told closed.Post) fd_closed.Post
+  pub change_back : PassesOn (Gathered told_changed change.Post) fd_change.Post
+  pub search_back : PassesOn (Gathered told_searched search.Post) fd_search.Post
+  pub one_body_back : PassesOn (Gathered told_searched one_body.Post) fd_one_body.Post
+  pub dual_back : PassesOn (Gathered told_built dual.Post) fd_dual.Post
+  pub duopyramid_back : PassesOn (ByPoles false false told_built make.Post) fd_duopyramid.Post
+  pub duoprism_back : PassesOn (ByPoles true false told_built make.Post) fd_duoprism.Post
+  pub duotegum_back : PassesOn (ByPoles false true told_built make.Post) fd_duotegum.Post
+  pub duocomb_back : PassesOn (ByPoles true true told_built make.Post) fd_duocomb.Post
+  pub read_text_back : PassesOn (Told told_built read_text.Post) fd_read_text.Post
+  pub check_text_back : PassesOn (Told (λ d. (told d).no) check_text.Post) fd_check_text.Post
+  pub write_text_back : PassesOn (Gathered told_written write_text.Post) fd_write_text.Post
+  -- the class and the sign are said of both in Boundary
+  pub six_volume_back : PassesOn (Gathered told_measured six_volume.Post) fd_six_volume.Post
   -- the next event, in numbers
-  pub next_event_back : (at count place at' : ℕ) (e : Event) → Stepped at count place at' e
+  pub next_event_back : (at count place at' : ℕ) (e : Option Event) → Stepped at count place at' e
       → SaidStep at count place at' (said_of e)
 
 pub record BoundaryOnce : Type 0 where
-  pub one_rank : OneAnswer rank.Post
-  pub one_el_count : OneAnswer el_count.Post
-  pub one_vertex_count : OneAnswer vertex_count.Post
-  pub one_facet_count : OneAnswer facet_count.Post
+  pub one_rank : OneAnswer (Told told_number rank.Post)
+  pub one_el_count : OneAnswer (Told told_number el_count.Post)
+  pub one_vertex_count : OneAnswer (Told told_number vertex_count.Post)
+  pub one_facet_count : OneAnswer (Told told_number facet_count.Post)
   pub one_fd_class : OneAnswer fd_class.Post
-  pub one_bounded : OneAnswer bounded.Post
-  pub one_check_incidences : OneAnswer check_incidences.Post
-  pub one_is_dyadic : OneAnswer is_dyadic.Post
-  pub one_is_valid : OneAnswer is_valid.Post
-  pub one_closed : OneAnswer closed.Post
-  pub one_change : OneAnswer change.Post
+  pub one_bounded : OneAnswer (Gathered told bounded.Post)
+  pub one_check_incidences : OneAnswer (Gathered told check_incidences.Post)
+  pub one_is_dyadic : OneAnswer (Gathered told is_dyadic.Post)
+  pub one_is_valid : OneAnswer (Gathered told is_valid.Post)
+  pub one_closed : OneAnswer (Gathered told closed.Post)
+  pub one_change : OneAnswer (Gathered told_changed change.Post)
   pub one_fd_sign : OneAnswer fd_sign.Post
-  pub one_search : OneOutcome search.Post tables
-  pub one_one_body : OneOutcome one_body.Post body_tables
-  pub one_dual : OneOutcome dual.Post turned_into
-  pub one_six_volume : OneOutcome six_volume.Post tables
-  pub one_volume_numbers : OneAnswer numbers.Post
-  pub one_duopyramid : OneOutcome duopyramid.Post outputs
-  pub one_duoprism : OneOutcome duoprism.Post outputs
-  pub one_duotegum : OneOutcome duotegum.Post outputs
-  pub one_duocomb : OneOutcome duocomb.Post outputs
-  pub one_read_text : OneOutcome read_text.Post read_into
-  pub one_check_text : OneAnswer check_text.Post
-  pub one_write_text : OneOutcome write_text.Post written_into
+  pub one_search : OneOutcome (Gathered told_searched search.Post) tables
+  pub one_one_body : OneOutcome (Gathered told_searched one_body.Post) body_tables
+  pub one_dual : OneOutcome (Gathered told_built dual.Post) turned_into
+  pub one_six_volume : OneOutcome (Gathered told_measured six_volume.Post) tables
+  pub one_duopyramid : OneOutcome (ByPoles false false told_built make.Post) outputs
+  pub one_duoprism : OneOutcome (ByPoles true false told_built make.Post) outputs
+  pub one_duotegum : OneOutcome (ByPoles false true told_built make.Post) outputs
+  pub one_duocomb : OneOutcome (ByPoles true true told_built make.Post) outputs
+  pub one_read_text : OneOutcome (Told told_built read_text.Post) read_into
+  pub one_check_text : OneAnswer (Told (λ d. (told d).no) check_text.Post)
+  pub one_write_text : OneOutcome (Gathered told_written write_text.Post) written_into
   -- the event cursor, by what its contract cites
   pub one_fd_next_event : (at count place c d : ℕ) (e f : Said) → SaidStep at count place c e
       → SaidStep at count place d f → (e ≡ f) × (c ≡ d)
