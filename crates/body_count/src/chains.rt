@@ -4,13 +4,12 @@ ghost use Rattle.std.specs.Prelude.{◌≡◌, ℕ, ◌+◌, ◌-◌, ◌≤◌,
 ghost use Rattle.order.specs.Lists.{In};
 ghost use Rattle.order.specs.Sums.{sum_over};
 ghost use Rattle.listing.specs.Listing.{held, limits, before};
-ghost use Rattle.listing.specs.Shape.{Shaped};
-ghost use Rattle.valid_incidence.specs.Incidence.{Incident};
-ghost use Rattle.valid.specs.Closed.{Closed};
 ghost use Rattle.body_theory.specs.InAll.{flags_in_all};
 ghost use Rattle.body_count.specs.Capped.{most, capped, number_at, Capped, CountedBelow};
 
-use listing::{Index, inner, limit};
+use listing::{Index, Side, limit};
+use valid::ClosedCell;
+use valid_incidence::MatchedCell;
 
 // One more than the most flags that a search can have room for.
 const MOST: u16 = limit::FLAGS as u16 + 1;
@@ -31,46 +30,37 @@ fn sum_of(numbers: &[u16; limit::ELEMENTS], b: usize, list: &[Index]) -> u16
 {
     let mut sum: u16 = 0;
     for &x in list {
-        sum = plus(sum, numbers[b + inner::wide(x)]);
+        sum = plus(sum, numbers[b + usize::from(x)]);
     }
     sum
 }
 
 // The numbers of the elements of rank r, from those of the rank below, which begins at place b.
-fn count_rank(
-    numbers: &mut [u16; limit::ELEMENTS],
-    counts: &[Index],
-    ends: &[Index],
-    inc: &[Index],
-    b: usize,
-    r: usize,
-)
-    requires shaped { Shaped limits (held counts ends inc) }
-    requires incident { Incident (held counts ends inc) }
-    requires b_value { (b ≡ before counts.now (r - 1)) × (0 < r) × (r < length counts.now) }
-    requires counted_below { CountedBelow (held counts ends inc) r 0 numbers.old }
-    ensures { CountedBelow (held counts.entry ends.entry inc.entry) (r + 1) 0
-        numbers.new }
+fn count_rank(numbers: &mut [u16; limit::ELEMENTS], cell: MatchedCell<'_>, b: usize, r: usize)
+    requires b_value { (b ≡ before cell.slices.counts.now (r - 1)) × (0 < r) × (r < length cell.slices.counts.now) }
+    requires counted_below { CountedBelow (held cell.slices) r 0 numbers.old }
+    ensures { CountedBelow (held cell.entry.slices) (r + 1) 0 numbers.new }
 {
-    let here = b + inner::wide(counts[r - 1]);
+    let counts = cell.slices.counts;
+    let here = b + usize::from(counts[r - 1]);
     for i in 0..counts[r] {
-        let subs = inner::side_of(ends, inc, here, i, 0);
-        numbers[here + inner::wide(i)] = sum_of(&*numbers, b, subs);
+        let subs = cell.side_of(here, i, Side::Subs);
+        numbers[here + usize::from(i)] = sum_of(numbers, b, subs);
     }
 }
 
-// The flags of a listing that is known to be closed, at most MOST.
-pub fn flags_in_all(counts: &[Index], ends: &[Index], inc: &[Index]) -> u16
-    requires { Closed limits (held counts ends inc) }
-    ensures { result ≡ capped (flags_in_all (held counts.entry ends.entry inc.entry)) }
+// The flags of a closed cell, at most MOST.
+pub fn flags_in_all(cell: ClosedCell<'_>) -> u16
+    ensures { result ≡ capped (flags_in_all (held cell.entry.slices)) }
 {
+    let counts = cell.slices.counts;
     let mut numbers = [0u16; limit::ELEMENTS];
     // One chain leads to the minimal element.
     numbers[0] = 1;
     let mut b: usize = 0;
     for r in 1..counts.len() {
-        count_rank(&mut numbers, counts, ends, inc, b, r);
-        b += inner::wide(counts[r - 1]);
+        count_rank(&mut numbers, cell.matched(), b, r);
+        b += usize::from(counts[r - 1]);
     }
     // The maximal element stands where its rank begins.
     numbers[b]

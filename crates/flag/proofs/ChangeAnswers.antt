@@ -21,7 +21,7 @@ use Rattle.listing.specs.Listing.{Listing, Limits, limits, held, rank}
 use Rattle.listing.specs.Told.{answer_of}
 use Rattle.listing.proofs.Answers.{no_of, or_no, no_or, on_no, on_off, if_not}
 use Rattle.listing.proofs.Clear.{Clear, clear_or, clear_plain}
-use Rattle.listing.proofs.Told.{refuses}
+use Rattle.listing.proofs.Told.{steps, refuses}
 use Rattle.order.proofs.Tests.{and_true, and_off}
 use Rattle.valid.specs.Closed.{Closed}
 use Rattle.valid.specs.Tests.{closed}
@@ -116,6 +116,6 @@ module _ (s : Slices) (f : List ℕ) (r : ℕ) where
     pub change_ok : (made : Changed) → made ≡ changed_as fine (held t) f k → made ≡ changed_of limits (held s) f r
     change_ok made h = rw (same, wide) at h ∙ changed_some limits (held s) f r (no_of e refl)
 
-pub ruleset ranks = (between, at_lowest, at_highest, some_rank)
+pub ruleset ranks = (steps, between, at_lowest, at_highest, some_rank)
 
 pub ruleset answers = (change_err, change_halt, the_flag, the_rank, change_ok)

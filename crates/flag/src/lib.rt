@@ -27,7 +27,7 @@ pub struct Changed {
 }
 
 // The refusals of a change: those of the closed test, 20, 21.
-#[tactic(auto, using(listing::proofs::Told::steps, crate::proofs::ChangeAnswers::ranks), unfolding(crate::specs::Changed::change_test))]
+#[tactic(auto, using(crate::proofs::ChangeAnswers::ranks), unfolding(crate::specs::Changed::change_test))]
 fn check_change<'a>(slices: Slices<'a>, flag: &[Index], r: u16) -> Result<ClosedCell<'a>, Refusal>
     ensures value { told result ≡ change_test limits (held slices.entry) flag.now r }
     ensures same { IfOk result (λ cell. cell.slices ≡ slices.entry) }

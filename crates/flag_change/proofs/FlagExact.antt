@@ -14,6 +14,7 @@ use Rattle.order.proofs.Lists.{has_yes}
 use Rattle.order.specs.Tests.{every}
 use Rattle.order.proofs.Tests.{and_true, every_next, every_each, every_all, every_stop}
 use Rattle.listing.specs.Listing.{Listing, count, subs}
+use Rattle.listing.proofs.InCell.{places}
 use Rattle.listing.proofs.Listing.{before_zero, before_next}
 use Rattle.flag_change.specs.Flags.{flag_at, flag_test, IsFlag}
 
@@ -94,4 +95,4 @@ module _ (L : Listing) (f : List ℕ) where
 pub ruleset flag_answers = (missing_at, lowest_at, higher_at)
 
 -- what it answers on the way along the ranks
-pub ruleset flag_walk = (other_length, same_length, stops_at, every_next, before_zero, before_next)
+pub ruleset flag_walk = (other_length, same_length, stops_at, every_next, before_zero, before_next, places)

@@ -35,7 +35,7 @@ fn stands_at(cell: Cell<'_>, flag: &[Index], here: usize, r: usize) -> bool
 }
 
 // Whether the numbers are a flag: one existing index per rank, each a sub of the next.
-#[tactic(auto, using(listing::proofs::InCell::places, crate::proofs::FlagExact::flag_walk), unfolding(order::specs::Tests::every))]
+#[tactic(auto, using(crate::proofs::FlagExact::flag_walk), unfolding(order::specs::Tests::every))]
 pub fn is_flag(cell: Cell<'_>, flag: &[Index]) -> bool
     ensures { result ≡ flag_test (held cell.entry.slices) flag.now }
 {

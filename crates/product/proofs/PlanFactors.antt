@@ -5,18 +5,15 @@ use mathlib.Core.Bool.{Bool}
 use Prim.Native.Nat.{ℕ, zero, suc, ◌<◌}
 use native.Mathlib.Omega.{arith}
 use borrow.Author.Tests.{ne_eqb}
-use Rattle.listing.specs.Listing.{Listing, listing, count}
+use Rattle.listing.specs.Listing.{Listing, count}
 use Rattle.listing.specs.Layers.{layers, derived}
 use Rattle.listing.proofs.Layers.{gather_same}
 use Rattle.listing_sups.specs.Sups.{subs_from, layers_from}
 use Rattle.product_pairs.specs.Trimmed.{bit, trim_size, trim_under, trimmed}
 use Rattle.product_closure.proofs.Alike.{Alike}
-use Rattle.product_sizes.specs.Sizing.{Usable, counts_in_use}
+use Rattle.product_sizes.specs.Sizing.{Usable, factor_of}
 use Rattle.product_sizes.proofs.Parts.{in_use_length, in_use_size, in_use_subs}
 use Rattle.product_element.specs.Pairs.{subs_in_use, factor_layers}
-
-abbrev pub factor_of : Bool → Bool → Listing → Listing
-factor_of min max L = listing (counts_in_use min max L.counts) L.ends L.inc
 
 -- above the lowest rank in use an element's subs in use are its list
 pub subs_above : (min : Bool) (P : Listing) (i a : ℕ) → subs_in_use min P (suc i) a ≡ subs_from (bit min) P (suc i) a

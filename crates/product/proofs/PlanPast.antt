@@ -24,10 +24,10 @@ use Rattle.product_pairs.specs.Grown.{min_size, min_under, grown}
 use Rattle.product_pairs.proofs.Sequences.{up_to_in}
 use Rattle.product_pairs.proofs.Grown.{grown_size, grown_max_under}
 use Rattle.product_element.specs.Pairs.{subs_in_use, factor_layers, target}
-use Rattle.product_sizes.specs.Sizing.{Usable, counts_in_use}
+use Rattle.product_sizes.specs.Sizing.{Usable, counts_in_use, factor_of}
 use Rattle.product_sizes.proofs.Parts.{usable_shaped, usable_bounded, usable_high}
 use Rattle.product_sizes.proofs.Parts.{in_use_length, in_use_at, in_use_before}
-use Rattle.product.proofs.PlanFactors.{factor_of, subs_above}
+use Rattle.product.proofs.PlanFactors.{subs_above}
 use Rattle.product.proofs.PlanIndices.{place_past, exists_few}
 
 entries_past : (ends inc : List ℕ) (k : ℕ) → length ends ≤ k → entries ends inc k ≡ []

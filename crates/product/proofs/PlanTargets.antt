@@ -22,8 +22,8 @@ use Rattle.product_pairs.proofs.Product.{product_sound}
 use Rattle.product_closure.proofs.Alike.{Alike, alike_derived, alike_exists}
 use Rattle.product_closure.proofs.Valid.{valid_sound}
 use Rattle.product_element.specs.Pairs.{factor_layers, target}
-use Rattle.product_sizes.specs.Sizing.{Usable}
-use Rattle.product.proofs.PlanFactors.{factor_of, factor_alike}
+use Rattle.product_sizes.specs.Sizing.{Usable, factor_of}
+use Rattle.product.proofs.PlanFactors.{factor_alike}
 
 -- layers with other lists
 abbrev listing_of : Layers → (ℕ → ℕ → List ℕ) → Layers

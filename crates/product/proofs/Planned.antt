@@ -2,13 +2,12 @@
 -- Assumes nothing.
 use mathlib.Core.Path.{◌≡◌, sym, ap, ◌∙◌}
 use mathlib.Core.Bool.{Bool}
-use mathlib.Core.List.{List}
 use Prim.Native.Nat.{ℕ, suc, ◌*◌, ◌≤◌, ◌<◌}
 use native.Mathlib.Omega.{arith}
 use lib.ListN.{length}
 use Rattle.order.specs.Lists.{In}
 use Rattle.order.specs.Sums.{sum}
-use Rattle.listing.specs.Listing.{Listing, listing, limits}
+use Rattle.listing.specs.Listing.{Listing, limits}
 use Rattle.listing.specs.Shape.{elements}
 use Rattle.listing.specs.Layers.{Layers, derived}
 use Rattle.listing.specs.Written.{written}
@@ -17,11 +16,10 @@ use Rattle.listing.proofs.Written.{joined_length, written_elements, written_ends
 use Rattle.product_pairs.specs.Product.{product_of}
 use Rattle.product_places.specs.declared.Poles.{Poles}
 use Rattle.listing_sups.specs.Filling.{starts}
-use Rattle.product.proofs.PlanFactors.{factor_of}
 use Rattle.product_element.specs.Pairs.{target, lists_of, size_of, Plan}
 use Rattle.product_building.specs.Built.{product_listing}
 use Rattle.product_writing.proofs.Target.{target_size, target_topped}
-use Rattle.product_sizes.specs.Sizing.{Usable, counts_in_use}
+use Rattle.product_sizes.specs.Sizing.{Usable, factor_of}
 use Rattle.product_sizes.proofs.Parts.{usable_shaped, in_use_length}
 use Rattle.product_sizes.proofs.Tested.{Passed}
 use Rattle.product_sizes.proofs.Extents.{in_use_few}
@@ -113,25 +111,20 @@ module _ (min max : Bool) (A B : Listing) (u_a : Usable min max A) (u_b : Usable
           incidences = omega (arith, inc_r);
         }
 
--- ---- the same, of the counts x and y that the code has in hand
+-- ---- the same, of the factors X and Y that the code has in hand, where the sizes pass
 
-module _ (poles : Poles) (A B : Listing) (u_a : Usable poles.min poles.max A)
-    (u_b : Usable poles.min poles.max B)
-    (x y : List ℕ) (ex : x ≡ counts_in_use poles.min poles.max A.counts)
-    (ey : y ≡ counts_in_use poles.min poles.max B.counts) where
-  pub built_is : product_listing poles (listing x A.ends A.inc) (listing y B.ends B.inc)
-      ≡ product_of poles.min poles.max A B
+module _ {poles : Poles} {A B X Y : Listing} (u_a : Usable poles.min poles.max A) (u_b : Usable poles.min poles.max B)
+    (ex : X ≡ factor_of poles.min poles.max A) (ey : Y ≡ factor_of poles.min poles.max B) where
+  abbrev R' : Listing
+  R' = product_of poles.min poles.max A B
+
+  pub built_is : product_listing poles X Y ≡ R'
   built_is = rw (ex, ey) (target_written poles.min poles.max A B u_a u_b)
 
-  pub build_asked : (counts ends inc : List ℕ)
-      → Passed limits (product_of poles.min poles.max A B) (length counts) (length ends) (length inc)
-      → Plan poles.min poles.max (listing x A.ends A.inc) (listing y B.ends B.inc) (length ends)
-      (length inc)
-      × (length (product_listing poles (listing x A.ends A.inc) (listing y B.ends B.inc)).counts
-      ≤ length counts)
-  build_asked counts ends inc h = (
-    rw (ex, ey)
-        (planned poles.min poles.max A B u_a u_b h.few_elements h.few_incidences (length ends) (length inc)
-        h.room_ends h.room_inc),
-    rw built_is h.room_counts,
-  )
+  pub build_plan : {c e i : ℕ} → Passed limits R' c e i → Plan poles.min poles.max X Y e i
+  build_plan {e = e} {i = i} h =
+      rw (ex, ey)
+      (planned poles.min poles.max A B u_a u_b h.few_elements h.few_incidences e i h.room_ends h.room_inc)
+
+  pub build_room : {c e i : ℕ} → Passed limits R' c e i → length (product_listing poles X Y).counts ≤ c
+  build_room h = rw built_is h.room_counts

@@ -2,6 +2,7 @@
 --
 -- Usable           a factor that is_valid accepts, high enough for the ends that are left out of the pairs
 -- counts_in_use    the counts of a factor's ranks in use
+-- factor_of        a factor with these counts alone, and all its lists
 -- subs_between     how many subs the elements from one number up to another list
 -- extent_of        how large layers are
 -- Little           an extent so small that products of two fit a word
@@ -17,7 +18,7 @@ use Rattle.order.specs.Sums.{sum}
 use Rattle.listing.specs.declared.Answer.{Answer}
 use Rattle.listing.specs.Refusals.{product_ranks, product_elements, product_incidences}
 use Rattle.listing.specs.Answers.{plain, on, ◌or_else◌}
-use Rattle.listing.specs.Listing.{Listing, Limits, limits, rank, entries}
+use Rattle.listing.specs.Listing.{Listing, Limits, limits, listing, rank, entries}
 use Rattle.listing.specs.Shape.{elements}
 use Rattle.listing.specs.Layers.{Layers}
 use Rattle.listing_outputs.specs.declared.outputs.Room.{Room}
@@ -36,6 +37,9 @@ pub record Usable (min max : Bool) (L : Listing) : Type 0 where
 
 unfoldable pub counts_in_use : Bool → Bool → List ℕ → List ℕ
 counts_in_use min max counts = take (length counts - bit max - bit min) (drop (bit min) counts)
+
+abbrev pub factor_of : Bool → Bool → Listing → Listing
+factor_of min max L = listing (counts_in_use min max L.counts) L.ends L.inc
 
 unfoldable pub subs_between : List ℕ → List ℕ → ℕ → ℕ → ℕ
 subs_between ends inc from to = sum (λ k. length (entries ends inc (2 * (from + k)))) (to - from)

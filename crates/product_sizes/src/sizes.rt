@@ -4,7 +4,7 @@ ghost use Rattle.listing.specs.Listing.{held, limits, Ends};
 ghost use Rattle.listing.specs.Layers.{layers};
 ghost use Rattle.listing.specs.Told.{told};
 ghost use Rattle.product_pairs.specs.Trimmed.{bit, trimmed};
-ghost use Rattle.product_sizes.specs.Sizing.{Usable, counts_in_use, subs_between, extent_of, Little};
+ghost use Rattle.product_sizes.specs.Sizing.{Usable, counts_in_use, factor_of, subs_between, extent_of, Little};
 ghost use Rattle.product_sizes.specs.Sizing.{totals_of, need_of_totals, totals_test};
 
 use listing::{Index, Refusal, Slices, limit, reading};
@@ -33,11 +33,22 @@ pub struct Totals {
 
 // The counts of the ranks in use: without the lowest where min is set, without the highest where max is.
 #[tactic(auto, using(product_places::proofs::Numbers::bit_is), unfolding(crate::specs::Sizing::counts_in_use))]
-pub fn range<'a>(poles: Poles, counts: &'a [Index]) -> &'a [Index]
+fn range<'a>(poles: Poles, counts: &'a [Index]) -> &'a [Index]
     requires { bit poles.min + bit poles.max ≤ length counts.now }
     ensures { result.now ≡ counts_in_use poles.min poles.max counts.now }
 {
     &counts[usize::from(poles.min)..counts.len() - usize::from(poles.max)]
+}
+
+// A factor with the counts of its ranks in use alone.
+pub fn in_use<'a>(poles: Poles, slices: Slices<'a>) -> Slices<'a>
+    requires { bit poles.min + bit poles.max ≤ length slices.counts.now }
+    ensures { held result ≡ factor_of poles.min poles.max (held slices.entry) }
+{
+    Slices {
+        counts: range(poles, slices.counts),
+        ..slices
+    }
 }
 
 // How many subs the elements from one number up to another list.

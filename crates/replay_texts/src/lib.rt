@@ -8,6 +8,7 @@ use listing::{Answer, Built, Index, Slices};
 use replay_reading::text as reading;
 use replay_saying::{room, say};
 use std::io;
+use text::Written;
 
 // The listing that a text says, and what is then in the slices lent.
 fn read_into(
@@ -49,9 +50,9 @@ pub fn check_text(rt: &impl Print, line: &[u8]) -> io::Result<()> {
 
 // The text of a listing, and what is then in the slice lent.
 fn write_into(rt: &impl Print, slices: Slices<'_>, bytes: &mut [u8]) -> io::Result<()> {
-    let written = text::write_text(slices, &mut *bytes);
-    say::answer(rt, Answer::from(written))?;
-    say::number(rt, written.unwrap_or(0) as u64)?;
+    let w = Written::from(text::write_text(slices, &mut *bytes));
+    say::answer(rt, w.answer)?;
+    say::number(rt, w.length as u64)?;
     say::bytes(rt, bytes)
 }
 

@@ -8,27 +8,32 @@ use Prim.Native.Nat.{ℕ, zero, suc, ◌+◌, ◌-◌, ◌*◌, ◌/◌, ◌≤�
 use native.Mathlib.Nat.{mul-le-mul_right, div-mul-le_self}
 use native.Mathlib.Omega.{arith}
 use borrow.Author.Tests.{eq-eqb, ne_eqb}
-use lib.ListN.{length}
+use lib.ListN.{length, take}
+use Rattle.std.specs.Prelude.{Result, Ok, Err, IsErrAnd}
+use Rattle.std.proofs.lemmas.Result.{err_from_is_err_and}
 use Rattle.order.specs.Lists.{over}
 use Rattle.order.proofs.Over.{over_is}
 use Rattle.listing.specs.Refusals.{outside_ranks, more_flags}
 use Rattle.listing.specs.declared.Answer.{Answer}
+use Rattle.listing.specs.declared.Slices.{Slices}
+use Rattle.listing.specs.declared.Refusal.{Refusal}
+use Rattle.listing.specs.Told.{answer_of}
 use Rattle.listing.specs.Answers.{plain, fine, if_zero, on}
-use Rattle.listing.specs.Listing.{Listing, Limits, rank}
-use Rattle.listing.proofs.Answers.{or_fine, or_stop}
-use Rattle.flag_change.specs.Flags.{start_test}
+use Rattle.listing.specs.Listing.{Listing, Limits, limits, held, rank}
+use Rattle.listing.proofs.Answers.{no_of, or_fine, or_stop}
+use Rattle.flag_change.specs.Flags.{start_test, IsFlag}
 use Rattle.flag_change.proofs.StartExact.{start_exact}
 use Rattle.search_theory.specs.Search.{State}
-use Rattle.search_store.specs.declared.found.Progress.{Progress}
-use Rattle.search_index.specs.Rows.{flatten}
-use Rattle.search_store.specs.Held.{state_of}
+use Rattle.search_store.specs.declared.Found.{Found}
+use Rattle.search_index.specs.Rows.{rows, flatten}
+use Rattle.search_store.specs.Held.{state_of, count_in, come_to}
 use Rattle.search_index.proofs.Rows.{rows_length, rows_flat}
-use Rattle.search_masks.specs.Masks.{mask_fits}
+use Rattle.search_masks.specs.Masks.{mask_fits, InnerRanks}
 use Rattle.search_masks.proofs.Ranks.{fits_exact}
 use Rattle.search.specs.declared.Searched.{Searched}
 use Rattle.search_walk.specs.Searched.{found_by}
 use Rattle.search.specs.SearchedBy.{refused_as, found_as, room_of, search_test, searched_of, left_after, searched_by}
-use Rattle.search.specs.SearchedBy.{table_after, bytes_after}
+use Rattle.search.specs.SearchedBy.{table_after, bytes_after, told_searched}
 use Rattle.search.specs.Exact.{Searchable}
 use Rattle.search.specs.Promised.{room_in}
 use Rattle.search_walk.specs.Ready.{Ended}
@@ -163,38 +168,105 @@ module _ {m : Limits} {L : Listing} {first : List ℕ} {mask : ℕ} (T : Searcha
 
 -- ---- the walk has come to its end
 
+-- the flags and bytes of the state that a table and its bytes stand for, whatever the result
+come_found : (w room : ℕ) (table bytes : List ℕ) (r : Result Found Refusal) (place : ℕ)
+    → (come_to w room table bytes r place).found ≡ rows w table (count_in room r)
+unfolding state_of
+come_found w room table bytes (Ok f) place = refl
+come_found w room table bytes (Err d) place = refl
+
+come_bytes : (w room : ℕ) (table bytes : List ℕ) (r : Result Found Refusal) (place : ℕ)
+    → (come_to w room table bytes r place).bytes ≡ take (count_in room r) bytes
+unfolding state_of
+come_bytes w room table bytes (Ok f) place = refl
+come_bytes w room table bytes (Err d) place = refl
+
 module _ {m : Limits} {L : Listing} {first : List ℕ} {mask : ℕ} (T : Searchable m L first mask) (table bytes : List ℕ)
-    {table' bytes' : List ℕ} {p : Progress}
-    (E : Ended (length L.counts) (room_in m L table bytes) table bytes table' bytes' p (S T table bytes))
-    (fits : (room_in m L table bytes * length L.counts ≤ length table) × (room_in m L table bytes ≤ length bytes))
   where
-    pub count_found : length (S T table bytes).found ≡ p.count
-    unfolding state_of
-    count_found = rw (← ap (λ s. s.found) E.state) (rows_length (length L.counts) table' p.count)
+    abbrev n : ℕ
+    n = room_in m L table bytes
 
-    table_found : over (flatten (S T table bytes).found) table ≡ table'
-    unfolding state_of
-    table_found =
-        let w = length L.counts in
-        let n = p.count * w in
-        let i : n ≤ length table' = omega (arith, mul-le-mul_right w E.fits, E.rest.long) in
-        rw (← ap (λ s. s.found) E.state, rows_flat w table' p.count) (over_is n table' table i E.rest.past)
+    abbrev w : ℕ
+    w = length L.counts
 
-    bytes_found : over (S T table bytes).bytes bytes ≡ bytes'
-    unfolding state_of
-    bytes_found =
-        let i : p.count ≤ length bytes' = omega (arith, E.fits, E.rest.bytes_long) in
-        rw (← ap (λ s. s.bytes) E.state) (over_is p.count bytes' bytes i E.rest.bytes_past)
+    -- the walk answered r, and left the slices as table' and bytes'
+    abbrev pub Walked : List ℕ → List ℕ → Result Found Refusal → Type 0
+    Walked table' bytes' r = Ended w n table bytes table' bytes' r (S T table bytes)
 
-    pub ends_full : p.overflow ≡ true
-        → Ends m L first mask table bytes (refused_as (plain more_flags)) table' bytes'
+    -- so many were found
+    pub count_found : {table' bytes' : List ℕ} (f : Found) → Walked table' bytes' (Ok f)
+        → length (S T table bytes).found ≡ f.count
     unfolding state_of
-    ends_full o =
-        rw (table_found, bytes_found) at (said_full T table bytes (sym (ap (λ s. s.overflow) E.state) ∙ o))
+    count_found {table'} f E = rw (← ap (λ s. s.found) E.state) (rows_length w table' f.count)
 
-    pub ends_found : p.overflow ≡ false
-        → Ends m L first mask table bytes (found_as fine p.count p.place) table' bytes'
+    -- a refusal is that of more flags than there is room for
+    pub full_is : {table' bytes' : List ℕ} (d : Refusal) → Walked table' bytes' (Err d)
+        → (answer_of d ≡ plain more_flags) × ((S T table bytes).overflow ≡ true)
+    full_is d E =
+        let o = sym (ap (λ s. s.overflow) E.state) in
+        (rw o at E.answer, o)
+
+    module _ {table' bytes' : List ℕ} (fits : (n * w ≤ length table) × (n ≤ length bytes)) (r : Result Found Refusal)
+        (E : Walked table' bytes' r) where
+      table_found : over (flatten (S T table bytes).found) table ≡ table'
+      table_found =
+          let k = count_in n r * w in
+          let i : k ≤ length table' = omega (arith, mul-le-mul_right w E.fits, E.rest.long) in
+          rw (
+            sym (ap (λ s. s.found) E.state) ∙ come_found w n table' bytes' r (S T table bytes).place,
+            rows_flat w table' (count_in n r),
+          ) (over_is k table' table i E.rest.past)
+
+      bytes_found : over (S T table bytes).bytes bytes ≡ bytes'
+      bytes_found =
+          let i : count_in n r ≤ length bytes' = omega (arith, E.fits, E.rest.bytes_long) in
+          rw (sym (ap (λ s. s.bytes) E.state) ∙ come_bytes w n table' bytes' r (S T table bytes).place)
+          (over_is (count_in n r) bytes' bytes i E.rest.bytes_past)
+
+    pub ends_walk : {table' bytes' : List ℕ} → (n * w ≤ length table) × (n ≤ length bytes)
+        → (r : Result Found Refusal) → Walked table' bytes' r
+        → Ends m L first mask table bytes (told_searched r) table' bytes'
     unfolding state_of
-    ends_found o =
-        rw (table_found, bytes_found, count_found, sym (ap (λ s. s.place) E.state))
-        at (said_fine T table bytes (sym (ap (λ s. s.overflow) E.state) ∙ o))
+    ends_walk fits (Ok f) E =
+        rw (table_found fits (Ok f) E, bytes_found fits (Ok f) E, count_found f E, sym (ap (λ s. s.place) E.state))
+        at (said_fine T table bytes (sym (ap (λ s. s.overflow) E.state)))
+    ends_walk fits (Err d) E =
+        let o = full_is d E in
+        rw o.0
+        (rw (table_found fits (Err d) E, bytes_found fits (Err d) E) at (said_full T table bytes o.1))
+
+-- ---- the same as the code meets it
+
+-- what `?` returns is the refusal that it met
+pub searched_err : (r : Result Found Refusal) (d : Refusal) → IsErrAnd r (λ x. x ≡ d)
+    → told_searched r ≡ refused_as (answer_of d)
+searched_err r d h = let p = err_from_is_err_and r h in rw (p.1, p.2) refl
+
+module _ (s : Slices) (first : List ℕ) where
+  pub some_rank : fine ≡ start_test limits (held s) first → 0 < length s.counts.now
+  some_rank e = ((start_exact limits (held s) first).0 (no_of e refl)).0.shaped.some_rank
+
+  module _ (t : Slices) (same : t ≡ s) (e : fine ≡ start_test limits (held s) first) where
+    pub the_flag : IsFlag (held t) first
+    the_flag = rw same ((start_exact limits (held s) first).0 (no_of e refl)).1
+
+    pub the_mask : (mask : ℕ) → true ≡ mask_fits (rank (held s)) mask → InnerRanks (rank (held t)) mask
+    the_mask mask h = rw same ((fits_exact (rank (held s)) mask).0 (sym h))
+
+    pub the_room : (table bytes n : ℕ) → n ≡ min (min (table / length s.counts.now) bytes) limits.flags
+        → (n * length t.counts.now ≤ table) × (n ≤ bytes) × (n ≤ limits.flags)
+    the_room table bytes n h = rw same (room_fits limits table bytes (length s.counts.now) n h)
+
+    -- the walk, with the room that there is
+    pub ends_search : {table bytes table' bytes' : List ℕ} {mask n : ℕ} → true ≡ mask_fits (rank (held s)) mask
+        → n ≡ min (min (length table / length s.counts.now) (length bytes)) limits.flags → (r : Result Found Refusal)
+        → Ended (length t.counts.now) n table bytes table' bytes' r (found_by (held t) first mask n)
+        → Ends limits (held s) first mask table bytes (told_searched r) table' bytes'
+    ends_search {table} {bytes} {table'} {bytes'} {mask} {n} h z r E =
+        let z' = z ∙ room_is limits (held s) (length table) (length bytes) (some_rank e) in
+        let f = room_fits limits (length table) (length bytes) (length s.counts.now) _ (sym z' ∙ z) in
+        ends_walk
+        ((searchable_exact limits (held s) first mask).0 (no_of e refl, sym h)) table bytes (f.0, f.1) r
+        (rw (same, z') at E)
+
+pub ruleset asked = (some_rank, the_flag, the_mask, the_room)

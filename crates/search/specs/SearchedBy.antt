@@ -11,16 +11,19 @@
 -- searched_by   what a search answers, with a table and bytes lent to it
 -- table_after   what the table holds afterwards
 -- bytes_after   what the bytes are afterwards
-use Rattle.std.specs.Prelude.{not, cond, ◌||◌, List, ℕ, ◌+◌, ◌/◌, min, eqb, length}
+use Rattle.std.specs.Prelude.{not, cond, ◌||◌, Result, Ok, Err, List, ℕ, ◌+◌, ◌/◌, min, eqb, length}
 use Rattle.order.specs.Lists.{over}
 use Rattle.listing.specs.declared.Answer.{Answer}
+use Rattle.listing.specs.declared.Refusal.{Refusal}
 use Rattle.listing.specs.Refusals.{outside_ranks, more_flags}
-use Rattle.listing.specs.Answers.{plain, if_zero, on, ◌or_else◌}
+use Rattle.listing.specs.Answers.{plain, fine, if_zero, on, ◌or_else◌}
+use Rattle.listing.specs.Told.{answer_of}
 use Rattle.listing.specs.Listing.{Listing, Limits, rank}
 use Rattle.flag_change.specs.Flags.{start_test}
 use Rattle.search_theory.specs.Search.{State}
 use Rattle.search_index.specs.Rows.{flatten}
 use Rattle.search_masks.specs.Masks.{mask_fits}
+use Rattle.search_store.specs.declared.Found.{Found}
 use Rattle.search.specs.declared.Searched.{Searched}
 use Rattle.search_walk.specs.Searched.{found_by}
 
@@ -29,6 +32,10 @@ refused_as a = record { answer = a; count = 0; place = 0; orientable = 0 }
 
 abbrev pub found_as : Answer → ℕ → ℕ → Searched
 found_as a count place = record { answer = a; count = count; place = place; orientable = cond (eqb place 0) 1 0 }
+
+abbrev pub told_searched : Result Found Refusal → Searched
+told_searched (Ok found) = found_as fine found.count found.place
+told_searched (Err why) = refused_as (answer_of why)
 
 abbrev pub searched_as : Answer → ℕ → ℕ → Searched
 searched_as a count place = if_zero a.no (found_as a count place) (refused_as a)

@@ -3,12 +3,15 @@
 use mathlib.Core.Path.{◌≡◌, refl, sym, ap, subst, ◌∙◌}
 use mathlib.Core.Bool.{true}
 use mathlib.Core.List.{List, [], ◌∷◌, ◌++◌}
-use Prim.Native.Nat.{ℕ, ◌+◌, ◌*◌, ◌≤◌, ◌<◌}
+use Prim.Native.Nat.{ℕ, ◌+◌, ◌-◌, ◌*◌, ◌≤◌, ◌<◌}
+use native.Mathlib.Nat.{mul-le-mul_right}
 use native.Mathlib.Numerals.{add-one}
 use native.Mathlib.Omega.{arith}
-use lib.ListN.{length, get_or, take, length-set}
-use lib.Seq.{get_or-take, take-suc-set, drop-set-lt}
-use Rattle.std.specs.Prelude.{Ok, Err}
+use lib.ListN.{length, get_or, take, drop, length-set}
+use lib.Seq.{get_or-take, take-suc-set, drop-set-lt, drop-drop}
+use Rattle.std.specs.Prelude.{Result, Ok, Err, IsErrAnd}
+use Rattle.std.proofs.lemmas.Result.{err_from_is_err_and}
+use Rattle.listing.specs.declared.Refusal.{Refusal}
 use Rattle.listing.specs.declared.Refusal.TheVariants.{MoreFlags}
 use Rattle.search_theory.specs.Search.{State, place_after, again, index_in, meet}
 use Rattle.search_theory.proofs.Step.{place_kept, place_same, place_first, meet_again, meet_full, meet_new}
@@ -17,7 +20,7 @@ use Rattle.search_store.specs.declared.Found.{Found}
 use Rattle.search_store.specs.declared.Store.{Store}
 use Rattle.search_index.specs.Rows.{rows, same_list}
 use Rattle.search_index.specs.Hash.{hash_of}
-use Rattle.search_store.specs.Held.{state_of, SameLent, Held, Added, Rest, Moved}
+use Rattle.search_store.specs.Held.{state_of, state_in, SameLent, Held, Added, Rest, Moved}
 use Rattle.search_index.proofs.Hash.{hash_small}
 use Rattle.search_index.proofs.Rows.{row_end, rows_length, put_length, put_rest, put_rows}
 use Rattle.search_index.proofs.Indexing.{index_more}
@@ -106,7 +109,7 @@ untouched w n table bytes = record { long = refl; past = refl; bytes_long = refl
 
 -- something was found
 pub moved_ok : {w : ℕ} {t u : Store} {s f : Found} {S : State (List ℕ)} → SameLent t u
-    → state_of w u.table.now u.bytes.now f ≡ S → Held w u f.count → s.count ≤ f.count
+    → state_in w u f ≡ S → Held w u f.count → s.count ≤ f.count
     → Rest w f.count t.table.now t.bytes.now u.table.now u.bytes.now → Moved w t s u (Ok f) S
 unfolding state_of
 moved_ok l e H m R = record {
@@ -120,13 +123,13 @@ moved_ok l e H m R = record {
 
 module _ (w : ℕ) (t : Store) (s : Found) (H : Held w t s.count) where
   -- nothing was written
-  pub moved_none : {f : Found} {S : State (List ℕ)} → f.count ≡ s.count → state_of w t.table.now t.bytes.now f ≡ S
+  pub moved_none : {f : Found} {S : State (List ℕ)} → f.count ≡ s.count → state_in w t f ≡ S
       → Moved w t s t (Ok f) S
   moved_none c e = moved_ok (same_lent t) e (rw c H) (omega arith) (untouched w _ t.table.now t.bytes.now)
 
   module _ (b : ℕ) (y : List ℕ) (k : ℕ) (e : k ≡ index_in same_list (rows w t.table.now s.count) y) where
     abbrev pub after : State (List ℕ)
-    after = meet same_list t.room b (state_of w t.table.now t.bytes.now s) y
+    after = meet same_list t.room b (state_in w t s) y
 
     -- it was found before, and nothing changes
     pub moved_known : k < s.count → (s.place ≡ 0 → ⊥) → Moved w t s t (Ok s) after
@@ -202,11 +205,58 @@ module _ (t : Store) (s : Found) (flag : List ℕ) (H : Held (length flag) t s.c
         })
 
     added_state : state_of w u.table.now u.bytes.now f
-        ≡ meet same_list t.room b (state_of w t.table.now t.bytes.now s) flag
+        ≡ meet same_list t.room b (state_in w t s) flag
     added_state =
         new_added w t.room t.table.now t.bytes.now s b flag k d i u.table.now u.bytes.now
         (rw A.table (put_rows t.table.now n flag fits))
         (rw (A.bytes, add-one) (take-suc-set t.bytes.now n b (omega (arith, H.room_bytes)))) r
 
-    pub moved_added : Moved w t s u (Ok f) (meet same_list t.room b (state_of w t.table.now t.bytes.now s) flag)
+    pub moved_added : Moved w t s u (Ok f) (meet same_list t.room b (state_in w t s) flag)
     moved_added = moved_ok A.same added_state added_held (omega arith) added_rest
+
+-- ---- one move after another
+
+same_trans : {t u v : Store} → SameLent t u → SameLent u v → SameLent t v
+same_trans a b = record { table = b.table ∙ a.table; bytes = b.bytes ∙ a.bytes; room = b.room ∙ a.room }
+
+drop_more : (n m : ℕ) (l k : List ℕ) → n ≤ m → drop n l ≡ drop n k → drop m l ≡ drop m k
+drop_more n m l k h e =
+    let z : n + (m - n) ≡ m = omega arith in
+    rw z at (sym (drop-drop (m - n) n l) ∙ ap (drop (m - n)) e ∙ drop-drop (m - n) n k)
+
+rest_trans : {w n m : ℕ} {t b t' b' t'' b'' : List ℕ} → n ≤ m → Rest w n t b t' b' → Rest w m t' b' t'' b''
+    → Rest w m t b t'' b''
+rest_trans {w} {n} {m} {t} {b} {t'} {b'} h R Q = record {
+  long = Q.long ∙ R.long;
+  past = Q.past ∙ drop_more (n * w) (m * w) t' t (mul-le-mul_right w h) R.past;
+  bytes_long = Q.bytes_long ∙ R.bytes_long;
+  bytes_past = Q.bytes_past ∙ drop_more n m b' b h R.bytes_past;
+}
+
+pub moved_trans : {w : ℕ} {t u v : Store} {s f : Found} {q : Result Found Refusal} {S T : State (List ℕ)}
+    → Moved w t s u (Ok f) S → Moved w u f v q T → Moved w t s v q T
+moved_trans M N = record {
+  same = same_trans M.same N.same;
+  state = N.state;
+  answer = N.answer;
+  held = N.held;
+  more = omega (arith, M.more, N.more);
+  rest = rest_trans N.more M.rest N.rest;
+}
+
+-- the same move, to a state that is the same
+pub moved_to : {w : ℕ} {t u : Store} {s : Found} {q : Result Found Refusal} {S T : State (List ℕ)}
+    → Moved w t s u q S → S ≡ T → Moved w t s u q T
+moved_to {w} {t} {u} {s} {q} M e = subst (Moved w t s u q) e M
+
+-- the same move, whose refusal `?` hands on
+pub moved_err : {w : ℕ} {t u : Store} {s : Found} {S : State (List ℕ)} (q : Result Found Refusal) (d : Refusal)
+    → IsErrAnd q (λ x. x ≡ d) → Moved w t s u (Err d) S → Moved w t s u q S
+moved_err {w} {t} {u} {s} {S} q d h M =
+    let p = err_from_is_err_and q h in
+    subst (λ x. Moved w t s u x S) (sym (p.1 ∙ ap Err p.2)) M
+
+-- a refusal is that one more turned up than there is room for
+pub moved_over : {w : ℕ} {t u : Store} {s : Found} {d : Refusal} {S : State (List ℕ)} → Moved w t s u (Err d) S
+    → S.overflow ≡ true
+moved_over M = sym (ap (λ q. q.overflow) M.state)

@@ -1,6 +1,7 @@
 -- What the code that keeps the flags found keeps.
 --
 -- state_of   the state that a table, its bytes and what was found stand for
+-- state_in   the same of what a store holds
 -- count_in   how many flags stand in the table: all that there is room for where one more turned up
 -- come_to    the state that a table and its bytes stand for after a step of the search, which answers what was found, or
 --            that one more turned up than there is room for; the place that the search has then is not kept
@@ -30,6 +31,9 @@ state_of w table bytes s = record {
   place = s.place;
   overflow = false;
 }
+
+abbrev pub state_in : ℕ → Store → Found → State (List ℕ)
+state_in w t s = state_of w t.table.now t.bytes.now s
 
 abbrev pub count_in : ℕ → Result Found Refusal → ℕ
 count_in room (Ok s) = s.count

@@ -3,15 +3,24 @@ ghost use Rattle.std.specs.Prelude.{◌≡◌, ◌+◌, ◌*◌, ◌≤◌, ◌<
 ghost use Rattle.listing.specs.Listing.{limits};
 ghost use Rattle.search_theory.specs.Search.{meet as meet_in, index_in};
 ghost use Rattle.search_index.specs.Hash.{hash_of};
-ghost use Rattle.search_index.specs.Rows.{rows, same_list};
+ghost use Rattle.search_index.specs.Rows.{row_of, rows, same_list};
 ghost use Rattle.search_index.specs.Index.{Indexed};
-ghost use Rattle.search_store.specs.Held.{state_of, Held, Added, Moved};
+ghost use Rattle.search_store.specs.Held.{state_in, Held, Added, Moved};
 
 use crate::{Found, Store};
 use listing::{Index, Refusal};
 use search_index::row;
 
 impl<'a> Store<'a> {
+    // The flag at hand becomes that of row k.
+    #[tactic(auto, using(search_index::proofs::Rows::row_length))]
+    pub fn get_row(&self, k: usize, flag: &mut [Index])
+        requires { k * length flag.old + length flag.old ≤ length self.now.table.now }
+        ensures { flag.new ≡ row_of (length flag.old) self.now.table.now k }
+    {
+        flag.copy_from_slice(row::row_at(&*self.table, k, flag.len()));
+    }
+
     // The row of a flag among the first n, n where it stands in none. Its hash is h.
     #[tactic(auto, using(search_index::proofs::Hash::hash_small))]
     fn find(&self, flag: &[Index], h: usize, n: u16) -> u16
@@ -50,8 +59,7 @@ impl<'a> Store<'a> {
         requires hash { h ≡ hash_of flag.now }
         requires held { Held (length flag.now) self.now s.count }
         ensures { Moved (length flag.now) self.old s self.new result
-            (meet_in same_list self.old.room byte
-            (state_of (length flag.now) self.old.table.now self.old.bytes.now s) flag.now) }
+            (meet_in same_list self.old.room byte (state_in (length flag.now) self.old s) flag.now) }
     {
         let n = s.count;
         let k = self.find(flag, h, n);

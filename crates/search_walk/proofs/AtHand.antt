@@ -1,107 +1,103 @@
--- The flag at hand, at the beginning of an array: it is a row of the table, and one number of it is changed and put
--- back.
+-- The flag at hand: a row of the table, and what its change does to it and to its hash.
 -- Assumes nothing.
-use mathlib.Core.Path.{◌≡◌, sym, ap, ap₂, ◌∙◌}
+use mathlib.Core.Path.{◌≡◌, sym, ap, subst, ◌∙◌}
 use mathlib.Core.List.{List}
 use Prim.Native.Nat.{ℕ, ◌+◌, ◌-◌, ◌*◌, ◌%◌, ◌≤◌, ◌<◌}
 use native.Mathlib.Omega.{arith}
-use lib.ListN.{length, get_or, take, set, replicate, length-replicate}
-use lib.Seq.{length-take-le, get_or-take, take-set-lt, set-set, set-get_or}
-use Rattle.order.specs.Lists.{over}
-use Rattle.order.proofs.Over.{over_length, over_first}
-use Rattle.listing.specs.Listing.{width, Listing, limits, rank, subs, sups}
-use Rattle.valid.specs.Closed.{Closed}
-use Rattle.flag_change.specs.Flags.{IsFlag}
+use lib.ListN.{length, get_or, set, length-set}
+use lib.Seq.{set-set, set-get_or}
+use Rattle.std.specs.Prelude.{Result}
+use Rattle.listing.specs.declared.Slices.{Slices}
+use Rattle.listing.specs.declared.Refusal.{Refusal}
+use Rattle.listing.specs.Listing.{width, Listing, held, limits, rank}
+use Rattle.valid.specs.Tests.{closed}
+use Rattle.valid.proofs.InClosed.{shaped}
 use Rattle.flag_change.specs.declared.chain.Replaced.{Replaced}
-use Rattle.flag_change.specs.Change.{common, other, between, replaced_at, change_at}
+use Rattle.flag_change.specs.Change.{replaced_at, change_at}
 use Rattle.flag_change.proofs.Replaced.{taken_is}
-use Rattle.search_index.specs.Rows.{row_of}
-use Rattle.search_index.proofs.Rows.{row_end, row_length}
+use Rattle.search_theory.specs.Search.{meet}
+use Rattle.search_index.specs.Rows.{row_of, same_list}
+use Rattle.search_index.proofs.Rows.{row_end}
 use Rattle.search_index.specs.Hash.{hashes, weight, sum_from, hash_of}
-use Rattle.search_index.proofs.Hash.{old_inside, hash_changed}
+use Rattle.search_index.proofs.Hash.{weights_small, old_inside, hash_changed}
+use Rattle.search_store.specs.declared.Found.{Found}
+use Rattle.search_store.specs.declared.Store.{Store}
+use Rattle.search_store.specs.Held.{state_in, Moved}
+use Rattle.search_store.proofs.Meets.{moved_to}
+use Rattle.search_walk.specs.declared.Ranks.{Ranks}
 use Rattle.search_walk.specs.Ready.{AtHand, Ready, Walks}
 
--- a row at the beginning of the array
-module _ (w : ℕ) (row : List ℕ) (e : length row ≡ w) (h : w ≤ limits.ranks) where
-  pub array_long : length (over row (replicate limits.ranks 0)) ≡ limits.ranks
-  array_long =
-      let n = length-replicate {A = ℕ} limits.ranks 0 in
-      over_length row (replicate limits.ranks 0) (omega arith) ∙ n
+-- row k of a table whose rows are walked, got into a slice of m numbers
+module _ {L : Listing} {ranks : Ranks} {t : Store} {mask n : ℕ} (W : Walks L ranks mask t n) {k : ℕ} (i : k < n)
+    {at m : ℕ} (z : at ≡ k) (e : m ≡ length L.counts) where
+  pub row_there : at * m + m ≤ length t.table.now
+  row_there = rw (z, e) (omega (arith, row_end k n (length L.counts) i, W.rows.indexed.fits))
 
-  pub array_first : take w (over row (replicate limits.ranks 0)) ≡ row
-  array_first = over_first row (replicate limits.ranks 0) w e
+  pub row_got : {flag : List ℕ} → flag ≡ row_of m t.table.now at → flag ≡ row_of (length L.counts) t.table.now k
+  row_got d = rw (z, e) at d
 
--- row k of a table whose rows are walked
-pub walked_row : {L : Listing} {places weights table bytes heads next : List ℕ} {mask room n k : ℕ}
-    → Walks L places weights mask room table bytes heads next n → k < n
-    → k * length L.counts + length L.counts ≤ length table
-walked_row {L} {n = n} {k = k} W h = omega (arith, row_end k n (length L.counts) h, W.rows.indexed.fits)
+  -- is the flag at hand, as long as it stays
+  pub row_at_hand : {flag now : List ℕ} {sum : ℕ} → flag ≡ row_of m t.table.now at
+      → now ≡ row_of (length L.counts) t.table.now k
+      → (sum ≡ sum_from 0 flag) × (sum ≤ length flag * (width * hashes)) → AtHand L now sum
+  row_at_hand d g s =
+      let same = row_got d ∙ sym g in
+      record { is_flag = rw g (W.flags k i); sum_is = rw same at s.0; small = rw same at s.1 }
 
-module _ (L : Listing) (table : List ℕ) (k : ℕ) {flag : List ℕ} (few : length L.counts ≤ limits.ranks)
-    (h : k * length L.counts + length L.counts ≤ length table)
-    (e : flag ≡ over (row_of (length L.counts) table k) (replicate limits.ranks 0)) where
-  pub row_long : length flag ≡ limits.ranks
-  row_long = rw e (array_long _ _ (row_length _ table k h) few)
+module _ (s : Slices) (e : (closed limits (held s)).no ≡ 0) where
+  abbrev L : Listing
+  L = held s
 
-  pub row_first : take (length L.counts) flag ≡ row_of (length L.counts) table k
-  row_first = rw e (array_first _ _ (row_length _ table k h) few)
+  pub few : length s.counts.now ≤ limits.ranks
+  few = (shaped s e).few_ranks
 
-  pub row_at_hand : {sum : ℕ} → IsFlag L (row_of (length L.counts) table k)
-      → sum ≡ sum_from 0 (take (length L.counts) flag) → sum ≤ length L.counts * (width * hashes) → AtHand L flag sum
-  row_at_hand F s b = record { long = row_long; is_flag = rw row_first F; sum_is = s; small = b }
+  module _ (flag : List ℕ) (sum : ℕ) (H : AtHand L flag sum) where
+    pub sum_small : sum ≤ limits.ranks * (width * hashes)
+    sum_small = omega (arith, H.small, H.is_flag.one_each, few)
 
-pub weighs_at : {L : Listing} {places weights : List ℕ} {r : ℕ} → Ready L places weights → r < rank L
-    → get_or weights r 0 ≡ weight r
-weighs_at R h = R.weighs.each _ (omega (arith, h, R.closed.shaped.few_ranks))
+    -- the change at rank r, which is the number at, puts one number in and takes another out
+    module _ (r : ℕ) (k : (0 < r) × (r < rank L)) (at : ℕ) (z : at ≡ r) (p : Replaced) (d : p ≡ replaced_at L at flag)
+      where
+        hand_taken : p.taken ≡ get_or flag at 0
+        hand_taken = ap (λ (x : Replaced). x.taken) d ∙ taken_is L flag at
 
-module _ {L : Listing} (C : Closed limits L) {flag : List ℕ} {sum : ℕ} (H : AtHand L flag sum) (r : ℕ) (h : 0 < r)
-    (k : r < rank L) where
-  -- how many numbers the flag has, and the flag itself
-  abbrev w : ℕ
-  w = length L.counts
+        -- with what was taken out put back, the flag is as it was
+        pub hand_back : set (set flag at p.put) at p.taken ≡ flag
+        hand_back = rw hand_taken (set-set flag at p.put (get_or flag at 0) ∙ set-get_or flag at 0)
 
-  abbrev f : List ℕ
-  f = take w flag
+        -- the flag with what is put in is met
+        pub hand_met : (t u : Store) (f : Found) (q : Result Found Refusal) (byte : ℕ)
+            → Moved (length (set flag at p.put)) t f u q
+            (meet same_list t.room byte (state_in (length (set flag at p.put)) t f) (set flag at p.put))
+            → Moved (length s.counts.now) t f u q
+            (meet same_list t.room byte (state_in (length s.counts.now) t f) (change_at L r flag))
+        unfolding change_at
+        hand_met t u f q byte M =
+            let long : length (set flag at p.put) ≡ length s.counts.now =
+            length-set flag at p.put ∙ H.is_flag.one_each in
+            let is : set flag at p.put ≡ set flag r (replaced_at L r flag).put =
+            ap (λ (x : Replaced). set flag at x.put) d ∙ ap (λ n. set flag n (replaced_at L n flag).put) z in
+            moved_to (subst (λ w. Moved w t f u q
+            (meet same_list t.room byte (state_in w t f) (set flag at p.put))) long M)
+            (ap (meet same_list t.room byte (state_in (length s.counts.now) t f)) is)
 
-  short : w ≤ length flag
-  short = omega (arith, C.shaped.few_ranks, H.long)
+        module _ (ranks : Ranks) (R : Ready L ranks) where
+          abbrev v : ℕ
+          v = get_or ranks.weights at 0
 
-  f_long : length f ≡ w
-  f_long = length-take-le w flag short
+          weighs : v ≡ weight at
+          weighs = R.weighs.each at (omega (arith, k.1, few))
 
-  at_w : (q : ℕ) → q < w → get_or f q 0 ≡ get_or flag q 0
-  at_w q l = get_or-take w flag q 0 l
+          pub weight_few : v < hashes
+          weight_few = weights_small ranks.weights R.weighs at (omega (arith, k.1, few))
 
-  between_same : between L r flag ≡ between L r f
-  unfolding between
-  between_same =
-      ap₂ common (ap (sups L (r - 1)) (sym (at_w (r - 1) (omega arith))))
-      (ap (subs L (r + 1)) (sym (at_w (r + 1) (omega arith))))
+          inside : at < length flag
+          inside = omega (arith, k.1, H.is_flag.one_each)
 
-  -- what the change replaces
-  module _ {p : Replaced} (e : p ≡ replaced_at L r flag) where
-    hand_taken : p.taken ≡ get_or flag r 0
-    hand_taken = ap (λ (x : Replaced). x.taken) e ∙ taken_is L flag r
+          pub hand_old : p.taken * v ≤ sum + p.put * v
+          hand_old = rw (weighs, H.sum_is, hand_taken) (old_inside flag at p.put inside)
 
-    -- the flag with what is put in
-    pub hand_changed : take w (set flag r p.put) ≡ change_at L r f
-    unfolding change_at replaced_at
-    hand_changed =
-        let z : p.put ≡ other (get_or f r 0) (between L r f) =
-        ap (λ (x : Replaced). x.put) e ∙ ap₂ other (sym (at_w r (omega arith))) between_same in
-        take-set-lt w flag r p.put (omega arith) ∙ ap (set f r) z
+          pub hand_hash : (h : ℕ) → h ≡ (sum + p.put * v - p.taken * v) % hashes → h ≡ hash_of (set flag at p.put)
+          hand_hash h y = y ∙ rw (weighs, H.sum_is, hand_taken) (hash_changed flag at p.put inside)
 
-    module _ (v : ℕ) (d : v ≡ weight r) where
-      pub hand_old : p.taken * v ≤ sum + p.put * v
-      hand_old =
-          rw (d, H.sum_is, hand_taken, ← at_w r (omega arith)) (old_inside f r p.put (omega (arith, f_long)))
-
-      pub hand_hash : (sum + p.put * v - p.taken * v) % hashes ≡ hash_of (take w (set flag r p.put))
-      hand_hash =
-          rw (d, H.sum_is, hand_taken, ← at_w r (omega arith))
-          (hash_changed f r p.put (omega (arith, f_long))
-          ∙ ap hash_of (sym (take-set-lt w flag r p.put (omega arith))))
-
-    -- with what was taken out put back, the flag is as it was
-    pub hand_back : set (set flag r p.put) r p.taken ≡ flag
-    hand_back = rw hand_taken (set-set flag r p.put (get_or flag r 0) ∙ set-get_or flag r 0)
+pub ruleset hand = (few, sum_small, weight_few, hand_old, hand_hash, hand_back, hand_met)

@@ -1,24 +1,23 @@
-// The search on a listing that is known to be closed: flags are kept in the table in the order found, and worked in
-// that order.
-ghost use Rattle.std.specs.Prelude.{◌≡◌, false, List, ℕ, ◌-◌, ◌*◌, ◌≤◌, ◌<◌, length, get_or, take};
+// The search on a closed cell: flags are kept in the table in the order found, and worked in that order.
+ghost use Rattle.std.specs.Prelude.{◌≡◌, List, ℕ, ◌-◌, ◌*◌, ◌≤◌, ◌<◌, length, get_or};
 ghost use Rattle.listing.specs.Listing.{held, limits, rank};
-ghost use Rattle.valid.specs.Closed.{Closed};
 ghost use Rattle.flag_change.specs.Flags.{IsFlag};
 ghost use Rattle.flag_change.specs.Change.{change_at};
 ghost use Rattle.search_theory.specs.Search.{meet as meet_in, meet_all, run as run_in};
 ghost use Rattle.search_index.specs.Rows.{row_of, same_list};
-ghost use Rattle.search_store.specs.Held.{state_of, Held, Moved};
+ghost use Rattle.search_store.specs.Held.{state_in, Held, Moved};
 ghost use Rattle.search_masks.specs.Masks.{InnerRanks};
 ghost use Rattle.search_walk.specs.Searched.{mask_changes, found_by};
-ghost use Rattle.search_walk.specs.Ready.{Ended, Places, Ready, Walks, AtHand};
+ghost use Rattle.search_walk.specs.Ready.{nothing, Ended, Places, Ready, Walks, AtHand};
 
+use crate::Ranks;
 use flag::parity;
 use flag_change::chain;
-use listing::{Index, inner, limit};
-use search_index::{index, row};
+use listing::{Index, Refusal, limit};
+use search_index::index::{self, Chains};
 use search_masks::mask;
-use search_store::found;
-use search_store::found::Progress;
+use search_store::{Found, Store};
+use valid::ClosedCell;
 
 // The places where the ranks begin.
 fn places_of(counts: &[Index]) -> [usize; limit::RANKS]
@@ -29,181 +28,149 @@ fn places_of(counts: &[Index]) -> [usize; limit::RANKS]
     let mut here: usize = 0;
     for (r, &count) in counts.iter().enumerate() {
         places[r] = here;
-        here += inner::wide(count);
+        here += usize::from(count);
     }
     places
 }
 
 // The change at rank r of the flag at hand, of which sum is the sum, is met; then the flag at hand is as it was.
+#[tactic(auto, using(crate::proofs::AtHand::hand))]
 fn try_next(
-    counts: &[Index],
-    ends: &[Index],
-    inc: &[Index],
-    places: &[usize; limit::RANKS],
-    weights: &[usize; limit::RANKS],
-    table: &mut [Index],
-    bytes: &mut [u8],
-    heads: &mut [u16; index::HASHES],
-    next: &mut [u16; limit::FLAGS],
-    flag: &mut [Index; limit::RANKS],
+    cell: ClosedCell<'_>,
+    ranks: &Ranks,
+    store: &mut Store<'_>,
+    flag: &mut [Index],
     sum: usize,
     r: u16,
     byte: u8,
-    room: usize,
-    s: Progress,
-) -> Progress
-    requires ready { Ready (held counts ends inc) places.now weights.now }
-    requires at_hand { AtHand (held counts ends inc) flag.old sum }
-    requires r_nonzero { (0 < r) × (r < rank (held counts ends inc)) }
-    requires held { Held (length counts.now) room table.old bytes.old heads.old next.old s.count }
-    requires overflow_value { s.overflow ≡ false }
+    s: Found,
+) -> Result<Found, Refusal>
+    requires ready { Ready (held cell.slices) ranks.now }
+    requires at_hand { AtHand (held cell.slices) flag.old sum }
+    requires r_inside { (0 < r) × (r < rank (held cell.slices)) }
+    requires held { Held (length cell.slices.counts.now) store.old s.count }
     ensures flag_unchanged { flag.new ≡ flag.old }
-    ensures moved { Moved (length counts.now) room table.old bytes.old s
-        table.new bytes.new heads.new next.new result
-        (meet_in same_list room byte (state_of (length counts.now) table.old bytes.old s)
-        (change_at (held counts.entry ends.entry inc.entry) r
-        (take (length counts.now) flag.old))) }
+    ensures moved { Moved (length cell.entry.slices.counts.now) store.old s store.new result
+        (meet_in same_list store.old.room byte (state_in (length cell.entry.slices.counts.now) store.old s)
+        (change_at (held cell.entry.slices) r flag.old)) }
 {
-    let w = counts.len();
-    let at = inner::wide(r);
-    let p = chain::replaced_at(
-        counts,
-        ends,
-        inc,
-        &*flag,
-        at,
-        places[at - 1],
-        places[at + 1],
-    );
-    let h = index::hash_changed(sum, weights[at], p.taken, p.put);
+    let at = usize::from(r);
+    let p = chain::replaced_at(cell, &*flag, at, ranks.places[at - 1], ranks.places[at + 1]);
+    let h = index::hash_changed(sum, ranks.weights[at], p.taken, p.put);
     flag[at] = p.put;
-    let t = found::meet(table, bytes, heads, next, flag, w, h, byte, room, s);
+    let met = store.meet(&*flag, h, byte, s);
     flag[at] = p.taken;
-    t
+    met
 }
 
 // The changes of flag k that the mask asks for are met, from the lowest rank upward.
+#[tactic(auto, using(crate::proofs::AtHand::few))]
 fn work(
-    counts: &[Index],
-    ends: &[Index],
-    inc: &[Index],
-    places: &[usize; limit::RANKS],
-    weights: &[usize; limit::RANKS],
-    table: &mut [Index],
-    bytes: &mut [u8],
-    heads: &mut [u16; index::HASHES],
-    next: &mut [u16; limit::FLAGS],
+    cell: ClosedCell<'_>,
+    ranks: &Ranks,
+    store: &mut Store<'_>,
     mask: u16,
     k: u16,
-    room: usize,
-    start: Progress,
-) -> Progress
-    requires walks { Walks (held counts ends inc) places.now weights.now mask room table.old bytes.old heads.old
-        next.old start.count }
-    requires k_lt_count { (k < start.count) × (start.overflow ≡ false) }
-    ensures { Moved (length counts.now) room table.old bytes.old start
-        table.new bytes.new heads.new next.new result
-        (meet_all same_list room (1 - get_or bytes.old k 0)
-        (state_of (length counts.now) table.old bytes.old start)
-        (mask_changes (held counts.entry ends.entry inc.entry) mask
-        (row_of (length counts.now) table.old k))) }
+    start: Found,
+) -> Result<Found, Refusal>
+    requires walks { Walks (held cell.slices) ranks.now mask store.old start.count }
+    requires k_lt_count { k < start.count }
+    ensures { Moved (length cell.entry.slices.counts.now) store.old start store.new result
+        (meet_all same_list store.old.room (1 - get_or store.old.bytes.now k 0)
+        (state_in (length cell.entry.slices.counts.now) store.old start)
+        (mask_changes (held cell.entry.slices) mask
+        (row_of (length cell.entry.slices.counts.now) store.old.table.now k))) }
 {
-    let w = counts.len();
-    let at = inner::wide(k);
-    let mut flag: [Index; limit::RANKS] = [0; limit::RANKS];
-    row::get_row(&*table, at, w, &mut flag);
-    let sum = index::sum_of(&flag, w, weights);
-    let byte = parity::flipped(bytes[at]);
+    let at = usize::from(k);
+    let mut numbers: [Index; limit::RANKS] = [0; limit::RANKS];
+    let flag = &mut numbers[..cell.slices.counts.len()];
+    store.get_row(at, flag);
+    let sum = index::sum_of(&*flag, &ranks.weights);
+    let byte = parity::flipped(store.bytes[at]);
     let mut left = mask;
     let mut s = start;
-    while mask::any_left(left) {
-        if s.overflow {
-            return s;
-        }
+    while left != 0 {
         let r = mask::lowest(left);
         left = mask::without(left, r);
-        s = try_next(
-            counts, ends, inc, places, weights, table, bytes, heads, next, &mut flag, sum, r, byte,
-            room, s,
-        );
+        s = try_next(cell, ranks, store, flag, sum, r, byte, s)?;
     }
-    s
+    Ok(s)
 }
 
-// The flags are worked in the order found, until none is left or one more turned up than there is room for.
+// The flags are worked in the order found, until none is left or one more turns up than there is room for.
 fn run(
-    counts: &[Index],
-    ends: &[Index],
-    inc: &[Index],
-    places: &[usize; limit::RANKS],
-    weights: &[usize; limit::RANKS],
-    table: &mut [Index],
-    bytes: &mut [u8],
-    heads: &mut [u16; index::HASHES],
-    next: &mut [u16; limit::FLAGS],
+    cell: ClosedCell<'_>,
+    ranks: &Ranks,
+    store: &mut Store<'_>,
     mask: u16,
-    room: usize,
-    start: Progress,
-) -> Progress
-    requires { Walks (held counts ends inc) places.now weights.now mask room table.old bytes.old heads.old
-        next.old start.count }
-    ensures { (a : List ℕ) → Moved (length counts.now) room table.old bytes.old
-        start table.new bytes.new heads.new next.new result
-        (run_in same_list room (mask_changes (held counts.entry ends.entry inc.entry) mask) a
-        0 (state_of (length counts.now) table.old bytes.old start)) }
+    start: Found,
+) -> Result<Found, Refusal>
+    requires { Walks (held cell.slices) ranks.now mask store.old start.count }
+    ensures { (a : List ℕ) → Moved (length cell.entry.slices.counts.now) store.old start store.new result
+        (run_in same_list store.old.room (mask_changes (held cell.entry.slices) mask) a 0
+        (state_in (length cell.entry.slices.counts.now) store.old start)) }
 {
     let mut s = start;
     let mut k: u16 = 0;
     // No `for` over a range: the flags that are found on the way are worked too, so the end moves as the loop goes on.
     while k < s.count {
-        if s.overflow {
-            return s;
-        }
-        s = work(
-            counts, ends, inc, places, weights, table, bytes, heads, next, mask, k, room, s,
-        );
+        s = work(cell, ranks, store, mask, k, s)?;
         k += 1;
     }
-    s
+    Ok(s)
 }
 
-// The search from the first flag.
+// The search from the first flag, into a store in which nothing is found yet.
+#[tactic(auto, using(valid::proofs::InClosed::is_closed))]
+fn search_in(
+    cell: ClosedCell<'_>,
+    ranks: &Ranks,
+    store: &mut Store<'_>,
+    first: &[Index],
+    mask: u16,
+) -> Result<Found, Refusal>
+    requires ready { Ready (held cell.slices) ranks.now }
+    requires held { Held (length cell.slices.counts.now) store.old 0 }
+    requires flag { IsFlag (held cell.slices) first.now }
+    requires inner_ranks { InnerRanks (rank (held cell.slices)) mask }
+    ensures { Moved (length cell.entry.slices.counts.now) store.old nothing store.new result
+        (found_by (held cell.entry.slices) first.now mask store.old.room) }
+{
+    let h = index::sum_of(first, &ranks.weights) % index::HASHES;
+    let nothing = Found { count: 0, place: 0 };
+    let s = store.meet(first, h, 0, nothing)?;
+    run(cell, ranks, store, mask, s)
+}
+
+// The search from the first flag, with room for so many.
+#[tactic(auto, using(crate::proofs::AtHand::few))]
 pub fn search_from(
-    counts: &[Index],
-    ends: &[Index],
-    inc: &[Index],
+    cell: ClosedCell<'_>,
     first: &[Index],
     mask: u16,
     table: &mut [Index],
     bytes: &mut [u8],
     room: usize,
-) -> Progress
-    requires closed { Closed limits (held counts ends inc) }
-    requires flag { IsFlag (held counts ends inc) first.now }
-    requires inner_ranks { InnerRanks (rank (held counts ends inc)) mask }
-    requires counts_in_bounds { (room * length counts.now ≤ length table.old) × (room ≤ length bytes.old)
+) -> Result<Found, Refusal>
+    requires flag { IsFlag (held cell.slices) first.now }
+    requires inner_ranks { InnerRanks (rank (held cell.slices)) mask }
+    requires room_fits { (room * length cell.slices.counts.now ≤ length table.old) × (room ≤ length bytes.old)
         × (room ≤ limits.flags) }
-    ensures { Ended (length counts.now) room table.old bytes.old
-        table.new bytes.new result
-        (found_by (held counts.entry ends.entry inc.entry) first.now mask
-        room) }
+    ensures { Ended (length cell.entry.slices.counts.now) room table.old bytes.old table.new bytes.new result
+        (found_by (held cell.entry.slices) first.now mask room) }
 {
-    let w = counts.len();
-    let places = places_of(counts);
-    let weights = index::weights();
-    let mut heads = [0u16; index::HASHES];
-    let mut next = [0u16; limit::FLAGS];
-    let flag = chain::pad(first);
-    let h = index::sum_of(&flag, w, &weights) % index::HASHES;
-    let none = Progress {
-        count: 0,
-        place: 0,
-        overflow: false,
+    let ranks = Ranks {
+        places: places_of(cell.slices.counts),
+        weights: index::weights(),
     };
-    let s = found::meet(
-        table, bytes, &mut heads, &mut next, &flag, w, h, 0, room, none,
-    );
-    run(
-        counts, ends, inc, &places, &weights, table, bytes, &mut heads, &mut next, mask, room, s,
-    )
+    let mut store = Store {
+        table,
+        bytes,
+        chains: Chains {
+            heads: [0; index::HASHES],
+            next: [0; limit::FLAGS],
+        },
+        room,
+    };
+    search_in(cell, &ranks, &mut store, first, mask)
 }

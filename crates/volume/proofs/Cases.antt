@@ -13,11 +13,19 @@ use lib.Dec.{eqb}
 use lib.ListN.{length}
 use lib.Ieee.{Float}
 use Rattle.order.specs.Lists.{over}
+use Rattle.std.proofs.Common.{Result}
+use Rattle.std.specs.Result.{IsErrAnd}
+use Rattle.std.proofs.lemmas.Result.{err_from_is_err_and}
+use Rattle.listing.specs.declared.Refusal.{Refusal}
 use Rattle.listing.specs.Answers.{fine}
+use Rattle.listing.specs.Told.{answer_of}
 use Rattle.listing.specs.Listing.{Listing, limits, rank, count}
-use Rattle.listing.proofs.Answers.{or_no, on_no, on_or_no, if_not}
+use Rattle.listing.proofs.Answers.{no_of, or_no, or_stop, on_no, on_or_no, if_not}
 use Rattle.listing.proofs.Broken.{zero_or}
+use Rattle.listing.proofs.Told.{refuses}
 use Rattle.valid.specs.Closed.{Closed}
+use Rattle.valid.specs.Tests.{closed}
+use Rattle.valid.proofs.ClosedExact.{closed_exact}
 use Rattle.flag_change.specs.Flags.{IsFlag, start_test}
 use Rattle.flag_change.proofs.StartExact.{start_exact}
 use Rattle.search_theory.specs.Search.{State, Neighbour, Proper, evens}
@@ -29,7 +37,7 @@ use Rattle.search_masks.specs.Masks.{every_rank}
 use Rattle.search_walk.specs.Searched.{mask_changes, found_by}
 use Rattle.search_walk.specs.Ready.{AllFlags}
 use Rattle.search.specs.declared.Searched.{Searched}
-use Rattle.search.specs.SearchedBy.{found_as, room_of, searched_by, table_after, bytes_after}
+use Rattle.search.specs.SearchedBy.{refused_as, found_as, room_of, searched_by, table_after, bytes_after}
 use Rattle.search.specs.Exact.{Searchable, Holds}
 use Rattle.search.specs.Promised.{room_in}
 use Rattle.search.proofs.Cases.{Ends, room_fits, ends_start, said_fine}
@@ -41,8 +49,8 @@ use Rattle.volume_metres.specs.Formulas.{in_floats}
 use Rattle.volume_theory.specs.Six.{cell_rank, even_flags, six_formula}
 use Rattle.volume_theory.proofs.EvenFlags.{Oriented, even_flag}
 use Rattle.volume_theory.proofs.Exactly.{six_exact}
-use Rattle.volume.specs.declared.Volume.TheVariants.{Six, Refused}
-use Rattle.volume.specs.Volumes.{volume_test, volume_by}
+use Rattle.volume.specs.Volumes.{measured, refused_with, volume_test, volume_by}
+use Rattle.volume.specs.Volumes.{told_volume}
 
 -- ---- the mask
 
@@ -199,25 +207,60 @@ module _ (L : Listing) (first : List ℕ) (xs : List Float) (table bytes : List 
     unfolding even_flags
     few = omega (arith, evens_few S.found S.bytes, proper.fits, room_held)
 
-  -- ---- the answer
+-- ---- what the code answers, where the search was asked for by any mask that will do
 
-  module _ (s : Searched) (e : s ≡ said) (n : ℕ) (k : n ≡ (volume_test L.counts xs s).no) where
-    pub refused_is : n ≢ 0 → Refused n ≡ volume_by limits L first xs table bytes
-    unfolding volume_by
-    refused_is h = rw (k, e) (sym (if_not _ (Six _) (Refused _) (rw (k, e) at h)))
+-- what `?` returns is the refusal that it met
+pub volume_err : (result : Result Float Refusal) (d : Refusal) → IsErrAnd result (λ x. x ≡ d)
+    → told_volume result ≡ refused_with (answer_of d).no
+volume_err result d h = let p = err_from_is_err_and result h in rw (p.1, p.2) refl
 
-    pub passed_is : n ≡ 0 → Answered
-    passed_is z = answered (rw (k, e) at z)
+pub ends_every : (L : Listing) (first : List ℕ) (mask : ℕ) (table bytes : List ℕ) {s : Searched} {t b : List ℕ}
+    → (length L.counts ≤ limits.ranks → mask ≡ every_rank (length L.counts - 1))
+    → s ≡ searched_by limits L first mask table bytes → t ≡ table_after limits L first mask table bytes
+    → b ≡ bytes_after limits L first mask table bytes
+    → Ends limits L first (every_rank (rank L)) table bytes s t b
+ends_every L first mask table bytes M V T B =
+    any_mask L first mask table bytes M (record { answer = V; flags = T; turns = B })
+
+module _ {L : Listing} {first : List ℕ} {table bytes : List ℕ} {s : Searched} {t b : List ℕ}
+    (E : Ends limits L first (every_rank (rank L)) table bytes s t b) (xs : List Float) where
+  -- a test refuses
+  pub test_halts : (d : Refusal) → answer_of d ≡ volume_test L.counts xs s
+      → refused_with (answer_of d).no ≡ volume_by limits L first xs table bytes
+  unfolding volume_by
+  test_halts d e =
+      let n = rw E.answer at e in
+      rw (← n) (sym (if_not _ (measured _) (refused_with _) (refuses d)))
+
+  -- the search does
+  pub search_halts : (d : Refusal) → s ≡ refused_as (answer_of d)
+      → refused_with (answer_of d).no ≡ volume_by limits L first xs table bytes
+  unfolding volume_test
+  search_halts d e = test_halts d (rw e (sym (or_stop (answer_of d) _ (refuses d))))
+
+  -- nothing is refused
+  module _ (z : fine ≡ volume_test L.counts xs s) where
+    pub passes : Answered L first xs table bytes
+    passes = answered L first xs table bytes (rw E.answer at (no_of z refl))
+
+    pub is_closed : (closed limits L).no ≡ 0
+    is_closed = (closed_exact limits L).1 passes.searchable.closed
+
+    pub asks : ((s.count * length L.counts ≤ length t) × (s.count ≤ length b)) × AllFlags L t s.count
+    asks = sum_asks L first xs table bytes passes E.answer E.flags E.turns
 
     -- the sum, as it was worked out from what the search left
-    pub summed_is : n ≡ 0 → {t b : List ℕ} → t ≡ left → b ≡ turns → (x : Float)
-        → x ≡ in_floats xs (six_formula L (evens (rows (length L.counts) t s.count) b))
-        → Six x ≡ volume_by limits L first xs table bytes
+    pub summed : (x : Float) → x ≡ in_floats xs (six_formula L (evens (rows (length L.counts) t s.count) b))
+        → measured x ≡ volume_by limits L first xs table bytes
     unfolding volume_by
-    summed_is z f g x i =
-        let A = passed_is z in
-        let h : (volume_test L.counts xs said).no ≡ 0 = rw (k, e) at z in
-        let l = (λ j. evens (rows (wide A j) (f j) (e j).count) (g j)) ∙ evens_left A in
-        let y = six_exact (C A) A.is_cell xs A.metres A.three_each (even_flags L first room) (evens_flags A)
-        (few A) in
-        rw h (ap Six (i ∙ ap (λ q. in_floats xs (six_formula L q)) l ∙ y))
+    summed x i =
+        let A = passes in
+        let h = rw E.answer at (no_of z refl) in
+        let l =
+        (λ j. evens (rows (wide L first xs table bytes A j) (E.flags j) (E.answer j).count) (E.turns j))
+        ∙ evens_left L first xs table bytes A in
+        let y =
+        six_exact A.searchable.closed A.is_cell xs A.metres A.three_each
+        (even_flags L first (room_in limits L table bytes)) (evens_flags L first xs table bytes A)
+        (few L first xs table bytes A) in
+        rw h (ap measured (i ∙ ap (λ q. in_floats xs (six_formula L q)) l ∙ y))

@@ -14,21 +14,21 @@ use Rattle.volume_theory.proofs.Vertices.{face_there, other_end}
 use Rattle.volume_theory.proofs.Lowest.{lowest_in}
 use Rattle.volume_theory.proofs.Exactly.{six_whole, six_no_rounding, six_exact}
 use Rattle.volume.specs.declared.Measured.{Measured}
-use Rattle.volume.specs.Volumes.{measured, volume_test, measured_by, volume_table_after, volume_bytes_after}
+use Rattle.volume.specs.Volumes.{measured, volume_test, volume_by, volume_table_after, volume_bytes_after}
 use Rattle.volume.specs.Promised.{Summed, VolumePromised}
 use Rattle.volume.proofs.Cases.{said, Answered, answered, evens_left, evens_flags, few}
 use Rattle.volume.proofs.VolumeBroken.{number_is, volume_broken, as_searched, searched_first}
 
 module _ (L : Listing) (first : List ℕ) (xs : List Float) (table bytes : List ℕ) where
   abbrev r : Measured
-  r = measured_by limits L first xs table bytes
+  r = volume_by limits L first xs table bytes
 
   abbrev E : List (List ℕ)
   E = even_flags L first (room_in limits L table bytes)
 
   -- Where nothing is refused, the answer is the sum over the even flags.
   pub six_answered : r.no ≡ 0 → Answered L first xs table bytes × (r ≡ measured (of_int binary64 (six_of L xs E)))
-  unfolding measured_by
+  unfolding volume_by
   six_answered z =
       let h : (volume_test L.counts xs (said L first xs table bytes)).no ≡ 0 =
       sym (number_is L first xs table bytes) ∙ z in

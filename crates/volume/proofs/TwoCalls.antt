@@ -13,10 +13,13 @@ use Rattle.volume_metres.proofs.Running.{neg_of_int}
 use Rattle.volume_theory.specs.Six.{cell_rank, even_flags, six_of, Shifted}
 use Rattle.volume_theory.proofs.Changed.{six_negated, six_moved}
 use Rattle.volume.specs.declared.Measured.{Measured}
-use Rattle.volume.specs.Volumes.{measured, measured_by}
+use Rattle.volume.specs.Volumes.{measured, volume_by}
 use Rattle.volume.specs.Promised.{Negated}
 use Rattle.volume.proofs.Cases.{oriented}
 use Rattle.volume.proofs.Exact.{six_answered}
+
+abbrev of_six : Measured → Float
+of_six r = r.six
 
 -- an integer and its negative as answers
 negated : (z y : ℤ) → y ≡ neg_ℤ z → {r s : Measured} → r ≡ measured (of_int binary64 z)
@@ -26,15 +29,15 @@ negated z y e a b = record {
   this = a;
   other = b ∙ ap (λ x. measured (of_int binary64 x)) e;
   opposite = λ n.
-      ap (λ v. v.six) b ∙ ap (of_int binary64) e ∙ neg_of_int z n ∙ ap neg (sym (ap (λ v. v.six) a));
+      ap of_six b ∙ ap (of_int binary64) e ∙ neg_of_int z n ∙ ap neg (sym (ap of_six a));
 }
 
 module _ (L : Listing) (first : List ℕ) (xs : List Float) (table bytes : List ℕ)
-    (z : (measured_by limits L first xs table bytes).no ≡ 0) where
+    (z : (volume_by limits L first xs table bytes).no ≡ 0) where
   -- From a flag one change away the answer is negated.
   pub volume_negated : (q : ℕ) → 0 < q → q < cell_rank → (t b : List ℕ)
-      → (measured_by limits L (change_at L q first) xs t b).no ≡ 0
-      → Negated (measured_by limits L first xs table bytes) (measured_by limits L (change_at L q first) xs t b)
+      → (volume_by limits L (change_at L q first) xs t b).no ≡ 0
+      → Negated (volume_by limits L first xs table bytes) (volume_by limits L (change_at L q first) xs t b)
   volume_negated q h k t b y =
       let a = six_answered L first xs table bytes z in
       let c = six_answered L (change_at L q first) xs t b y in
@@ -46,8 +49,8 @@ module _ (L : Listing) (first : List ℕ) (xs : List Float) (table bytes : List 
 
   -- With all vertices moved alike it is the same.
   pub volume_moved : (m : Site) (ys : List Float) → Shifted L m xs ys → (t b : List ℕ)
-      → (measured_by limits L first ys t b).no ≡ 0
-      → measured_by limits L first ys t b ≡ measured_by limits L first xs table bytes
+      → (volume_by limits L first ys t b).no ≡ 0
+      → volume_by limits L first ys t b ≡ volume_by limits L first xs table bytes
   volume_moved m ys S t b y =
       let a = six_answered L first xs table bytes z in
       let c = six_answered L first ys t b y in

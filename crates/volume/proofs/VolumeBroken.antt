@@ -16,7 +16,7 @@ use Rattle.listing.specs.Refusals.{not_in_metres}
 use Rattle.listing.specs.Answers.{plain, fine, if_zero, on, ◌or_else◌}
 use Rattle.listing.specs.Listing.{Listing, limits, rank, count}
 use Rattle.listing.specs.Rules.{FirstBroken, rule}
-use Rattle.listing.proofs.Answers.{or_fine, or_stop, or_assoc, if_not}
+use Rattle.listing.proofs.Answers.{or_fine, or_stop, or_assoc}
 use Rattle.listing.proofs.Broken.{zero_or, broken_last, broken_step, tests_on, tests_not}
 use Rattle.valid.specs.Closed.{Closed}
 use Rattle.flag_change.specs.Flags.{IsFlag, start_test}
@@ -36,28 +36,14 @@ use Rattle.search.proofs.Exact.{fine_number, promised}
 use Rattle.volume_metres.specs.Whole.{AllCoordinates, all_coordinates}
 use Rattle.volume_metres.proofs.Coordinates.{all_exact}
 use Rattle.volume_theory.specs.Six.{cell_rank}
-use Rattle.volume.specs.declared.Volume.TheVariants.{Six, Refused}
-use Rattle.volume.specs.Volumes.{number_of, six_fold, measured_of, measured, unmeasured, volume_test, volume_as}
-use Rattle.volume.specs.Volumes.{measured_as, volume_by, measured_by}
+use Rattle.volume.specs.Volumes.{measured, refused_with, volume_test, volume_as, volume_by}
 use Rattle.volume.specs.Rules.{volume_rules}
 use Rattle.volume.proofs.Cases.{said, left, turns}
 
-number_as : (a : Answer) (x : Float) → (measured_as a x).no ≡ a.no
+number_as : (a : Answer) (x : Float) → (volume_as a x).no ≡ a.no
 number_as a x = go a.no
   where
-    go : (n : ℕ) → (if_zero n (measured x) (unmeasured n)).no ≡ n
-    go zero = refl
-    go (suc n) = refl
-
-zero_as : (a : Answer) (x : Float) → a.no ≢ 0 → measured_as a x ≡ unmeasured a.no
-zero_as a x = if_not a.no _ _
-
--- an answer as two numbers, from its parts
-parts_as : (a : Answer) (x : Float) → measured_of (volume_as a x) ≡ measured_as a x
-unfolding measured_of number_of six_fold
-parts_as a x = go a.no
-  where
-    go : (n : ℕ) → measured_of (if_zero n (Six x) (Refused n)) ≡ if_zero n (measured x) (unmeasured n)
+    go : (n : ℕ) → (if_zero n (measured x) (refused_with n)).no ≡ n
     go zero = refl
     go (suc n) = refl
 
@@ -83,23 +69,11 @@ module _ (L : Listing) (first : List ℕ) (xs : List Float) (table bytes : List 
   abbrev Said : Answer
   Said = (said L first xs table bytes).answer
 
-  -- The answer as two numbers.
-  pub measured_is : measured_of (volume_by limits L first xs table bytes) ≡ measured_by limits L first xs table bytes
-  unfolding volume_by measured_by
-  measured_is = parts_as (volume_test L.counts xs (said L first xs table bytes)) _
-
   -- The number of the answer is that of the test.
-  pub number_is : (measured_by limits L first xs table bytes).no
+  pub number_is : (volume_by limits L first xs table bytes).no
       ≡ (volume_test L.counts xs (said L first xs table bytes)).no
-  unfolding measured_by
+  unfolding volume_by
   number_is = number_as (volume_test L.counts xs (said L first xs table bytes)) _
-
-  -- Beside a refusal stands the positive zero.
-  pub none_measured : let r = measured_by limits L first xs table bytes in r.no ≢ 0 → r ≡ unmeasured r.no
-  unfolding measured_by
-  none_measured h =
-      let t = volume_test L.counts xs (said L first xs table bytes) in
-      zero_as t _ (rw number_is at h) ∙ ap unmeasured (sym number_is)
 
   -- ---- what comes after the search
 
@@ -159,8 +133,8 @@ module _ (L : Listing) (first : List ℕ) (xs : List Float) (table bytes : List 
         (tests_not (eqb (length xs) (3 * count L 1)) wrong_coordinates (omega arith)
         (eqb-true (length xs) (3 * count L 1)) (eq-eqb (length xs) (3 * count L 1)))
         last
-        (λ e. broken_last (tests_not (all_coordinates xs) not_in_metres (omega arith)
-        (all_exact xs).0 (all_exact xs).1))
+        (λ e.
+        broken_last (tests_not (all_coordinates xs) not_in_metres (omega arith) (all_exact xs).0 (all_exact xs).1))
 
     broken_50 : FirstBroken
         (rule not_rank_four (rank L ≡ cell_rank) ∷ rule not_orientable (Colouring (Leads L every) first) ∷
@@ -189,7 +163,7 @@ module _ (L : Listing) (first : List ℕ) (xs : List Float) (table bytes : List 
 
   -- The number that six_volume answers is that of the first rule that is broken.
   pub volume_broken : FirstBroken (volume_rules limits L first xs room)
-      (measured_by limits L first xs table bytes).no
+      (volume_by limits L first xs table bytes).no
   volume_broken =
       rw (number_is, test_is)
       (start_then limits L first _ _ (λ C F.
@@ -207,7 +181,7 @@ module _ (L : Listing) (first : List ℕ) (xs : List Float) (table bytes : List 
       (late_on (not (all_coordinates xs)) not_in_metres (omega arith))))
 
   abbrev Number : ℕ
-  Number = (measured_by limits L first xs table bytes).no
+  Number = (volume_by limits L first xs table bytes).no
 
   -- Where the search is refused, so is the volume.
   pub stopped : Said.no ≢ 0 → Number ≡ Said.no

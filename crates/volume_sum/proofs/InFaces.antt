@@ -111,7 +111,8 @@ module _ (s : Slices) (C : (closed limits (held s)).no ≡ 0) where
         let all = ap (λ (m : List ℕ). length m) its_edges in
         among_all (held s) i (k + 1) v (omega (arith, l, rest_long face, all)) A
 
-  pub faces_begin : (edges : ℕ) → edges ≡ before s.counts.now 2 → edges + get_or s.counts.now 2 0 ≡ before s.counts.now 3
+  pub faces_begin : (edges : ℕ) → edges ≡ before s.counts.now 2
+      → edges + get_or s.counts.now 2 0 ≡ before s.counts.now 3
   faces_begin edges e = omega (arith, e, before_next s.counts.now 2)
 
   pub few_faces : get_or s.counts.now 3 0 ≤ limits.elements

@@ -1,5 +1,5 @@
--- The vertices that a flag of a cell of rank 4 adds a determinant of: the lowest of its face, its own, and the other one
--- of its edge. All three exist, so that their coordinates are there.
+-- The vertices that a flag of a cell of rank 4 adds a determinant of: the lowest of its face, its own, and the other
+-- one of its edge. All three exist, so that their coordinates are there.
 -- Assumes nothing.
 use mathlib.Core.Path.{◌≡◌, sym, ap, ◌∙◌}
 use mathlib.Core.List.{List}

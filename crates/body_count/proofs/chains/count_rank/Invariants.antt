@@ -1,8 +1,8 @@
 -- The invariant: the elements of the ranks below, and the first i of this rank, have their numbers.
 -- Assumes nothing.
-use Rattle.listing.specs.Listing.{listing}
+use Rattle.listing.specs.Listing.{held}
 use Rattle.body_count.specs.Capped.{CountedBelow}
 use Rattle.body_count.proofs.chains.count_rank.Given as goal
 
 abbrev pub invariant-loop-i : goal.invariant-loop-i
-invariant-loop-i l = CountedBelow (listing l.counts l.ends l.inc) l.r l.i l.numbers
+invariant-loop-i l = CountedBelow (held l.cell.slices) l.r l.i l.numbers

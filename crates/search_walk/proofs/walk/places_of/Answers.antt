@@ -13,7 +13,7 @@ pub loop-r-preserved : goal.loop-r-preserved
 loop-r-preserved c =
     let l = c.loop-r in
     let I = l.invariant in (
-      rw (c.wide-here.ensures.0, I.0) (sym (before_next _ _)),
+      rw (c.from-here.ensures, I.0) (sym (before_next _ _)),
       omega (arith, I.1),
       simp length-set I.2,
       set_next (before c.args.counts.now) l.places l.r l.here (omega (arith, I.2)) I.0 I.3,

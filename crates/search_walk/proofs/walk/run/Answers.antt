@@ -1,14 +1,21 @@
-use Rattle.search_walk.proofs.Runs.{running_next, running_stop, running_end}
+use Rattle.valid.proofs.InClosed.{is_closed}
+use Rattle.search_store.proofs.Meets.{moved_err}
+use Rattle.search_walk.proofs.Runs.{running_start, running_next, running_stop, running_end}
 use Rattle.search_walk.proofs.walk.run.Goals as goal
 
-pub returns-then-s : goal.returns-then-s
-returns-then-s c =
-    running_stop _ c.requires.ready.closed _ _ c.requires.inner c.loop-k.invariant c.if-s.true
+pub loop-k-init : goal.loop-k-init
+loop-k-init c = running_start _ _ c.requires.rows c.requires.flags
+
+pub returns-in_err-s : goal.returns-in_err-s
+returns-in_err-s c a =
+    moved_err _ _ c.from_residual.ensures.1
+    (running_stop _ _ (is_closed c.args.cell.slices c.args.cell.closed) c.requires.inner c.loop-k.invariant c.loop-k-test.true
+    c.in_err-s.ensures a)
 
 pub loop-k-preserved : goal.loop-k-preserved
 loop-k-preserved c =
-    running_next _ c.requires.ready.closed _ _ c.requires.inner c.loop-k.invariant c.if-s.false c.loop-k-test.true
-    c.work-s.ensures
+    running_next _ _ (is_closed c.args.cell.slices c.args.cell.closed) c.requires.inner c.loop-k.invariant c.loop-k-test.true
+    c.in_ok-s.ensures
 
 pub returns : goal.returns
-returns c = running_end _ c.requires.ready.closed _ _ c.requires.inner c.loop-k.invariant c.loop-k-test.false
+returns c = running_end _ _ (is_closed c.args.cell.slices c.args.cell.closed) c.requires.inner c.loop-k.invariant c.loop-k-test.false

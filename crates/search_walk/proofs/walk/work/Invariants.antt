@@ -1,26 +1,21 @@
--- The loop's invariant: the flag at hand is as it was at first, and meeting the changes that are left leads from here
--- to the same state as meeting all of them led to from the start. The measure is the mask that is left.
--- Assumes nothing.
+-- Invariant: the flag at hand is the kth row as it was at first, and meeting the changes that are left leads from here to the same
+-- state as meeting all of them led to from the start. The measure is the mask that is left.
 use mathlib.Core.Path.{◌≡◌}
 use Prim.Native.Nat.{◌-◌}
 use lib.ListN.{length, get_or}
-use Rattle.listing.specs.Listing.{listing}
-use Rattle.search_theory.specs.Search.{meet_all}
-use Rattle.search_store.specs.Held.{state_of}
-use Rattle.search_index.specs.Rows.{same_list, row_of}
-use Rattle.search_walk.specs.Searched.{mask_changes}
+use Rattle.listing.specs.Listing.{held}
+use Rattle.search_index.specs.Rows.{row_of}
+use Rattle.search_walk.proofs.Runs.{worked}
 use Rattle.search_walk.proofs.Works.{Working}
 use Rattle.search_walk.proofs.walk.work.Given as goal
 
-abbrev pub invariant-loop-flag : goal.invariant-loop-flag
-invariant-loop-flag l =
-    let L = listing l.counts l.ends l.inc in
+abbrev pub invariant-loop-left : goal.invariant-loop-left
+invariant-loop-left l =
+    let L = held l.cell.slices in
     let i = l.initial in
-    let byte = 1 - get_or i.bytes l.k 0 in
-    let f = row_of (length l.counts) i.table l.k in
-    let first = state_of (length l.counts) i.table i.bytes i.s in
-    let all = meet_all same_list l.room byte first (mask_changes L l.mask f) in
-    (l.flag ≡ i.flag) × Working L l.room i.table i.bytes i.s byte f all l.table l.bytes l.heads l.next l.left l.s
+    let f = row_of (length L.counts) i.store.table.now l.k in
+    (l.flag ≡ f)
+    × Working L i.store i.s (1 - get_or i.store.bytes.now l.k 0) f (worked L l.mask i.store i.s l.k) l.store l.left l.s
 
-abbrev pub decreases-loop-flag : goal.decreases-loop-flag
-decreases-loop-flag l = l.left
+abbrev pub decreases-loop-left : goal.decreases-loop-left
+decreases-loop-left l = l.left
