@@ -16,6 +16,7 @@ use Rattle.valid.specs.Tests as tests
 use Rattle.body_theory.specs.InAll.{flags_in_all}
 use Rattle.search.specs.declared.Found.{Found}
 use Rattle.search.specs.SearchedBy.{told_searched}
+use Rattle.search.specs.Promised.{room_in}
 use Rattle.body.specs.Body.{whole_search, parts_test, body_test, body_by}
 use Rattle.body.proofs.Verdict.{Verdict, verdict, body_exact}
 use Rattle.body.proofs.Verdict.Verdict.{not_closed, too_many, several, one_body}
@@ -83,7 +84,9 @@ bodies_answer = record {
 pub body_so : (L : Listing) (table bytes : List ℕ)
     → (d : Result Found Refusal) × (told_searched d ≡ body_by limits L table bytes)
 unfolding body_by
-body_so L table bytes = found_so (body_clear L _) (named_tells (rank L) L (body_tells L _)) _
+body_so L table bytes =
+    let room = room_in limits L table bytes in
+    found_so (body_clear L room) (named_tells (rank L) L (body_tells L room)) (whole_search L room)
 
 pub bodies_once : BodiesOnce
 bodies_once = record {

@@ -25,7 +25,7 @@ use Rattle.promises.proofs.Refused.{named_tells, closed_refused, result_so, test
 pub boundary_taken : BoundaryTaken
 boundary_taken = record {
   tests = (any, any, any, any, any, any, any, any, any, any);
-  products = any;
+  products = (any, any, any, any);
   texts = (any, any, any);
   flags = (any, any, any);
   bodies = any;
@@ -65,10 +65,10 @@ boundary = record {
   one_body_passes = λ k l a r x p.
       let d = body_so (lent a) (body_tables a).0 (body_tables a).1 in (d.0, (d.1, p.1), p.0 ∙ sym d.1);
   dual_passes = λ k l a r x. dual_so (lent a);
-  duopyramid_passes = λ k l a r x p. let d = product_so false false p in (d.0, record { min = false; max = false }, d.1, d.2);
-  duoprism_passes = λ k l a r x p. let d = product_so true false p in (d.0, record { min = true; max = false }, d.1, d.2);
-  duotegum_passes = λ k l a r x p. let d = product_so false true p in (d.0, record { min = false; max = true }, d.1, d.2);
-  duocomb_passes = λ k l a r x p. let d = product_so true true p in (d.0, record { min = true; max = true }, d.1, d.2);
+  duopyramid_passes = λ k l a r x. product_so false false;
+  duoprism_passes = λ k l a r x. product_so true false;
+  duotegum_passes = λ k l a r x. product_so false true;
+  duocomb_passes = λ k l a r x. product_so true true;
   read_text_passes = λ k l a r x. read_so (lent_text a);
   check_text_passes = λ k l a r x p.
       let d = check_so (lent_text a) in (d.0, d.1, p ∙ ap (λ t. t.no) (sym d.1));
@@ -96,10 +96,10 @@ boundary_back = record {
   search_back = λ k l a r x p. (p.2 ∙ p.1.0, p.1.1);
   one_body_back = λ k l a r x p. (p.2 ∙ p.1.0, p.1.1);
   dual_back = λ k l a r x p. rw p.2 p.1;
-  duopyramid_back = λ k l a r x p. rw p.3 p.2;
-  duoprism_back = λ k l a r x p. rw p.3 p.2;
-  duotegum_back = λ k l a r x p. rw p.3 p.2;
-  duocomb_back = λ k l a r x p. rw p.3 p.2;
+  duopyramid_back = λ k l a r x p. rw p.2 p.1;
+  duoprism_back = λ k l a r x p. rw p.2 p.1;
+  duotegum_back = λ k l a r x p. rw p.2 p.1;
+  duocomb_back = λ k l a r x p. rw p.2 p.1;
   read_text_back = λ k l a r x p. rw p.2 p.1;
   check_text_back = λ k l a r x p. p.2 ∙ ap (λ t. t.no) p.1;
   write_text_back = λ k l a r x p. rw p.2 p.1;
@@ -126,10 +126,10 @@ boundary_once = record {
   one_one_body = λ k a b c x y p q. same_search (p.2 ∙ p.1.0) p.1.1.0 p.1.1.1 (q.2 ∙ q.1.0) q.1.1.0 q.1.1.1;
   one_dual = λ k a b c x y p q. made_once (rw (← p.2) at p.1) (rw (← q.2) at q.1);
   one_six_volume = λ k a b c x y p q. same_search (p.2 ∙ p.1.0) p.1.1.0 p.1.1.1 (q.2 ∙ q.1.0) q.1.1.0 q.1.1.1;
-  one_duopyramid = λ k a b c x y p q. same_outcome false false (rw (← p.3) at p.2) (rw (← q.3) at q.2);
-  one_duoprism = λ k a b c x y p q. same_outcome true false (rw (← p.3) at p.2) (rw (← q.3) at q.2);
-  one_duotegum = λ k a b c x y p q. same_outcome false true (rw (← p.3) at p.2) (rw (← q.3) at q.2);
-  one_duocomb = λ k a b c x y p q. same_outcome true true (rw (← p.3) at p.2) (rw (← q.3) at q.2);
+  one_duopyramid = λ k a b c x y p q. same_outcome false false (rw (← p.2) at p.1) (rw (← q.2) at q.1);
+  one_duoprism = λ k a b c x y p q. same_outcome true false (rw (← p.2) at p.1) (rw (← q.2) at q.1);
+  one_duotegum = λ k a b c x y p q. same_outcome false true (rw (← p.2) at p.1) (rw (← q.2) at q.1);
+  one_duocomb = λ k a b c x y p q. same_outcome true true (rw (← p.2) at p.1) (rw (← q.2) at q.1);
   one_read_text = λ k a b c x y p q. made_once (rw (← p.2) at p.1) (rw (← q.2) at q.1);
   one_check_text = λ k a b c x y p q. alike (p.2 ∙ ap (λ t. t.no) p.1) (q.2 ∙ ap (λ t. t.no) q.1);
   one_write_text = λ k a b c x y p q. text_once (rw (← p.2) at p.1) (rw (← q.2) at q.1);

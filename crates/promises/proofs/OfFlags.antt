@@ -29,7 +29,7 @@ use Rattle.search_theory.specs.Search.{State}
 use Rattle.search_masks.specs.Masks.{mask_fits}
 use Rattle.search_walk.specs.Searched.{found_by}
 use Rattle.search.specs.declared.Found.{Found}
-use Rattle.search.specs.SearchedBy.{search_test, searched_of, searched_by, told_searched}
+use Rattle.search.specs.SearchedBy.{room_of, search_test, searched_of, searched_by, told_searched}
 use Rattle.search.proofs.SearchBroken.{said}
 use Rattle.search.proofs.Exact.{promised}
 use Rattle.search.proofs.OneAnswer as search
@@ -187,11 +187,15 @@ found_so {t} clear some s =
     (λ d e h. rw (if_not t.no _ _ h, e) refl) in
     (d.0, d.2)
 
+pub search_refusals : (L : Listing) (f : List ℕ) (mask room : ℕ) → Refused (search_test limits L f mask room)
+search_refusals L f mask room = named_tells (rank L) L (search_tells limits L f mask room)
+
 pub searched_so : (L : Listing) (f : List ℕ) (mask : ℕ) (table bytes : List ℕ)
     → (d : Result Found Refusal) × (told_searched d ≡ searched_by limits L f mask table bytes)
 unfolding searched_by
 searched_so L f mask table bytes =
-    found_so (search_clear limits L f mask _) (named_tells (rank L) L (search_tells limits L f mask _)) _
+    let room = room_of limits L (length table) (length bytes) in
+    found_so (search_clear limits L f mask room) (search_refusals L f mask room) (found_by L f mask room)
 
 pub flags_once : FlagsOnce
 flags_once = record {

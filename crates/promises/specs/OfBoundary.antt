@@ -9,7 +9,7 @@
 -- Boundary        each fd_ function answers and writes as its entry does
 -- BoundaryBack    and each entry as its fd_ function does
 -- BoundaryOnce    no second answer fits
-use Rattle.std.specs.Prelude.{◌≡◌, true, false, ℕ, Option}
+use Rattle.std.specs.Prelude.{◌≡◌, ℕ, Option}
 use Rattle.listing.specs.Refusals.{band_no}
 use Rattle.listing.specs.Told.{told, told_number, told_built}
 use Rattle.search_events.specs.declared.Event.{Event}
@@ -34,9 +34,12 @@ use Rattle.flag.proofs.Orientation.sign.Reads as sign
 use Rattle.search.proofs.search.Reads as search
 use Rattle.body.proofs.one_body.Reads as one_body
 use Rattle.dual.proofs.dual.Reads as dual
-use Rattle.volume.specs.Volumes.{told_measured}
+use Rattle.volume.specs.Volumes.{told_volume}
 use Rattle.volume.proofs.six_volume.Reads as six_volume
-use Rattle.product.proofs.make.make.Reads as make
+use Rattle.product.proofs.duopyramid.Reads as duopyramid
+use Rattle.product.proofs.duoprism.Reads as duoprism
+use Rattle.product.proofs.duotegum.Reads as duotegum
+use Rattle.product.proofs.duocomb.Reads as duocomb
 use Rattle.text.proofs.read_text.Reads as read_text
 use Rattle.text.proofs.check_text.Reads as check_text
 use Rattle.text.proofs.write_text.Reads as write_text
@@ -63,7 +66,8 @@ use Rattle.flumedrac.proofs.fd_duocomb.Reads as fd_duocomb
 use Rattle.flumedrac.proofs.fd_read_text.Reads as fd_read_text
 use Rattle.flumedrac.proofs.fd_check_text.Reads as fd_check_text
 use Rattle.flumedrac.proofs.fd_write_text.Reads as fd_write_text
-use Rattle.promises.specs.Entries.{Takes, SaysOfTwo, PassesOn, Told, Gathered, ByPoles, OneAnswer, OneOutcome}
+use Rattle.promises.specs.Entries.{Takes, SaysOfTwo, PassesOn, Told, Gathered, GatheredTwo}
+use Rattle.promises.specs.Entries.{OneAnswer, OneOutcome}
 use Rattle.promises.specs.Entries.{outputs, turned_into, tables, body_tables, read_into, written_into}
 
 pub record BoundaryTaken : Type 0 where
@@ -72,7 +76,7 @@ pub record BoundaryTaken : Type 0 where
       × Takes fd_class.Asked × Takes bounded.Asked × Takes check_incidences.Asked × Takes is_dyadic.Asked
       × Takes is_valid.Asked × Takes closed.Asked
   -- products
-  pub products : Takes make.Asked
+  pub products : Takes duopyramid.Asked × Takes duoprism.Asked × Takes duotegum.Asked × Takes duocomb.Asked
   -- texts
   pub texts : Takes read_text.Asked × Takes check_text.Asked × Takes write_text.Asked
   -- flags; of next_event and fd_next_event it stands in proofs/Cursor.antt
@@ -98,10 +102,10 @@ pub record Boundary : Type 0 where
   pub search_passes : PassesOn fd_search.Post (Gathered told_searched search.Post)
   pub one_body_passes : PassesOn fd_one_body.Post (Gathered told_searched one_body.Post)
   pub dual_passes : PassesOn fd_dual.Post (Gathered told_built dual.Post)
-  pub duopyramid_passes : PassesOn fd_duopyramid.Post (ByPoles false false told_built make.Post)
-  pub duoprism_passes : PassesOn fd_duoprism.Post (ByPoles true false told_built make.Post)
-  pub duotegum_passes : PassesOn fd_duotegum.Post (ByPoles false true told_built make.Post)
-  pub duocomb_passes : PassesOn fd_duocomb.Post (ByPoles true true told_built make.Post)
+  pub duopyramid_passes : PassesOn fd_duopyramid.Post (GatheredTwo told_built duopyramid.Post)
+  pub duoprism_passes : PassesOn fd_duoprism.Post (GatheredTwo told_built duoprism.Post)
+  pub duotegum_passes : PassesOn fd_duotegum.Post (GatheredTwo told_built duotegum.Post)
+  pub duocomb_passes : PassesOn fd_duocomb.Post (GatheredTwo told_built duocomb.Post)
   pub read_text_passes : PassesOn fd_read_text.Post (Told told_built read_text.Post)
   pub check_text_passes : PassesOn fd_check_text.Post (Told (λ d. (told d).no) check_text.Post)
   pub write_text_passes : PassesOn fd_write_text.Post (Gathered told_written write_text.Post)
@@ -109,7 +113,7 @@ pub record Boundary : Type 0 where
   pub class_passes : SaysOfTwo fd_class.Post class.Post (λ a r x c b y. a.0 ≡ c.0 → r ≡ band_no b)
   -- the sign of the orientation that the byte stands for
   pub sign_passes : SaysOfTwo fd_sign.Post sign.Post (λ a r x c s y. of_byte a.0 ≡ c.0 → r ≡ s)
-  pub six_volume_passes : PassesOn fd_six_volume.Post (Gathered told_measured six_volume.Post)
+  pub six_volume_passes : PassesOn fd_six_volume.Post (Gathered told_volume six_volume.Post)
   -- the next event, in numbers
   pub next_event_passes : (at count place at' : ℕ) (s : Said) → SaidStep at count place at' s
       → (e : Option Event) × Stepped at count place at' e × (s ≡ said_of e)
@@ -128,15 +132,15 @@ pub record BoundaryBack : Type 0 where
   pub search_back : PassesOn (Gathered told_searched search.Post) fd_search.Post
   pub one_body_back : PassesOn (Gathered told_searched one_body.Post) fd_one_body.Post
   pub dual_back : PassesOn (Gathered told_built dual.Post) fd_dual.Post
-  pub duopyramid_back : PassesOn (ByPoles false false told_built make.Post) fd_duopyramid.Post
-  pub duoprism_back : PassesOn (ByPoles true false told_built make.Post) fd_duoprism.Post
-  pub duotegum_back : PassesOn (ByPoles false true told_built make.Post) fd_duotegum.Post
-  pub duocomb_back : PassesOn (ByPoles true true told_built make.Post) fd_duocomb.Post
+  pub duopyramid_back : PassesOn (GatheredTwo told_built duopyramid.Post) fd_duopyramid.Post
+  pub duoprism_back : PassesOn (GatheredTwo told_built duoprism.Post) fd_duoprism.Post
+  pub duotegum_back : PassesOn (GatheredTwo told_built duotegum.Post) fd_duotegum.Post
+  pub duocomb_back : PassesOn (GatheredTwo told_built duocomb.Post) fd_duocomb.Post
   pub read_text_back : PassesOn (Told told_built read_text.Post) fd_read_text.Post
   pub check_text_back : PassesOn (Told (λ d. (told d).no) check_text.Post) fd_check_text.Post
   pub write_text_back : PassesOn (Gathered told_written write_text.Post) fd_write_text.Post
   -- the class and the sign are said of both in Boundary
-  pub six_volume_back : PassesOn (Gathered told_measured six_volume.Post) fd_six_volume.Post
+  pub six_volume_back : PassesOn (Gathered told_volume six_volume.Post) fd_six_volume.Post
   -- the next event, in numbers
   pub next_event_back : (at count place at' : ℕ) (e : Option Event) → Stepped at count place at' e
       → SaidStep at count place at' (said_of e)
@@ -157,11 +161,11 @@ pub record BoundaryOnce : Type 0 where
   pub one_search : OneOutcome (Gathered told_searched search.Post) tables
   pub one_one_body : OneOutcome (Gathered told_searched one_body.Post) body_tables
   pub one_dual : OneOutcome (Gathered told_built dual.Post) turned_into
-  pub one_six_volume : OneOutcome (Gathered told_measured six_volume.Post) tables
-  pub one_duopyramid : OneOutcome (ByPoles false false told_built make.Post) outputs
-  pub one_duoprism : OneOutcome (ByPoles true false told_built make.Post) outputs
-  pub one_duotegum : OneOutcome (ByPoles false true told_built make.Post) outputs
-  pub one_duocomb : OneOutcome (ByPoles true true told_built make.Post) outputs
+  pub one_six_volume : OneOutcome (Gathered told_volume six_volume.Post) tables
+  pub one_duopyramid : OneOutcome (GatheredTwo told_built duopyramid.Post) outputs
+  pub one_duoprism : OneOutcome (GatheredTwo told_built duoprism.Post) outputs
+  pub one_duotegum : OneOutcome (GatheredTwo told_built duotegum.Post) outputs
+  pub one_duocomb : OneOutcome (GatheredTwo told_built duocomb.Post) outputs
   pub one_read_text : OneOutcome (Told told_built read_text.Post) read_into
   pub one_check_text : OneAnswer (Told (λ d. (told d).no) check_text.Post)
   pub one_write_text : OneOutcome (Gathered told_written write_text.Post) written_into
