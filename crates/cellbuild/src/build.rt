@@ -24,14 +24,14 @@ fn refused(rt: &impl Print, why: Refusal, p: Slices<'_>, q: Slices<'_>) -> io::R
         Refusal::LeftInvalid => say::of_factor(
             rt,
             why,
-            b" the first cell is not valid: ",
+            "the first cell",
             valid::is_valid(p),
             p.counts,
         ),
         Refusal::RightInvalid => say::of_factor(
             rt,
             why,
-            b" the second cell is not valid: ",
+            "the second cell",
             valid::is_valid(q),
             q.counts,
         ),
@@ -58,7 +58,7 @@ fn product(rt: &impl Print, poles: Poles, p: Slices<'_>, q: Slices<'_>) -> io::R
 }
 
 // Lends the cell in a text, which is called so; or says why there is none.
-fn with_cell<F>(rt: &impl Print, said: &[u8], called: &[u8], lend: F) -> io::Result<()>
+fn with_cell<F>(rt: &impl Print, said: &[u8], called: &str, lend: F) -> io::Result<()>
 where
     F: FnOnce(Slices<'_>) -> io::Result<()>,
     requires { F.IsAlwaysCallable lend }
@@ -81,8 +81,8 @@ where
 
 // The product of the cells in two texts.
 pub fn of_texts(rt: &impl Print, poles: Poles, first: &[u8], second: &[u8]) -> io::Result<()> {
-    with_cell(rt, first, b" the first text: ", |p| {
-        with_cell(rt, second, b" the second text: ", |q| {
+    with_cell(rt, first, "the first text", |p| {
+        with_cell(rt, second, "the second text", |q| {
             product(rt, poles, p, q)
         })
     })

@@ -4,7 +4,7 @@ ghost use Rattle.lent_input.specs.Counts.{IsPrefixLen};
 use crate::room;
 use crate::room::WRITTEN;
 use listing::{Answer, Built, Index, Number, Slices, limit};
-use std::io;
+use std::{fmt, io};
 
 // Lists up to this length are written out.
 const LONGEST: usize = 300;
@@ -16,40 +16,28 @@ const MODULUS: u64 = 4294967291;
 
 // A number after a space.
 pub fn number(rt: &impl Print, n: u64) -> io::Result<()> {
-    rt.write_all(b" ")?;
-    rt.print(n)
+    print!(rt; " {n}")
 }
 
 // The five numbers of an answer.
 pub fn answer(rt: &impl Print, a: Answer) -> io::Result<()> {
-    number(rt, u64::from(a.no))?;
-    number(rt, u64::from(a.a))?;
-    number(rt, u64::from(a.b))?;
-    number(rt, u64::from(a.c))?;
-    number(rt, u64::from(a.d))
+    print!(rt; " {} {} {} {} {}", a.no, a.a, a.b, a.c, a.d)
 }
 
 // What is answered of a listing that is written: the numbers of the answer, and how long its lists are.
 pub fn built(rt: &impl Print, b: Built) -> io::Result<()> {
     answer(rt, b.answer)?;
-    number(rt, u64::from(b.counts))?;
-    number(rt, u64::from(b.ends))?;
-    number(rt, u64::from(b.inc))
+    print!(rt; " {} {} {}", b.counts, b.ends, b.inc)
 }
 
 // The two numbers of a count.
 pub fn count(rt: &impl Print, n: Number) -> io::Result<()> {
-    number(rt, u64::from(n.no))?;
-    number(rt, n.value as u64)
+    print!(rt; " {} {}", n.no, n.value)
 }
 
 // A sign.
 pub fn sign(rt: &impl Print, x: f64) -> io::Result<()> {
-    if x == 1.0 {
-        rt.write_all(b" 1")
-    } else {
-        rt.write_all(b" -1")
-    }
+    rt.print(if x == 1.0 { " 1" } else { " -1" })
 }
 
 // One number more in a check number.
@@ -65,29 +53,28 @@ fn digest(rt: &impl Print, list: &[Index]) -> io::Result<()> {
         sum = sum.wrapping_add(u64::from(x));
         check = mixed(check, x);
     }
-    rt.write_all(b" {")?;
-    rt.print(list.len() as u64)?;
-    number(rt, sum)?;
-    number(rt, check)?;
-    rt.write_all(b"}")
+    print!(rt; " {{{} {sum} {check}}}", list.len())
 }
 
 // The numbers of a list, each after a space.
-fn each(rt: &impl Print, list: &[Index]) -> io::Result<()> {
-    for &x in list {
-        number(rt, u64::from(x))?;
+#[derive(Drop)]
+struct Each<'a>(&'a [Index]);
+
+impl fmt::Display for Each<'_> {
+    fn fmt<W: fmt::Write>(&self, f: &mut fmt::Formatter<W>) -> fmt::Result {
+        for &x in self.0 {
+            write!(f, " {x}")?;
+        }
+        Ok(())
     }
-    Ok(())
 }
 
 // The numbers of a list, one after another.
 fn whole(rt: &impl Print, list: &[Index]) -> io::Result<()> {
-    rt.write_all(b" [")?;
-    if let [first, rest @ ..] = list {
-        rt.print(*first)?;
-        each(rt, rest)?;
+    match list {
+        [first, rest @ ..] => print!(rt; " [{first}{}]", Each(rest)),
+        [] => rt.print(" []"),
     }
-    rt.write_all(b"]")
 }
 
 // A list.
@@ -140,13 +127,11 @@ fn row<'a>(table: &'a [Index], i: u16, w: usize) -> &'a [Index] {
 
 // A flag of a table, its orientation first, where each flag has w numbers.
 pub fn flag(rt: &impl Print, table: &[Index], odd: &[u8], i: u16, w: usize) -> io::Result<()> {
-    rt.write_all(b" [")?;
-    rt.print(byte_at(odd, usize::from(i)))?;
-    each(rt, row(table, i, w))?;
-    rt.write_all(b"]")
+    let orientation = byte_at(odd, usize::from(i));
+    print!(rt; " [{orientation}{}]", Each(row(table, i, w)))
 }
 
 // That the cell is not orientable.
 pub fn not_orientable(rt: &impl Print) -> io::Result<()> {
-    rt.write_all(b" []")
+    rt.print(" []")
 }

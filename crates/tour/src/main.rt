@@ -15,7 +15,6 @@ use tour_cells::{
     dyad, hemicube, leaking_box, lidless_box, nullitope, one_on_top, point, struck, three_on_top,
     triangle, twice_listed, two_minimal, whole_box,
 };
-use words::print;
 
 // A cell, with the name of its row.
 #[derive(Clone, Copy)]
@@ -166,9 +165,8 @@ fn products(rt: &impl Print, asked: &[Product<'_>]) -> io::Result<()> {
 
 // What comes before the table, with the heads of its columns.
 fn headline(rt: &impl Print) -> io::Result<()> {
-    print::text(
-        rt,
-        b"Is the cell closed, and one body? is_valid is the old test; closed also looks at the cell as a whole.
+    rt.print(
+        "Is the cell closed, and one body? is_valid is the old test; closed also looks at the cell as a whole.
 Elements are counted by rank, from the smallest element to the whole. Refusals: docs/REFUSALS.md.
 
 cell                            elements       is_valid  flags  orientable  closed, one body
@@ -178,9 +176,8 @@ cell                            elements       is_valid  flags  orientable  clos
 
 // What the table shows.
 fn last_words(rt: &impl Print) -> io::Result<()> {
-    print::text(
-        rt,
-        b"
+    rt.print(
+        "
 What let the insurer's cell through: is_valid asks for two elements in between only below the cell
 itself, so an edge that lies in only one of its faces goes unseen; closed asks up to the cell itself.
 Products keep cells closed: a product of two closed cells is closed again, which is proved once for
@@ -194,10 +191,10 @@ under one top.
 fn main(rt: HostRuntime) -> io::Result<()> {
     headline(&rt)?;
     rows(&rt, &BOXES)?;
-    print::end(&rt)?;
+    println!(rt)?;
     rows(&rt, &SMALL)?;
     products(&rt, &PRODUCTS)?;
-    print::end(&rt)?;
+    println!(rt)?;
     rows(&rt, &FAULTY)?;
     last_words(&rt)
 }

@@ -1,53 +1,44 @@
 // A table of cells, a row for each: its name, its elements by rank, is_valid, flags, orientable, closed and one body.
 use listing::{Index, Refusal, reading};
 use search::Found;
-use std::io;
-use words::print::{blank, end, number, text};
+use std::{fmt, io};
+use words::{Numbered, Reason, Verdict};
 
-// The name of a row, as wide as its column.
-pub type Name = [u8; 30];
+// The name of a row.
+pub type Name = &'static str;
 
-// A number of up to two digits, to the right, and a blank; blanks for 0.
-fn right(rt: &impl Print, n: u16) -> io::Result<()> {
-    if n < 10 {
-        blank(rt)?;
-    }
-    if n == 0 {
-        blank(rt)?;
-    } else {
-        number(rt, n)?;
-    }
-    blank(rt)
-}
+// So many ranks have a column.
+const COLUMNS: usize = 5;
 
-// How many elements there are at each rank, of up to five; blanks for the ranks that are not there.
-fn elements(rt: &impl Print, counts: &[Index]) -> io::Result<()> {
-    right(rt, reading::count_at(counts, 0))?;
-    right(rt, reading::count_at(counts, 1))?;
-    right(rt, reading::count_at(counts, 2))?;
-    right(rt, reading::count_at(counts, 3))?;
-    right(rt, reading::count_at(counts, 4))
-}
+// How many elements there are at each rank that has a column; blanks for the ranks that are not there.
+#[derive(Drop)]
+struct Elements<'a>(&'a [Index]);
 
-// What is_valid says.
-fn valid(rt: &impl Print, accepts: bool) -> io::Result<()> {
-    if accepts {
-        text(rt, b" accepts     ")
-    } else {
-        text(rt, b" refuses     ")
+impl fmt::Display for Elements<'_> {
+    fn fmt<W: fmt::Write>(&self, f: &mut fmt::Formatter<W>) -> fmt::Result {
+        for r in 0..COLUMNS {
+            match reading::count_at(self.0, r) {
+                0 => f.write_str("   ")?,
+                n => write!(f, "{n:>2} ")?,
+            }
+        }
+        Ok(())
     }
 }
 
-// How many flags there are, and whether the cell is orientable.
-fn flags(rt: &impl Print, found: Found) -> io::Result<()> {
-    if found.count < 100 {
-        blank(rt)?;
-    }
-    right(rt, found.count)?;
-    if found.place == 0 {
-        text(rt, b" yes         ")
-    } else {
-        text(rt, b" no          ")
+// How many flags there are, if they were counted, and whether the cell is orientable.
+#[derive(Drop)]
+struct Flags(Option<Found>);
+
+impl fmt::Display for Flags {
+    fn fmt<W: fmt::Write>(&self, f: &mut fmt::Formatter<W>) -> fmt::Result {
+        match self.0 {
+            Some(found) => {
+                let orientable = if found.place == 0 { "yes" } else { "no" };
+                write!(f, "{:>3}  {orientable:<12}", found.count)
+            }
+            None => write!(f, "{:>3}  {:<12}", "-", "-"),
+        }
     }
 }
 
@@ -59,22 +50,22 @@ pub fn row(
     accepts: bool,
     body: Result<Found, Refusal>,
 ) -> io::Result<()> {
-    text(rt, &name)?;
-    blank(rt)?;
-    elements(rt, counts)?;
-    valid(rt, accepts)?;
-    match body {
-        Ok(found) => flags(rt, found)?,
-        Err(_) => text(rt, b"  -  -           ")?,
-    }
-    words::verdict(rt, body.err(), counts)?;
-    end(rt)
+    let valid = if accepts { "accepts" } else { "refuses" };
+    let flags = Flags(body.ok());
+    let verdict = Verdict::of(body.err(), counts);
+    println!(rt;
+        "{name:<30} {} {valid:<12}{flags}{verdict}",
+        Elements(counts)
+    )
 }
 
 // A cell that was not made: there is nothing to count or to test.
 pub fn refused(rt: &impl Print, name: Name, why: Refusal) -> io::Result<()> {
-    text(rt, &name)?;
-    text(rt, b"  -              -             -  -           ")?;
-    words::numbered(rt, why, 0)?;
-    end(rt)
+    let reason = Numbered(Reason::from(why));
+    println!(rt;
+        "{name:<30} {:<15} {:<12}{}{reason}",
+        " -",
+        "-",
+        Flags(None)
+    )
 }

@@ -49,7 +49,7 @@ use Rattle.volume_metres.specs.Formulas.{in_floats}
 use Rattle.volume_theory.specs.Six.{cell_rank, even_flags, six_formula}
 use Rattle.volume_theory.proofs.EvenFlags.{Oriented, even_flag}
 use Rattle.volume_theory.proofs.Exactly.{six_exact}
-use Rattle.volume.specs.Volumes.{measured, refused_with, volume_test, volume_by}
+use Rattle.volume.specs.Volumes.{measured, unmeasured, volume_test, volume_by}
 use Rattle.volume.specs.Volumes.{told_volume}
 
 -- ---- the mask
@@ -211,7 +211,7 @@ module _ (L : Listing) (first : List ℕ) (xs : List Float) (table bytes : List 
 
 -- what `?` returns is the refusal that it met
 pub volume_err : (result : Result Float Refusal) (d : Refusal) → IsErrAnd result (λ x. x ≡ d)
-    → told_volume result ≡ refused_with (answer_of d).no
+    → told_volume result ≡ unmeasured (answer_of d).no
 volume_err result d h = let p = err_from_is_err_and result h in rw (p.1, p.2) refl
 
 pub ends_every : (L : Listing) (first : List ℕ) (mask : ℕ) (table bytes : List ℕ) {s : Searched} {t b : List ℕ}
@@ -226,15 +226,15 @@ module _ {L : Listing} {first : List ℕ} {table bytes : List ℕ} {s : Searched
     (E : Ends limits L first (every_rank (rank L)) table bytes s t b) (xs : List Float) where
   -- a test refuses
   pub test_halts : (d : Refusal) → answer_of d ≡ volume_test L.counts xs s
-      → refused_with (answer_of d).no ≡ volume_by limits L first xs table bytes
+      → unmeasured (answer_of d).no ≡ volume_by limits L first xs table bytes
   unfolding volume_by
   test_halts d e =
       let n = rw E.answer at e in
-      rw (← n) (sym (if_not _ (measured _) (refused_with _) (refuses d)))
+      rw (← n) (sym (if_not _ (measured _) (unmeasured _) (refuses d)))
 
   -- the search does
   pub search_halts : (d : Refusal) → s ≡ refused_as (answer_of d)
-      → refused_with (answer_of d).no ≡ volume_by limits L first xs table bytes
+      → unmeasured (answer_of d).no ≡ volume_by limits L first xs table bytes
   unfolding volume_test
   search_halts d e = test_halts d (rw e (sym (or_stop (answer_of d) _ (refuses d))))
 
