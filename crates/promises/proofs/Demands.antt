@@ -3,8 +3,8 @@
 -- Demand 1. Every entry takes any slices and comes to an end: no contract asks anything of its caller, and each is met
 -- in the end. Which refusal comes exactly when, and what is written.
 -- Demand 2, the part that is proved: the tests accept exactly what the book asks; what the counts, a reading, a change,
--- a search, an orientation, the events, the test for one body, a dual and a volume are; and a C function answers what
--- its entry answers.
+-- a search, an orientation, the events, the test for one body, a dual and a volume are; and a C function and its entry
+-- answer alike.
 -- That the answers equal those of the Rust is shown by running both (docs/COMPARISON.md).
 -- Demand 3. What the four products keep, and duals, each said of the slices that the entry wrote, up to the lengths
 -- answered.
@@ -20,7 +20,7 @@ use Rattle.promises.proofs.OfFlags.{flags_taken, flags_refuse, flags_named, flag
 use Rattle.promises.proofs.OfBodies.{bodies_taken, bodies_refuse, bodies_named, bodies_answer, bodies_once}
 use Rattle.promises.proofs.OfDuals.{duals_taken, duals_refuse, duals_answer, duals_keep, duals_once}
 use Rattle.promises.proofs.OfVolumes.{volumes_taken, volumes_refuse, volumes_named, volumes_answer, volumes_once}
-use Rattle.promises.proofs.OfBoundary.{boundary_taken, boundary, boundary_once}
+use Rattle.promises.proofs.OfBoundary.{boundary_taken, boundary, boundary_back, boundary_once}
 
 pub demand_one : DemandOne
 demand_one = record {
@@ -58,6 +58,7 @@ demand_two = record {
   duals_answer = duals_answer;
   volumes_answer = volumes_answer;
   boundary_passes = boundary;
+  boundary_back = boundary_back;
 }
 
 pub demand_three : DemandThree

@@ -62,7 +62,8 @@ shown (turned_as L a D) = record { answer = a; made = D; valid = a; last = a }
 shown (unturned L n a) = record { answer = a; made = L; valid = a; last = a }
 
 -- row k of the table, with the answers that computing gives and with those that stand in it
-row : (k : ℕ) → get_or (map answered tried) k (tested leaking_box fine fine) ≡ get_or tried k (tested leaking_box fine fine)
+row : (k : ℕ) → get_or (map answered tried) k (tested leaking_box fine fine)
+    ≡ get_or tried k (tested leaking_box fine fine)
 row k = ap (λ rows. get_or rows k (tested leaking_box fine fine)) starred
 
 -- The cell: is_valid accepts it, and closed says of edge 0 that only one face lies between it and the cell.

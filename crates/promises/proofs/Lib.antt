@@ -3,6 +3,7 @@ pub mod Firsts
 pub mod NamedIncidences
 pub mod NamedTests
 pub mod NamedBetween
+pub mod Refused
 pub mod Produced
 pub mod Cases
 pub mod OfTests

@@ -22,8 +22,10 @@ use Rattle.valid.specs.Tests as tests
 use Rattle.valid.proofs.AscentExact.{ascent_exact, ascends_distinct}
 use Rattle.valid.proofs.TestNumbers.{bounded_numbers, incidence_numbers, ascent_numbers}
 use Rattle.promises.specs.Named.{FirstThird, Named, of_shape, of_flags, named_not_bounded, named_no_subs, named_no_sups}
-use Rattle.promises.specs.Named.{named_sub_not_back, named_sup_not_back, named_sub_missing, named_sup_missing, named_third_between}
-use Rattle.promises.specs.Named.{named_lone_between, named_not_ascending, named_several_parts, ThreeOf, OneOf, BetweenNamed}
+use Rattle.promises.specs.Named.{named_sub_not_back, named_sup_not_back, named_sub_missing, named_sup_missing}
+use Rattle.promises.specs.Named.{named_third_between}
+use Rattle.promises.specs.Named.{named_lone_between, named_not_ascending, named_several_parts}
+use Rattle.promises.specs.Named.{ThreeOf, OneOf, BetweenNamed}
 use Rattle.promises.proofs.Firsts.{Tells, tells_or}
 use Rattle.promises.proofs.NamedTests.{shape_tells, closed_named}
 
@@ -138,7 +140,8 @@ module _ (m : Limits) (L : Listing) where
 
   pub closed_tells : Tells (BetweenNamed L) (tests.closed m L)
   closed_tells s = record {
-    three = λ e. (between_named (rank L) L (closed_distinct s (omega arith) (omega arith)) (closed_named m L s)).three e;
+    three = λ e.
+        (between_named (rank L) L (closed_distinct s (omega arith) (omega arith)) (closed_named m L s)).three e;
     single = λ e.
         (between_named (rank L) L (closed_distinct s (omega arith) (omega arith)) (closed_named m L s)).single e;
   }

@@ -1,41 +1,37 @@
 -- Test 2: a refusal is true of the element and the entry that it names, and all before it are good.
 -- Assumes nothing.
-use mathlib.Core.Path.{◌≡◌, refl, sym}
-use mathlib.Core.Bool.{Bool, true, false, not, ◌&&◌}
-use mathlib.Core.List.{List, [], ◌∷◌}
+use mathlib.Core.Path.{◌≡◌}
+use mathlib.Core.Bool.{Bool, true, not, ◌&&◌}
+use mathlib.Core.List.{List, []}
 use Prim.Native.Nat.{ℕ, ◌-◌, ◌≤◌, ◌<◌}
 use native.Mathlib.Omega.{arith}
 use borrow.Author.Tests.{eqb-true, ltb-true, ltb-false}
 use lib.Dec.{ltb, eqb}
 use lib.ListN.{length}
+use Rattle.std.proofs.lemmas.Bool.{not-true}
+use Rattle.std.proofs.lemmas.List.{nil_from_length}
 use Rattle.order.specs.Lists.{In, has}
 use Rattle.order.proofs.Lists.{has_no}
 use Rattle.order.proofs.Tests.{and_true}
 use Rattle.listing.specs.declared.Answer.{Answer}
 use Rattle.listing.specs.Answers.{refusal, on}
+use Rattle.listing.specs.Told.{not_back_no, missing_no}
 use Rattle.listing.specs.Listing.{Listing, rank, count, below, subs, sups}
 use Rattle.valid_incidence.specs.declared.incidence.Way.{Way}
 use Rattle.valid_incidence.specs.Ways.{down, up, back, entry_test, along_test, list_test}
 use Rattle.valid_incidence.specs.Incidence.{element_test, incidences_test, SubBack, LowerAt, IncidentAt}
 use Rattle.valid_incidence.proofs.Entries.{lower, upper}
-use Rattle.valid_incidence.proofs.IncidenceExact.{Refuses, down_refuses, up_refuses, LeadsBack, entry_exact, below_is}
+use Rattle.valid_incidence.proofs.IncidenceExact.{LeadsBack, entry_exact, below_is}
 use Rattle.valid_incidence.proofs.IncidenceExact.{lower_exact, element_exact}
 use Rattle.promises.specs.Named.{FirstAt, FirstIn, Named}
-use Rattle.promises.specs.Named.{named_no_subs, named_no_sups, named_sub_not_back, named_sup_not_back, named_sub_missing, named_sup_missing}
+use Rattle.promises.specs.Named.{named_no_subs, named_no_sups, named_sub_not_back, named_sup_not_back}
+use Rattle.promises.specs.Named.{named_sub_missing, named_sup_missing}
 use Rattle.promises.proofs.Firsts.{Tells, tells_or, tells_on, tells_cond, tells_in, tells_elements}
 
 -- ---- small laws
 
-not_true : (b : Bool) → not b ≡ true → b ≡ false
-not_true true e = sym e
-not_true false e = refl
-
 not_less : {a b : ℕ} → ¬ (a < b) → b ≤ a
 not_less n = omega arith
-
-none_in : (l : List ℕ) → length l ≡ 0 → l ≡ []
-none_in [] e = refl
-none_in (x ∷ l) e = absurd (omega arith)
 
 first_map : {P R : ℕ → Type 0} {x : ℕ} {l : List ℕ} → ((y : ℕ) → P y → R y) → FirstIn P x l → FirstIn R x l
 first_map g f = record {
@@ -52,36 +48,36 @@ module _ (h : ℕ) (L : Listing) where
   abbrev Tell : Answer → Type 0
   Tell = Tells N
 
-  module _ (w : Way) (R : Refuses w) (r i : ℕ) where
+  module _ (w : Way) (r i : ℕ) where
     abbrev Back : ℕ → Type 0
-    Back = LeadsBack L.ends L.inc w R r i
+    Back = LeadsBack L.ends L.inc w r i
 
-    entry_tells : (x : ℕ) → (x < w.size → ¬ In i (back L.ends L.inc w x) → N (refusal w.oneway r i x 0))
-        → (w.size ≤ x → N (refusal w.missing r i x 0)) → Tell (entry_test L.ends L.inc w r i x)
+    entry_tells : (x : ℕ) → (x < w.size → ¬ In i (back L.ends L.inc w x) → N (refusal (not_back_no w.side) r i x 0))
+        → (w.size ≤ x → N (refusal (missing_no w.side) r i x 0)) → Tell (entry_test L.ends L.inc w r i x)
     unfolding entry_test
     entry_tells x one miss =
         let l = back L.ends L.inc w x in
         tells_cond N (ltb x w.size) _ _
-        (λ e. tells_on N (not (has l i)) _ (λ f. one (ltb-true _ _ e) ((has_no i l).0 (not_true _ f))))
+        (λ e. tells_on N (not (has l i)) _ (λ f. one (ltb-true _ _ e) ((has_no i l).0 (not-true _ f))))
         (λ e z. miss (ltb-false _ _ e))
 
     -- along a list: what the refusals come to
     along_tells : (list : List ℕ)
         → ((x : ℕ) → FirstIn Back x list → x < w.size → ¬ In i (back L.ends L.inc w x)
-        → N (refusal w.oneway r i x 0))
-        → ((x : ℕ) → FirstIn Back x list → w.size ≤ x → N (refusal w.missing r i x 0))
+        → N (refusal (not_back_no w.side) r i x 0))
+        → ((x : ℕ) → FirstIn Back x list → w.size ≤ x → N (refusal (missing_no w.side) r i x 0))
         → Tell (along_test L.ends L.inc w r i list)
     unfolding along_test
     along_tells list one miss =
         tells_in N _ list (λ x f.
-        let K = first_map (λ y z. (entry_exact L.ends L.inc w R r i y).0 z) f in
+        let K = first_map (λ y z. (entry_exact L.ends L.inc w r i y).0 z) f in
         entry_tells x (one x K) (miss x K))
 
   none_tells : (t : Bool) (list : List ℕ) (a : Answer) → (t ≡ true → list ≡ [] → N a)
       → Tell (on (t && eqb (length list) 0) a)
   none_tells t list a g =
       tells_on N (t && eqb (length list) 0) a
-      (λ e. let p = and_true _ _ e in g p.0 (none_in list (eqb-true _ _ p.1)))
+      (λ e. let p = and_true _ _ e in g p.0 (nil_from_length list (eqb-true _ _ p.1)))
 
   module _ (r i : ℕ) (F : FirstAt L 0 (IncidentAt L) r i) where
     lower_tells : Tell (lower L r i)
@@ -89,7 +85,7 @@ module _ (h : ℕ) (L : Listing) where
     lower_tells =
         tells_or N _ _
         (none_tells (ltb 0 r) (subs L r i) _ (λ a e. named_no_subs r i F (ltb-true 0 r a) e)) (λ _.
-        along_tells (down L r) (down_refuses L r) r i (subs L r i)
+        along_tells (down L r) r i (subs L r i)
         (λ x K l n. let p = (below_is L r x).0 l in named_sub_not_back r i x F (kept K) p.0 p.1 n)
         (λ x K l. named_sub_missing r i x F (kept K) (missing x l)))
       where
@@ -105,7 +101,7 @@ module _ (h : ℕ) (L : Listing) where
     upper_tells D =
         tells_or N _ _
         (none_tells (ltb r (rank L)) (sups L r i) _ (λ a e. named_no_sups r i F D (ltb-true r (rank L) a) e)) (λ _.
-        along_tells (up L r) (up_refuses L r) r i (sups L r i)
+        along_tells (up L r) r i (sups L r i)
         (λ x K l n. named_sup_not_back r i x F D K l n)
         (λ x K l. named_sup_missing r i x F D K l))
 

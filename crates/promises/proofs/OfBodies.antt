@@ -2,16 +2,22 @@
 -- Assumes nothing.
 use mathlib.Core.Path.{◌≡◌, refl, ap, ◌∙◌}
 use mathlib.Core.Logic.{◌≢◌}
+use mathlib.Core.List.{List}
 use Prim.Native.Nat.{ℕ}
 use native.Mathlib.Omega.{arith}
 use lib.Dec.{ltb}
 use lib.ListN.{length}
+use Rattle.std.proofs.Common.{Result}
+use Rattle.listing.specs.declared.Refusal.{Refusal}
 use Rattle.listing.specs.Listing.{Listing, limits, rank}
 use Rattle.listing.proofs.Answers.{or_stop}
 use Rattle.listing.proofs.Clear.{Clear, clear_exact, clear_or, clear_plain}
 use Rattle.valid.specs.Tests as tests
 use Rattle.body_theory.specs.InAll.{flags_in_all}
-use Rattle.body.specs.Body.{whole_search, parts_test, body_test}
+use Rattle.search.specs.declared.Found.{Found}
+use Rattle.search.specs.SearchedBy.{told_searched}
+use Rattle.search.specs.Promised.{room_in}
+use Rattle.body.specs.Body.{whole_search, parts_test, body_test, body_by}
 use Rattle.body.proofs.Verdict.{Verdict, verdict, body_exact}
 use Rattle.body.proofs.Verdict.Verdict.{not_closed, too_many, several, one_body}
 use Rattle.body.proofs.Exact.{body_said, body_as_search, from_any_flag, body_promised}
@@ -21,7 +27,8 @@ use Rattle.promises.specs.OfBodies.{BodiesTaken, BodiesRefuse, BodiesNamed, Bodi
 use Rattle.promises.proofs.Alike.{any}
 use Rattle.promises.proofs.Firsts.{Tells}
 use Rattle.promises.proofs.NamedTests.{closed_named}
-use Rattle.promises.proofs.OfFlags.{same_search}
+use Rattle.promises.proofs.Refused.{named_tells}
+use Rattle.promises.proofs.OfFlags.{same_search, found_so}
 
 pub bodies_taken : BodiesTaken
 bodies_taken = record { one_body = any }
@@ -72,6 +79,14 @@ bodies_answer = record {
   one_body_from_any_flag = λ k l a c r s x y p q e. rw (p.0, q.0, e) (λ z F m h. rw m
       (from_any_flag (lent a) (body_tables a).0 (body_tables a).1 z (flag c) (tables c).0 (tables c).1 F h));
 }
+
+-- a result that is told as the test for one body answers
+pub body_so : (L : Listing) (table bytes : List ℕ)
+    → (d : Result Found Refusal) × (told_searched d ≡ body_by limits L table bytes)
+unfolding body_by
+body_so L table bytes =
+    let room = room_in limits L table bytes in
+    found_so (body_clear L room) (named_tells (rank L) L (body_tells L room)) (whole_search L room)
 
 pub bodies_once : BodiesOnce
 bodies_once = record {

@@ -6,13 +6,17 @@ use mathlib.Core.Logic.{◌≢◌, ◌↔◌}
 use mathlib.Core.Bool.{Bool, true, false, ◌||◌}
 use lib.Dec.{ltb}
 use lib.ListN.{length}
+use Rattle.std.proofs.Common.{Result}
 use Rattle.listing.specs.declared.Built.{Built}
+use Rattle.listing.specs.declared.Lengths.{Lengths}
+use Rattle.listing.specs.declared.Refusal.{Refusal}
 use Rattle.listing.specs.Refusals.{output_short}
 use Rattle.listing.specs.Listing.{Listing, limits}
 use Rattle.listing.specs.Shape.{Shaped}
 use Rattle.listing.specs.Rules.{FirstBroken}
+use Rattle.listing.specs.Told.{told_built}
 use Rattle.listing.proofs.Answers.{or_fine, or_stop, or_no, no_or}
-use Rattle.listing.proofs.Clear.{Plain, plain_on}
+use Rattle.listing.proofs.Clear.{Plain, plain_on, clear_or}
 use Rattle.listing_outputs.specs.Output.{Fits, short_test, prefix}
 use Rattle.listing_outputs.proofs.Output.{room_tested, made_answer, made_untouched, made_wrote, made_prefix, made_once}
 use Rattle.valid.specs.Closed.{Closed}
@@ -31,11 +35,12 @@ use Rattle.dual_theory.proofs.DualProducts.{product_turned_over}
 use Rattle.dual.specs.Duals.{dual_test, DualMade}
 use Rattle.dual.specs.Rules.{dual_rules}
 use Rattle.dual.proofs.DualBroken.{dual_broken}
-use Rattle.dual.proofs.dual.Reads as dual
+use Rattle.flumedrac.proofs.fd_dual.Reads as dual
 use Rattle.promises.specs.Entries.{Call, Three, ThreeWritten, lent, right, outputs}
 use Rattle.promises.specs.OfDuals.{turned_by, built_by, BothSides, DualsTaken, DualsRefuse, DualsAnswer, DualsKeep}
 use Rattle.promises.specs.OfDuals.{DualsOnce}
 use Rattle.promises.proofs.Alike.{any}
+use Rattle.promises.proofs.Refused.{closed_refused, or_refused, room_refused, room_clear, built_so}
 
 pub duals_taken : DualsTaken
 duals_taken = record { dual = any }
@@ -135,8 +140,8 @@ law min max a b e d f =
 -- the five calls, of products told by min and max
 module _ (min max : Bool) {K L A C X Y : Type 0}
     {P : K → Three (Three (ThreeWritten A)) → Built → Three (Three (ThreeWritten X)) → Type 0}
-    {Q : L → Three (Three (ThreeWritten C)) → Built → Three (Three (ThreeWritten Y)) → Type 0} (p : Call P) (d a b : Call dual.Post)
-    (q : Call Q) (s : BothSides p d a b q) where
+    {Q : L → Three (Three (ThreeWritten C)) → Built → Three (Three (ThreeWritten Y)) → Type 0}
+    (p : Call P) (d a b : Call dual.Post) (q : Call Q) (s : BothSides p d a b q) where
   both_sides : Outcome limits min max (lent p.args) (right p.args) (outputs p.args) (outputs p.exit)
       p.answer
       → Outcome limits max min (lent q.args) (right q.args) (outputs q.args) (outputs q.exit) q.answer
@@ -146,6 +151,14 @@ module _ (min max : Bool) {K L A C X Y : Type 0}
       law min max (turned_over a s.left_turned s.of_left) (turned_over b s.right_turned s.of_right)
       (made_prefix o.made s.built) (turned_over d s.built_turned s.of_built)
       (rw (s.of_turned.0, s.of_turned.1) at f)
+
+-- a result that is told as the dual answers
+pub dual_so : (L : Listing) {old new : Listing} {r : Built} → DualMade limits L old new r
+    → (d : Result Lengths Refusal) × DualMade limits L old new (told_built d) × (r ≡ told_built d)
+unfolding dual_test
+dual_so L =
+    built_so (clear_or (tests.closed limits L) (room_clear _ _ _ _))
+    (or_refused _ _ (closed_refused L) (room_refused _ _ _ _))
 
 pub duals_refuse : DualsRefuse
 duals_refuse = record {

@@ -1,28 +1,35 @@
 -- What is promised of changes, orientations, the search and the events, of whatever their contracts admit.
 -- Assumes nothing.
-use mathlib.Core.Path.{◌≡◌, refl, ◌∙◌}
+use mathlib.Core.Path.{◌≡◌, refl, sym, ap, ◌∙◌}
 use mathlib.Core.Logic.{◌≢◌}
 use mathlib.Core.Bool.{Bool, not, ◌&&◌}
 use mathlib.Core.List.{List}
 use Prim.Native.Nat.{ℕ, ◌≤◌}
 use native.Mathlib.Omega.{arith}
 use lib.Dec.{ltb}
-use lib.ListN.{replicate}
+use lib.ListN.{length, replicate}
+use Rattle.std.proofs.Common.{Result}
 use Rattle.listing.specs.declared.Answer.{Answer}
+use Rattle.listing.specs.declared.Refusal.{Refusal}
 use Rattle.listing.specs.Answers.{plain, on}
 use Rattle.listing.specs.Listing.{Listing, Limits, limits, rank}
-use Rattle.listing.proofs.Answers.{or_stop, no_of}
+use Rattle.listing.proofs.Answers.{or_stop, no_of, if_not}
+use Rattle.listing.proofs.Told.{refuses}
 use Rattle.listing.proofs.Clear.{Clear, clear_exact, clear_or, clear_plain}
 use Rattle.valid.specs.Tests as tests
 use Rattle.flag_change.specs.Flags.{flag_test, start_test}
+use Rattle.flag_change.specs.Change.{change_at, padded, replaced_at}
 use Rattle.flag_change.proofs.Across.{across}
-use Rattle.flag.specs.Changed.{change_test, changed_of}
-use Rattle.flag.proofs.ChangeAnswers.{change_clear, changed_answer, changed_none}
+use Rattle.flag.specs.declared.made.Change.{Change}
+use Rattle.flag.specs.Changed.{change_test, changed_as, changed_of, told_changed}
+use Rattle.flag.proofs.ChangeAnswers.{change_clear, changed_answer, changed_none, changed_some}
 use Rattle.flag.proofs.ChangeMade.{change_asked, change_changes, change_replaces, change_twice}
 use Rattle.flag.proofs.ChangeBroken.{change_broken}
+use Rattle.search_theory.specs.Search.{State}
 use Rattle.search_masks.specs.Masks.{mask_fits}
 use Rattle.search_walk.specs.Searched.{found_by}
-use Rattle.search.specs.SearchedBy.{search_test}
+use Rattle.search.specs.declared.Found.{Found}
+use Rattle.search.specs.SearchedBy.{room_of, search_test, searched_of, searched_by, told_searched}
 use Rattle.search.proofs.SearchBroken.{said}
 use Rattle.search.proofs.Exact.{promised}
 use Rattle.search.proofs.OneAnswer as search
@@ -34,6 +41,7 @@ use Rattle.promises.proofs.Cases.{byte_flipped, sign_of_lem, byte_of_lem}
 use Rattle.promises.proofs.Cases.{in_order, said_in_order, stays_past, said_stays_past}
 use Rattle.promises.proofs.Firsts.{Tells, tells_or, tells_on}
 use Rattle.promises.proofs.NamedTests.{closed_named}
+use Rattle.promises.proofs.Refused.{Refused, named_tells, told_so}
 
 pub flags_taken : FlagsTaken
 flags_taken = record { flags = (any, any, any, any, any); search = any; events = (any, any, any, any, any) }
@@ -157,6 +165,37 @@ flags_answer = record {
 pub same_search : {B : Type 0} {b c d : B} {s t u v m n : List ℕ} → b ≡ d → s ≡ m → t ≡ n → c ≡ d → u ≡ m → v ≡ n
     → (b ≡ c) × (◌≡◌ {A = List ℕ × List ℕ} (s, t) (u, v))
 same_search p s t q u v = (alike p q, λ i. (alike s u i, alike t v i))
+
+-- a result that is told as a change answers, and as a search does
+pub changed_so : (L : Listing) (f : List ℕ) (r : ℕ)
+    → (d : Result Change Refusal) × (told_changed d ≡ changed_of limits L f r)
+unfolding changed_as
+changed_so L f r =
+    let p = replaced_at L r f in
+    let c : Change = record { flag = padded (change_at L r f); taken = p.taken; put = p.put } in
+    let d = told_so (change_clear limits L f r) (named_tells (rank L) L (change_tells limits L f r)) told_changed
+    (changed_of limits L f r) (λ c. Unit) (λ e. (c, tt, changed_some limits L f r (ap (λ t. t.no) e)))
+    (λ d e h. changed_none limits L f r (sym e) (refuses d)) in
+    (d.0, d.2)
+
+pub found_so : {t : Answer} → Clear t → Refused t → (s : State (List ℕ))
+    → (d : Result Found Refusal) × (told_searched d ≡ searched_of t s)
+unfolding searched_of
+found_so {t} clear some s =
+    let n : Found = record { count = length s.found; place = s.place } in
+    let d = told_so clear some told_searched (searched_of t s) (λ n. Unit) (λ e. (n, tt, rw e refl))
+    (λ d e h. rw (if_not t.no _ _ h, e) refl) in
+    (d.0, d.2)
+
+pub search_refusals : (L : Listing) (f : List ℕ) (mask room : ℕ) → Refused (search_test limits L f mask room)
+search_refusals L f mask room = named_tells (rank L) L (search_tells limits L f mask room)
+
+pub searched_so : (L : Listing) (f : List ℕ) (mask : ℕ) (table bytes : List ℕ)
+    → (d : Result Found Refusal) × (told_searched d ≡ searched_by limits L f mask table bytes)
+unfolding searched_by
+searched_so L f mask table bytes =
+    let room = room_of limits L (length table) (length bytes) in
+    found_so (search_clear limits L f mask room) (search_refusals L f mask room) (found_by L f mask room)
 
 pub flags_once : FlagsOnce
 flags_once = record {

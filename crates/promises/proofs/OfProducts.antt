@@ -5,9 +5,15 @@ use mathlib.Core.Bool.{Bool, true, false, not, ◌||◌}
 use Prim.Native.Nat.{ℕ}
 use lib.Dec.{ltb, eqb}
 use lib.ListN.{length}
+use Rattle.std.proofs.Common.{Result}
 use Rattle.listing.specs.declared.Built.{Built}
+use Rattle.listing.specs.declared.Lengths.{Lengths}
+use Rattle.listing.specs.declared.Refusal.{Refusal}
+use Rattle.listing.specs.declared.Refusal.TheVariants.{LeftInvalid, RightInvalid, CombOfPoint, ProductRanks}
+use Rattle.listing.specs.declared.Refusal.TheVariants.{ProductElements, ProductIncidences}
 use Rattle.listing.specs.Listing.{Listing, Limits, limits}
 use Rattle.listing.specs.Shape.{elements}
+use Rattle.listing.specs.Told.{told_built}
 use Rattle.listing_outputs.specs.Output.{short_test}
 use Rattle.listing.proofs.Clear.{Plain, plain_on, plain_or}
 use Rattle.listing_outputs.proofs.Output.{made_answer, made_once}
@@ -18,6 +24,7 @@ use Rattle.product_factors.specs.Factors.{factors_test}
 use Rattle.product.specs.Outcome.{rest_test, product_test, Outcome}
 use Rattle.promises.specs.OfProducts.{ProductsTaken, ProductsRefuse, ProductsKeep, ProductsOnce}
 use Rattle.promises.proofs.Alike.{any}
+use Rattle.promises.proofs.Refused.{Refused, plain_clear, or_refused, on_refused, room_refused, built_so}
 use Rattle.promises.proofs.Produced.{produces, outcome_kept, outcomes_swapped}
 
 pub products_taken : ProductsTaken
@@ -71,6 +78,22 @@ products_keep = record {
   duocomb_swaps = λ k l a c r s x y. outcomes_swapped true true;
 }
 
+-- ---- a result that is told so
+
+product_refused : (min max : Bool) (A B : Listing) (c e i : ℕ) → Refused (product_test limits min max A B c e i)
+unfolding product_test factors_test rest_test size_test
+product_refused min max A B c e i =
+    or_refused _ _ (or_refused _ _ (on_refused _ LeftInvalid) (on_refused _ RightInvalid))
+    (or_refused _ _ (on_refused _ CombOfPoint) (or_refused _ _ (on_refused _ ProductRanks)
+    (or_refused _ _ (on_refused _ ProductElements) (or_refused _ _ (on_refused _ ProductIncidences)
+    (room_refused (result_of min max A B) c e i)))))
+
+pub product_so : (min max : Bool) {A B old new : Listing} {r : Built} → Outcome limits min max A B old new r
+    → (d : Result Lengths Refusal) × Outcome limits min max A B old new (told_built d) × (r ≡ told_built d)
+product_so min max {A} {B} o =
+    let d = built_so (plain_clear (product_plain limits min max A B _ _ _)) (product_refused min max A B _ _ _) o.made in
+    (d.0, record { made = d.1 }, d.2)
+
 -- ---- no second answer
 
 -- an answer and three output slices
@@ -84,5 +107,6 @@ products_once = record {
   one_duoprism = λ k a b c x y. same_outcome true false;
   one_duotegum = λ k a b c x y. same_outcome false true;
   one_duocomb = λ k a b c x y. same_outcome true true;
-  one_make = λ k a b c x y. same_outcome a.0 a.1.0;
+  one_make = λ min max k a b c x y p q.
+      same_outcome min max (rw (← p.3) at p.2) (rw (← q.3) at q.2);
 }

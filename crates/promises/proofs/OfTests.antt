@@ -63,14 +63,14 @@ tests_refuse = record {
   facet_count_refuses = λ k a r x p. rw p (counted_broken a.0.now _);
   class_by_bands = λ k a r x p. rw p (class_of a.0);
   class_by_number = λ k a r x p. p;
-  shape_refuses = λ k a r x p. rw p (shape_alone limits (lent a));
+  shape_refuses = λ k a r x p. rw (p.2 ∙ p.1.0) (shape_alone limits (lent a));
   bounded_refuses = λ k a r x p. rw p (bounded_broken limits (lent a));
   incidences_refuse = λ k a r x p. rw p (incident_broken limits (lent a));
   dyadic_refuses = λ k a r x p. rw p (dyadic_broken limits (lent a));
   valid_refuses = λ k a r x p. rw p (valid_broken limits (lent a));
   closed_refuses = λ k a r x p. rw p (closed_broken limits (lent a));
   accepted_fine = (
-    λ k a r x p. rw p (clear_exact (shape_clear limits (lent a))),
+    λ k a r x p. rw (p.2 ∙ p.1.0) (clear_exact (shape_clear limits (lent a))),
     λ k a r x p. rw p (clear_exact (bounded_clear limits (lent a))),
     λ k a r x p. rw p (clear_exact (incidences_clear limits (lent a))),
     λ k a r x p. rw p (clear_exact (is_dyadic_clear limits (lent a))),
@@ -81,7 +81,7 @@ tests_refuse = record {
 
 pub tests_named : TestsNamed
 tests_named = record {
-  shape_names = λ k a r x p. rw p (shape_tells (Named 0 (lent a)) (λ n p q. of_shape n p q) limits (lent a));
+  shape_names = λ k a r x p. rw (p.2 ∙ p.1.0) (shape_tells (Named 0 (lent a)) (λ n p q. of_shape n p q) limits (lent a));
   bounded_names = λ k a r x p. rw p (bounded_named limits (lent a));
   incidences_name = λ k a r x p. rw p (incidences_named limits (lent a));
   dyadic_names = λ k a r x p. rw p (dyadic_named limits (lent a));
@@ -106,7 +106,8 @@ counted_value (c ∷ counts) n =
 
 -- the facets are the elements of the rank below the top; where there are fewer than two ranks there are none
 facets_counted : (counts : List ℕ)
-    → ((facet_count_of counts).no ≡ 0 → 2 ≤ length counts → (facet_count_of counts).value ≡ get_or counts (length counts - 2) 0)
+    → ((facet_count_of counts).no ≡ 0 → 2 ≤ length counts
+    → (facet_count_of counts).value ≡ get_or counts (length counts - 2) 0)
     × (length counts ≤ 1 → (facet_count_of counts).value ≡ 0)
 unfolding facet_count_of facets counted
 facets_counted counts = (
@@ -174,7 +175,7 @@ tests_once = record {
   one_el_count = λ k a b c x y. alike;
   one_vertex_count = λ k a b c x y. alike;
   one_facet_count = λ k a b c x y. alike;
-  one_shape = λ k a b c x y. alike;
+  one_shape = λ k a b c x y p q. alike (p.2 ∙ p.1.0) (q.2 ∙ q.1.0);
   one_bounded = λ k a b c x y. alike;
   one_check_incidences = λ k a b c x y. alike;
   one_is_dyadic = λ k a b c x y. alike;

@@ -1,6 +1,6 @@
 -- What is promised of reading a text, of checking one, and of writing one, of whatever their contracts admit.
 -- Assumes nothing.
-use mathlib.Core.Path.{◌≡◌, ap, sym, ◌∙◌}
+use mathlib.Core.Path.{◌≡◌, refl, ap, sym, ◌∙◌}
 use mathlib.Core.Logic.Iff
 use mathlib.Core.Logic.{◌≢◌, inl, inr, ◌↔◌}
 use mathlib.Core.Bool.{◌||◌}
@@ -9,20 +9,26 @@ use Prim.Native.Nat.{ℕ, ◌≤◌, ◌<◌}
 use native.Mathlib.Omega.{arith}
 use lib.Dec.{ltb}
 use lib.ListN.{length, take}
+use Rattle.std.proofs.Common.{Result}
 use Rattle.listing.specs.declared.Answer.{Answer}
 use Rattle.listing.specs.declared.Built.{Built}
+use Rattle.listing.specs.declared.Lengths.{Lengths}
+use Rattle.listing.specs.declared.Refusal.{Refusal}
+use Rattle.listing.specs.declared.Refusal.TheVariants.{LongText, BytesShort}
 use Rattle.listing.specs.Refusals.{output_short, long_text, bytes_short}
 use Rattle.listing.specs.Listing.{Listing, limits}
 use Rattle.listing.specs.Layers.{Layers, Topped, layers, derived}
 use Rattle.listing.specs.Written.{written}
 use Rattle.listing.specs.Rules.{FirstBroken}
-use Rattle.listing.proofs.Answers.{or_fine, or_stop, or_no, no_or, no_of}
-use Rattle.listing.proofs.Clear.{Plain, plain_on, plain_or}
+use Rattle.listing.specs.Told.{told, told_built}
+use Rattle.listing.proofs.Answers.{or_fine, or_stop, or_no, no_or, no_of, if_not}
+use Rattle.listing.proofs.Clear.{Plain, plain_on, plain_or, clear_or, clear_plain}
 use Rattle.listing_outputs.specs.Output.{Fits, short_test, Made, prefix, Wrote}
 use Rattle.listing_outputs.proofs.Output.{room_tested, made_answer, made_untouched, made_wrote, made_prefix, made_once}
 use Rattle.valid.specs.Closed.{Closed}
 use Rattle.valid.specs.Tests as tests
 use Rattle.valid.proofs.ClosedExact.{closed_exact}
+use Rattle.valid.proofs.TestsClear.{closed_clear}
 use Rattle.valid.proofs.DerivedSups.{closed_derived}
 use Rattle.text_theory.specs.Text.{text_of}
 use Rattle.text_theory.specs.Said.{listing_in, text_test}
@@ -33,15 +39,17 @@ use Rattle.text_theory.proofs.FirstPlaces as places
 use Rattle.text_theory.proofs.TextTest.{text_passed}
 use Rattle.text.specs.declared.Written.{Written}
 use Rattle.text.specs.Texts.{read_test, check_test}
-use Rattle.text.specs.WrittenTexts.{length_test, write_test, TextMade}
+use Rattle.text.specs.WrittenTexts.{length_test, write_test, written_of, told_written, TextMade}
 use Rattle.text.specs.Rules.{read_rules, write_rules}
 use Rattle.text.proofs.TextNumbers.{read_exact, read_good, check_exact}
 use Rattle.text.proofs.TextsBroken.{read_broken, check_broken}
-use Rattle.text.proofs.WrittenTexts.{write_goes, write_broken, write_exact, text_answer, text_untouched, text_wrote}
+use Rattle.text.proofs.WrittenTexts.{write_broken, write_exact, text_answer, text_untouched, text_wrote}
 use Rattle.text.proofs.WrittenTexts.{text_front, text_once, reads_own, listing_own}
 use Rattle.promises.specs.Entries.{lent, lent_text}
 use Rattle.promises.specs.OfTexts.{TextGood, text_of_cell, TextsTaken, TextsRefuse, TextsAnswer, TextsOnce}
 use Rattle.promises.proofs.Alike.{alike, any}
+use Rattle.promises.proofs.Refused.{closed_refused, on_refused, or_refused, room_refused, room_clear, text_refused}
+use Rattle.promises.proofs.Refused.{told_so, test_so, built_so}
 
 pub texts_taken : TextsTaken
 texts_taken = record { texts = (any, any, any) }
@@ -62,7 +70,8 @@ module _ (t : List ℕ) {old new : Listing} {r : Built} (d : WasRead t old new r
   long : r.answer.no ≡ long_text ↔ (limits.text < length t)
   long =
       rw (made_answer d)
-      (Iff.trans (read_exact limits t _ _ _ long_text (λ e. omega arith) (λ e. omega arith)) (places.over_long limits t))
+      (Iff.trans (read_exact limits t _ _ _ long_text (λ e. omega arith) (λ e. omega arith))
+      (places.over_long limits t))
 
   first : length t ≤ limits.text
       → ((n : ℕ) → n ≢ 0 → n ≢ output_short → r.answer.no ≡ n ↔ FirstPlace limits t n)
@@ -142,10 +151,10 @@ module _ (L : Listing) {old new : List ℕ} {r : Written} (d : WasWritten L old 
   as_closed h = text_answer d ∙ or_stop (tests.closed limits L) _ h
 
   write_plain : Closed limits L → Plain r.answer
-  unfolding length_test
+  unfolding write_test length_test
   write_plain C =
       let n = length (text_of_cell L) in
-      rw (text_answer d, write_goes limits L (length old) ((closed_exact limits L).1 C))
+      rw (text_answer d, or_fine (tests.closed limits L) _ ((closed_exact limits L).1 C))
       (plain_or _ _ (plain_on (ltb (length old) n) bytes_short) (plain_on (ltb limits.text n) long_text))
 
   exactly_written : r.answer.no ≡ 0
@@ -188,6 +197,34 @@ module _ (t : List ℕ) {old new : Listing} {r : Built} (q : WasRead t old new r
 
   read_written : (w.answer.no ≡ 0) × (take w.length new' ≡ t)
   read_written = (write_own, text_front d write_own ∙ own_text)
+
+-- ---- a result that is told so
+
+pub read_so : (t : List ℕ) {old new : Listing} {r : Built} → WasRead t old new r
+    → (d : Result Lengths Refusal) × WasRead t old new (told_built d) × (r ≡ told_built d)
+unfolding read_test
+read_so t =
+    built_so (clear_or (text_test limits t) (room_clear _ _ _ _))
+    (or_refused _ _ (text_refused limits t) (room_refused _ _ _ _))
+
+pub check_so : (t : List ℕ) → (d : Result (Unit {0}) Refusal) × (told d ≡ check_test limits t)
+unfolding check_test
+check_so t =
+    test_so (clear_or (text_test limits t) (closed_clear limits (listing_in t)))
+    (or_refused _ _ (text_refused limits t) (closed_refused (listing_in t)))
+
+pub written_so : (L : Listing) {old new : List ℕ} {r : Written} → WasWritten L old new r
+    → (d : Result ℕ Refusal) × WasWritten L old new (told_written d) × (r ≡ told_written d)
+unfolding write_test length_test written_of
+written_so L {old} {new} {r} m =
+    let n = length (text_of_cell L) in
+    let t = write_test limits L (length old) in
+    let d = told_so
+    (clear_or (tests.closed limits L) (clear_or _ (clear_plain (ltb limits.text n) long_text)))
+    (or_refused _ _ (closed_refused L) (or_refused _ _ (on_refused _ BytesShort) (on_refused _ LongText)))
+    told_written (written_of t n) (λ n. Unit) (λ e. (n, tt, rw e refl)) (λ d e h. rw (if_not t.no _ _ h, e) refl) in
+    let e = m.answer ∙ sym d.2 in
+    (d.0, rw (← e) m, e)
 
 pub texts_refuse : TextsRefuse
 texts_refuse = record {

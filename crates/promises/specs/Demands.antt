@@ -1,22 +1,23 @@
 -- The three demands, and that no second answer fits: each a short record that collects what is promised of each family
 -- of entries (OfTests, OfProducts, OfTexts, OfFlags, OfBodies, OfDuals, OfVolumes, OfBoundary). A promise speaks of an
--- entry through its `Post`, the reading of its contract, and so of any slices that the entry is lent. An answer that is
--- an enum is said by the number or values of its case; the events are said both ways.
+-- entry through a `Post`, the reading of the contract of its function for C, and so of any slices that are lent; what
+-- OfBoundary says carries it over to the entry. An answer that is an enum is said by the number or values of its case;
+-- the events are said both ways.
 --
 -- AnyTaken        every entry takes any slices and numbers: no contract asks anything of its caller
 -- RefusalsNamed   a refusal is true of what its fields name, and names the first such thing in order
 -- DemandOne       any slices are answered: which refusal comes exactly when, and what is written
 -- DemandTwo       the tests accept exactly what the book asks; what is answered by counts, readings of texts, changes,
---                 searches, events, the test for one body, duals and volumes; a C function answers what its entry
---                 answers
+--                 searches, events, the test for one body, duals and volumes; a C function and its entry answer
+--                 alike
 -- DemandThree     what the four products and duals keep
 -- OneForEach      no second answer fits the contract of any entry
 use Rattle.std.specs.Prelude.{◌≡◌, ◌↔◌}
 use Rattle.listing.specs.Listing.{rank}
 use Rattle.valid_diamond.specs.Dyadic.{DiamondAt}
 use Rattle.valid.specs.Ascent.{Ascends}
-use Rattle.valid.proofs.is_valid.Reads as is_valid
-use Rattle.valid.proofs.closed.Reads as closed
+use Rattle.flumedrac.proofs.fd_is_valid.Reads as is_valid
+use Rattle.flumedrac.proofs.fd_closed.Reads as closed
 use Rattle.promises.specs.Entries.{SaysOfTwo, lent}
 use Rattle.promises.specs.OfTests.{TestsTaken, TestsRefuse, TestsNamed, TestsAnswer, TestsOnce}
 use Rattle.promises.specs.OfProducts.{ProductsTaken, ProductsRefuse, ProductsKeep, ProductsOnce}
@@ -25,7 +26,7 @@ use Rattle.promises.specs.OfFlags.{FlagsTaken, FlagsRefuse, FlagsNamed, FlagsAns
 use Rattle.promises.specs.OfBodies.{BodiesTaken, BodiesRefuse, BodiesNamed, BodiesAnswer, BodiesOnce}
 use Rattle.promises.specs.OfDuals.{DualsTaken, DualsRefuse, DualsAnswer, DualsKeep, DualsOnce}
 use Rattle.promises.specs.OfVolumes.{VolumesTaken, VolumesRefuse, VolumesNamed, VolumesAnswer, VolumesOnce}
-use Rattle.promises.specs.OfBoundary.{BoundaryTaken, Boundary, BoundaryOnce}
+use Rattle.promises.specs.OfBoundary.{BoundaryTaken, Boundary, BoundaryBack, BoundaryOnce}
 
 pub record AnyTaken : Type 0 where
   pub tests : TestsTaken
@@ -62,6 +63,7 @@ pub record DemandTwo : Type 0 where
   pub duals_answer : DualsAnswer
   pub volumes_answer : VolumesAnswer
   pub boundary_passes : Boundary
+  pub boundary_back : BoundaryBack
 
 pub record DemandThree : Type 0 where
   -- closed is is_valid, with lists that ascend and the diamond at the maximal element

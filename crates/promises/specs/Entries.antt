@@ -1,5 +1,6 @@
--- How a promise speaks of an entry: through P, the reading of its contract that the prover makes from the source. P k a
--- b x says that the contract admits the answer b and the parameters x at exit for the arguments a; k are the lifetimes.
+-- How a promise speaks of an entry: through P, the reading that the prover makes of a contract in the source. P k a b x
+-- says that the contract admits the answer b and the parameters x at exit for the arguments a; k are the lifetimes. The
+-- contract is that of the fd_ function of the entry's name, where there is one; OfBoundary says the same of the entry.
 --
 -- Takes         the contract asks nothing: R k a, the reading of what it asks of a caller, holds for any arguments
 -- Says          whatever the contract admits has a property of arguments, answer and exit
@@ -9,11 +10,16 @@
 -- SaysOfThree the same of three contracts and calls
 -- Call          a call of an entry, as its contract admits it: for promises that speak of more calls than three
 -- PassesOn      whatever one contract admits another admits too, for the same arguments
--- PassesAs      whatever one contract admits is, as f has it, an answer that another admits, for the same arguments
+-- Told          the contract Q of an entry, with its answer as f tells it: as the record that crosses to C
+-- Gathered      the same of an entry that takes one struct in the place of three slices
+-- GatheredTwo   the same of one that takes two structs in the place of six slices
+-- ByPoles       the same of one that takes before them which product it is, by min and max
 -- Slice         a lent slice of numbers
 -- Written       a slice of numbers that is lent to be written
 -- Three         three slices, and the parameters after them
 -- ThreeWritten three slices that are lent to be written, and the parameters after them
+-- gathered      three slices as one struct
+-- gathered_two  six slices as two structs
 -- lent          the listing in the first three parameters
 -- in_written    the listing in three slices that are lent to be written
 -- right         the right factor of a product, in the next three; the left one is in the first three
@@ -27,9 +33,11 @@
 -- lent_text     the text in the first parameter
 -- read_into     the three slices that it is read into, in the next three
 -- written_into the slice that a text is written into, in the fourth parameter
-use Rattle.std.specs.Prelude.{◌≡◌, List, ℕ, Float}
+use Rattle.std.specs.Prelude.{◌≡◌, Bool, List, ℕ, Float}
 use Rattle.std.specs.Borrow.{Bor, MutBor}
+use Rattle.listing.specs.declared.Slices.{Slices}
 use Rattle.listing.specs.Listing.{Listing, listing}
+use Rattle.product_places.specs.declared.Poles.{Poles}
 
 module _ {K A : Type 0} (R : K → A → Type 0) where
   abbrev pub Takes : Type 0
@@ -64,13 +72,9 @@ pub record Call {K A B X : Type 0} (P : K → A → B → X → Type 0) : Type 0
   pub exit : X
   pub admitted : P lifetimes args answer exit
 
-module _ {K A B X : Type 0} (P Q : K → A → B → X → Type 0) where
+module _ {K L A B X : Type 0} (P : K → A → B → X → Type 0) (Q : L → A → B → X → Type 0) where
   abbrev pub PassesOn : Type 0
-  PassesOn = (k : K) (a : A) (b : B) (x : X) → P k a b x → Q k a b x
-
-module _ {K A B C X : Type 0} (f : C → B) (P : K → A → B → X → Type 0) (Q : K → A → C → X → Type 0) where
-  abbrev pub PassesAs : Type 0
-  PassesAs = (k : K) (a : A) (b : B) (x : X) → P k a b x → (c : C) × Q k a c x × (b ≡ f c)
+  PassesOn = (k : K) (l : L) (a : A) (b : B) (x : X) → P k a b x → Q l a b x
 
 abbrev pub Slice : Type 0
 Slice = Bor (List ℕ)
@@ -83,6 +87,31 @@ Three A = Slice × (Slice × (Slice × A))
 
 abbrev pub ThreeWritten : Type 0 → Type 0
 ThreeWritten A = Written × (Written × (Written × A))
+
+module _ {A : Type 0} where
+  abbrev pub gathered : Three A → Slices × A
+  gathered a = (record { counts = a.0; ends = a.1.0; inc = a.1.1.0 }, a.1.1.1)
+
+module _ {A : Type 0} where
+  abbrev pub gathered_two : Three (Three A) → Slices × (Slices × A)
+  gathered_two a = let b = gathered a in (b.0, gathered b.1)
+
+module _ {K A X B D : Type 0} (f : D → B) where
+  abbrev pub Told : (K → A → D → X → Type 0) → K → A → B → X → Type 0
+  Told Q k a b x = (d : D) × Q k a d x × (b ≡ f d)
+
+  abbrev pub Gathered : (K → Slices × A → D → Slices × X → Type 0) → K → Three A → B → Three X → Type 0
+  Gathered Q k a b x = (d : D) × Q k (gathered a) d (gathered x) × (b ≡ f d)
+
+  abbrev pub GatheredTwo : (K → Slices × (Slices × A) → D → Slices × (Slices × X) → Type 0) → K → Three (Three A) → B
+      → Three (Three X) → Type 0
+  GatheredTwo Q k a b x = (d : D) × Q k (gathered_two a) d (gathered_two x) × (b ≡ f d)
+
+module _ {K A X B D : Type 0} (min max : Bool) (f : D → B) where
+  abbrev pub ByPoles : (K → Poles × (Slices × (Slices × A)) → D → Poles × (Slices × (Slices × X)) → Type 0) → K
+      → Three (Three A) → B → Three (Three X) → Type 0
+  ByPoles Q k a b x =
+      (d : D) × (z : Poles) × Q k (record { min = min; max = max }, gathered_two a) d (z, gathered_two x) × (b ≡ f d)
 
 module _ {A : Type 0} where
   abbrev pub lent : Three A → Listing

@@ -13,7 +13,8 @@ use Rattle.std.specs.Prelude.{◌≡◌, ◌≢◌, List, [], ◌∷◌, ◌++�
 use Rattle.order.specs.Lists.{Earlier, In, Ascending, occurs}
 use Rattle.listing.specs.declared.Answer.{Answer}
 use Rattle.listing.specs.Refusals.{no_ranks, falling_ends, not_bounded, no_subs, no_sups, sub_not_back, sup_not_back}
-use Rattle.listing.specs.Refusals.{sub_missing, sup_missing, third_between, lone_between, not_ascending, not_a_flag, more_flags}
+use Rattle.listing.specs.Refusals.{sub_missing, sup_missing, third_between, lone_between, not_ascending}
+use Rattle.listing.specs.Refusals.{not_a_flag, more_flags}
 use Rattle.listing.specs.Refusals.{several_parts}
 use Rattle.listing.specs.Answers.{plain, refusal}
 use Rattle.listing.specs.Listing.{Listing, rank, count, side, subs, sups}
@@ -47,7 +48,8 @@ pub data Named (h : ℕ) (L : Listing) : Answer → Type 0 where
   -- 10: the elements of rank 0 and of the top rank, which are not both one
   named_not_bounded : ¬ Bounded L → Named h L (refusal not_bounded (count L 0) (count L (rank L)) 0 0)
   -- 11: element i of rank r, above rank 0, has no subs
-  named_no_subs : (r i : ℕ) → FirstAt L 0 (IncidentAt L) r i → 0 < r → subs L r i ≡ [] → Named h L (refusal no_subs r i 0 0)
+  named_no_subs : (r i : ℕ) → FirstAt L 0 (IncidentAt L) r i → 0 < r → subs L r i ≡ []
+      → Named h L (refusal no_subs r i 0 0)
   -- 12: element i of rank r, below the top, has no sups
   named_no_sups : (r i : ℕ) → FirstAt L 0 (IncidentAt L) r i → LowerAt L r i → r < rank L → sups L r i ≡ []
       → Named h L (refusal no_sups r i 0 0)
@@ -55,14 +57,15 @@ pub data Named (h : ℕ) (L : Listing) : Answer → Type 0 where
   named_sub_not_back : (r i x : ℕ) → FirstAt L 0 (IncidentAt L) r i → FirstIn (SubBack L r i) x (subs L r i) → 0 < r
       → x < count L (r - 1) → ¬ In i (sups L (r - 1) x) → Named h L (refusal sub_not_back r i x 0)
   -- 14: element i of rank r has the sup x, which exists one rank higher and does not list it back
-  named_sup_not_back : (r i x : ℕ) → FirstAt L 0 (IncidentAt L) r i → LowerAt L r i → FirstIn (SupBack L r i) x (sups L r i)
-      → x < count L (r + 1) → ¬ In i (subs L (r + 1) x) → Named h L (refusal sup_not_back r i x 0)
+  named_sup_not_back : (r i x : ℕ) → FirstAt L 0 (IncidentAt L) r i → LowerAt L r i
+      → FirstIn (SupBack L r i) x (sups L r i) → x < count L (r + 1) → ¬ In i (subs L (r + 1) x)
+      → Named h L (refusal sup_not_back r i x 0)
   -- 15: element i of rank r has the sub x, and there is none such one rank lower; at rank 0 there is never one
   named_sub_missing : (r i x : ℕ) → FirstAt L 0 (IncidentAt L) r i → FirstIn (SubBack L r i) x (subs L r i)
       → (0 < r → count L (r - 1) ≤ x) → Named h L (refusal sub_missing r i x 0)
   -- 16: element i of rank r has the sup x, and there is none such one rank higher
-  named_sup_missing : (r i x : ℕ) → FirstAt L 0 (IncidentAt L) r i → LowerAt L r i → FirstIn (SupBack L r i) x (sups L r i)
-      → count L (r + 1) ≤ x → Named h L (refusal sup_missing r i x 0)
+  named_sup_missing : (r i x : ℕ) → FirstAt L 0 (IncidentAt L) r i → LowerAt L r i
+      → FirstIn (SupBack L r i) x (sups L r i) → count L (r + 1) ≤ x → Named h L (refusal sup_missing r i x 0)
   -- 17: all incidences being kept, element x, two ranks under element i of rank r, is met a third time among the subs
   -- of that one's subs
   named_third_between : (r i x : ℕ) → Incident L → FirstAt L 2 (MetTwiceAt L) r i → r ≤ h → x < count L (r - 2)

@@ -9,16 +9,16 @@
 use Rattle.std.specs.Prelude.{◌≡◌, ◌≢◌, ◌↔◌, List, ℕ, ◌≤◌}
 use Rattle.listing.specs.Answers.{fine}
 use Rattle.listing.specs.Listing.{Listing, limits, rank}
-use Rattle.valid.proofs.closed.Reads as closed
 use Rattle.flag_change.specs.Flags.{IsFlag}
 use Rattle.search_masks.specs.Masks.{every_rank}
 use Rattle.search.specs.declared.Searched.{Searched}
 use Rattle.search.specs.Promised.{room_in}
-use Rattle.search.proofs.search.Reads as search
 use Rattle.body_theory.specs.First.{sups_flag}
 use Rattle.body.specs.Exact.{BodyExact}
 use Rattle.body.specs.Promised.{BodyPromised}
-use Rattle.body.proofs.one_body.Reads as one_body
+use Rattle.flumedrac.proofs.fd_closed.Reads as closed
+use Rattle.flumedrac.proofs.fd_search.Reads as search
+use Rattle.flumedrac.proofs.fd_one_body.Reads as one_body
 use Rattle.promises.specs.Entries.{Takes, Says, SaysOfTwo, OneOutcome, lent, flag, asked, tables, body_tables}
 use Rattle.promises.specs.Named.{Named}
 

@@ -1,16 +1,23 @@
--- What is promised of the functions for C: what the contract of an fd_ function admits, that of its entry admits too,
--- for the same arguments, so that all that is promised of the entry holds of it. Four of them cross as numbers: the
--- class, the sign, the volume, the next event. The last is said of `SaidStep` and `Stepped`, of which the two contracts
--- consist: they are lent a record, a form of which the prover makes no reading (proofs/Cursor.antt).
+-- What is promised of the entries, while the other families speak of the functions for C: what the contract of an fd_
+-- function admits, that of its entry admits too, for the same arguments gathered into structs and with the same answer
+-- as a result, and the other way. So all that is promised of the fd_ function holds of its entry, as what that answers
+-- is told. Three of them cross as numbers: the class, the sign, the next event. The last is said of `SaidStep` and
+-- `Stepped`, of which the two contracts consist: they are lent a record, a form of which the prover makes no reading
+-- (proofs/Cursor.antt).
 --
 -- BoundaryTaken   any slices and numbers are taken
 -- Boundary        each fd_ function answers and writes as its entry does
+-- BoundaryBack    and each entry as its fd_ function does
 -- BoundaryOnce    no second answer fits
-use Rattle.std.specs.Prelude.{◌≡◌, ℕ}
+use Rattle.std.specs.Prelude.{◌≡◌, ℕ, Option}
 use Rattle.listing.specs.Refusals.{band_no}
+use Rattle.listing.specs.Told.{told, told_number, told_built}
 use Rattle.search_events.specs.declared.Event.{Event}
 use Rattle.search_events.specs.declared.Said.{Said}
 use Rattle.flag.specs.Orientations.{of_byte}
+use Rattle.flag.specs.Changed.{told_changed}
+use Rattle.search.specs.SearchedBy.{told_searched}
+use Rattle.text.specs.WrittenTexts.{told_written}
 use Rattle.search_events.specs.Events.{said_of, Stepped, SaidStep}
 use Rattle.listing_shape.proofs.class.Reads as class
 use Rattle.listing_shape.proofs.rank.Reads as rank
@@ -27,7 +34,7 @@ use Rattle.flag.proofs.Orientation.sign.Reads as sign
 use Rattle.search.proofs.search.Reads as search
 use Rattle.body.proofs.one_body.Reads as one_body
 use Rattle.dual.proofs.dual.Reads as dual
-use Rattle.volume.specs.Volumes.{measured_of}
+use Rattle.volume.specs.Volumes.{told_volume}
 use Rattle.volume.proofs.six_volume.Reads as six_volume
 use Rattle.product.proofs.duopyramid.Reads as duopyramid
 use Rattle.product.proofs.duoprism.Reads as duoprism
@@ -59,82 +66,109 @@ use Rattle.flumedrac.proofs.fd_duocomb.Reads as fd_duocomb
 use Rattle.flumedrac.proofs.fd_read_text.Reads as fd_read_text
 use Rattle.flumedrac.proofs.fd_check_text.Reads as fd_check_text
 use Rattle.flumedrac.proofs.fd_write_text.Reads as fd_write_text
-use Rattle.promises.specs.Entries.{Takes, SaysOfTwo, PassesOn, PassesAs, OneAnswer, OneOutcome}
+use Rattle.promises.specs.Entries.{Takes, SaysOfTwo, PassesOn, Told, Gathered, GatheredTwo}
+use Rattle.promises.specs.Entries.{OneAnswer, OneOutcome}
 use Rattle.promises.specs.Entries.{outputs, turned_into, tables, body_tables, read_into, written_into}
 
 pub record BoundaryTaken : Type 0 where
   -- counts, classes and tests
-  pub tests : Takes fd_rank.Asked × Takes fd_el_count.Asked × Takes fd_vertex_count.Asked × Takes fd_facet_count.Asked
-      × Takes fd_class.Asked × Takes fd_bounded.Asked × Takes fd_check_incidences.Asked × Takes fd_is_dyadic.Asked
-      × Takes fd_is_valid.Asked × Takes fd_closed.Asked
+  pub tests : Takes rank.Asked × Takes el_count.Asked × Takes vertex_count.Asked × Takes facet_count.Asked
+      × Takes fd_class.Asked × Takes bounded.Asked × Takes check_incidences.Asked × Takes is_dyadic.Asked
+      × Takes is_valid.Asked × Takes closed.Asked
   -- products
-  pub products : Takes fd_duopyramid.Asked × Takes fd_duoprism.Asked × Takes fd_duotegum.Asked × Takes fd_duocomb.Asked
+  pub products : Takes duopyramid.Asked × Takes duoprism.Asked × Takes duotegum.Asked × Takes duocomb.Asked
   -- texts
-  pub texts : Takes fd_read_text.Asked × Takes fd_check_text.Asked × Takes fd_write_text.Asked
-  -- flags; of fd_next_event it stands in proofs/Cursor.antt
-  pub flags : Takes fd_change.Asked × Takes fd_sign.Asked × Takes fd_search.Asked
+  pub texts : Takes read_text.Asked × Takes check_text.Asked × Takes write_text.Asked
+  -- flags; of next_event and fd_next_event it stands in proofs/Cursor.antt
+  pub flags : Takes change.Asked × Takes fd_sign.Asked × Takes search.Asked
   -- the test for one body
-  pub bodies : Takes fd_one_body.Asked
+  pub bodies : Takes one_body.Asked
   -- duals
-  pub duals : Takes fd_dual.Asked
+  pub duals : Takes dual.Asked
   -- volumes
-  pub volumes : Takes fd_six_volume.Asked
+  pub volumes : Takes six_volume.Asked
 
 pub record Boundary : Type 0 where
-  pub rank_passes : PassesOn fd_rank.Post rank.Post
-  pub el_count_passes : PassesOn fd_el_count.Post el_count.Post
-  pub vertex_count_passes : PassesOn fd_vertex_count.Post vertex_count.Post
-  pub facet_count_passes : PassesOn fd_facet_count.Post facet_count.Post
-  pub bounded_passes : PassesOn fd_bounded.Post bounded.Post
-  pub check_incidences_passes : PassesOn fd_check_incidences.Post check_incidences.Post
-  pub is_dyadic_passes : PassesOn fd_is_dyadic.Post is_dyadic.Post
-  pub is_valid_passes : PassesOn fd_is_valid.Post is_valid.Post
-  pub closed_passes : PassesOn fd_closed.Post closed.Post
-  pub change_passes : PassesOn fd_change.Post change.Post
-  pub search_passes : PassesOn fd_search.Post search.Post
-  pub one_body_passes : PassesOn fd_one_body.Post one_body.Post
-  pub dual_passes : PassesOn fd_dual.Post dual.Post
-  pub duopyramid_passes : PassesOn fd_duopyramid.Post duopyramid.Post
-  pub duoprism_passes : PassesOn fd_duoprism.Post duoprism.Post
-  pub duotegum_passes : PassesOn fd_duotegum.Post duotegum.Post
-  pub duocomb_passes : PassesOn fd_duocomb.Post duocomb.Post
-  pub read_text_passes : PassesOn fd_read_text.Post read_text.Post
-  pub check_text_passes : PassesOn fd_check_text.Post check_text.Post
-  pub write_text_passes : PassesOn fd_write_text.Post write_text.Post
+  pub rank_passes : PassesOn fd_rank.Post (Told told_number rank.Post)
+  pub el_count_passes : PassesOn fd_el_count.Post (Told told_number el_count.Post)
+  pub vertex_count_passes : PassesOn fd_vertex_count.Post (Told told_number vertex_count.Post)
+  pub facet_count_passes : PassesOn fd_facet_count.Post (Told told_number facet_count.Post)
+  pub bounded_passes : PassesOn fd_bounded.Post (Gathered told bounded.Post)
+  pub check_incidences_passes : PassesOn fd_check_incidences.Post (Gathered told check_incidences.Post)
+  pub is_dyadic_passes : PassesOn fd_is_dyadic.Post (Gathered told is_dyadic.Post)
+  pub is_valid_passes : PassesOn fd_is_valid.Post (Gathered told is_valid.Post)
+  pub closed_passes : PassesOn fd_closed.Post (Gathered told closed.Post)
+  pub change_passes : PassesOn fd_change.Post (Gathered told_changed change.Post)
+  pub search_passes : PassesOn fd_search.Post (Gathered told_searched search.Post)
+  pub one_body_passes : PassesOn fd_one_body.Post (Gathered told_searched one_body.Post)
+  pub dual_passes : PassesOn fd_dual.Post (Gathered told_built dual.Post)
+  pub duopyramid_passes : PassesOn fd_duopyramid.Post (GatheredTwo told_built duopyramid.Post)
+  pub duoprism_passes : PassesOn fd_duoprism.Post (GatheredTwo told_built duoprism.Post)
+  pub duotegum_passes : PassesOn fd_duotegum.Post (GatheredTwo told_built duotegum.Post)
+  pub duocomb_passes : PassesOn fd_duocomb.Post (GatheredTwo told_built duocomb.Post)
+  pub read_text_passes : PassesOn fd_read_text.Post (Told told_built read_text.Post)
+  pub check_text_passes : PassesOn fd_check_text.Post (Told (λ d. (told d).no) check_text.Post)
+  pub write_text_passes : PassesOn fd_write_text.Post (Gathered told_written write_text.Post)
   -- the number of the class
   pub class_passes : SaysOfTwo fd_class.Post class.Post (λ a r x c b y. a.0 ≡ c.0 → r ≡ band_no b)
   -- the sign of the orientation that the byte stands for
   pub sign_passes : SaysOfTwo fd_sign.Post sign.Post (λ a r x c s y. of_byte a.0 ≡ c.0 → r ≡ s)
-  -- the volume, in numbers
-  pub six_volume_passes : PassesAs measured_of fd_six_volume.Post six_volume.Post
+  pub six_volume_passes : PassesOn fd_six_volume.Post (Gathered told_volume six_volume.Post)
   -- the next event, in numbers
   pub next_event_passes : (at count place at' : ℕ) (s : Said) → SaidStep at count place at' s
-      → (e : Event) × Stepped at count place at' e × (s ≡ said_of e)
+      → (e : Option Event) × Stepped at count place at' e × (s ≡ said_of e)
+
+pub record BoundaryBack : Type 0 where
+  pub rank_back : PassesOn (Told told_number rank.Post) fd_rank.Post
+  pub el_count_back : PassesOn (Told told_number el_count.Post) fd_el_count.Post
+  pub vertex_count_back : PassesOn (Told told_number vertex_count.Post) fd_vertex_count.Post
+  pub facet_count_back : PassesOn (Told told_number facet_count.Post) fd_facet_count.Post
+  pub bounded_back : PassesOn (Gathered told bounded.Post) fd_bounded.Post
+  pub check_incidences_back : PassesOn (Gathered told check_incidences.Post) fd_check_incidences.Post
+  pub is_dyadic_back : PassesOn (Gathered told is_dyadic.Post) fd_is_dyadic.Post
+  pub is_valid_back : PassesOn (Gathered told is_valid.Post) fd_is_valid.Post
+  pub closed_back : PassesOn (Gathered told closed.Post) fd_closed.Post
+  pub change_back : PassesOn (Gathered told_changed change.Post) fd_change.Post
+  pub search_back : PassesOn (Gathered told_searched search.Post) fd_search.Post
+  pub one_body_back : PassesOn (Gathered told_searched one_body.Post) fd_one_body.Post
+  pub dual_back : PassesOn (Gathered told_built dual.Post) fd_dual.Post
+  pub duopyramid_back : PassesOn (GatheredTwo told_built duopyramid.Post) fd_duopyramid.Post
+  pub duoprism_back : PassesOn (GatheredTwo told_built duoprism.Post) fd_duoprism.Post
+  pub duotegum_back : PassesOn (GatheredTwo told_built duotegum.Post) fd_duotegum.Post
+  pub duocomb_back : PassesOn (GatheredTwo told_built duocomb.Post) fd_duocomb.Post
+  pub read_text_back : PassesOn (Told told_built read_text.Post) fd_read_text.Post
+  pub check_text_back : PassesOn (Told (λ d. (told d).no) check_text.Post) fd_check_text.Post
+  pub write_text_back : PassesOn (Gathered told_written write_text.Post) fd_write_text.Post
+  -- the class and the sign are said of both in Boundary
+  pub six_volume_back : PassesOn (Gathered told_volume six_volume.Post) fd_six_volume.Post
+  -- the next event, in numbers
+  pub next_event_back : (at count place at' : ℕ) (e : Option Event) → Stepped at count place at' e
+      → SaidStep at count place at' (said_of e)
 
 pub record BoundaryOnce : Type 0 where
-  pub one_fd_rank : OneAnswer fd_rank.Post
-  pub one_fd_el_count : OneAnswer fd_el_count.Post
-  pub one_fd_vertex_count : OneAnswer fd_vertex_count.Post
-  pub one_fd_facet_count : OneAnswer fd_facet_count.Post
+  pub one_rank : OneAnswer (Told told_number rank.Post)
+  pub one_el_count : OneAnswer (Told told_number el_count.Post)
+  pub one_vertex_count : OneAnswer (Told told_number vertex_count.Post)
+  pub one_facet_count : OneAnswer (Told told_number facet_count.Post)
   pub one_fd_class : OneAnswer fd_class.Post
-  pub one_fd_bounded : OneAnswer fd_bounded.Post
-  pub one_fd_check_incidences : OneAnswer fd_check_incidences.Post
-  pub one_fd_is_dyadic : OneAnswer fd_is_dyadic.Post
-  pub one_fd_is_valid : OneAnswer fd_is_valid.Post
-  pub one_fd_closed : OneAnswer fd_closed.Post
-  pub one_fd_change : OneAnswer fd_change.Post
+  pub one_bounded : OneAnswer (Gathered told bounded.Post)
+  pub one_check_incidences : OneAnswer (Gathered told check_incidences.Post)
+  pub one_is_dyadic : OneAnswer (Gathered told is_dyadic.Post)
+  pub one_is_valid : OneAnswer (Gathered told is_valid.Post)
+  pub one_closed : OneAnswer (Gathered told closed.Post)
+  pub one_change : OneAnswer (Gathered told_changed change.Post)
   pub one_fd_sign : OneAnswer fd_sign.Post
-  pub one_fd_search : OneOutcome fd_search.Post tables
-  pub one_fd_one_body : OneOutcome fd_one_body.Post body_tables
-  pub one_fd_dual : OneOutcome fd_dual.Post turned_into
-  pub one_fd_six_volume : OneOutcome fd_six_volume.Post tables
-  pub one_fd_duopyramid : OneOutcome fd_duopyramid.Post outputs
-  pub one_fd_duoprism : OneOutcome fd_duoprism.Post outputs
-  pub one_fd_duotegum : OneOutcome fd_duotegum.Post outputs
-  pub one_fd_duocomb : OneOutcome fd_duocomb.Post outputs
-  pub one_fd_read_text : OneOutcome fd_read_text.Post read_into
-  pub one_fd_check_text : OneAnswer fd_check_text.Post
-  pub one_fd_write_text : OneOutcome fd_write_text.Post written_into
+  pub one_search : OneOutcome (Gathered told_searched search.Post) tables
+  pub one_one_body : OneOutcome (Gathered told_searched one_body.Post) body_tables
+  pub one_dual : OneOutcome (Gathered told_built dual.Post) turned_into
+  pub one_six_volume : OneOutcome (Gathered told_volume six_volume.Post) tables
+  pub one_duopyramid : OneOutcome (GatheredTwo told_built duopyramid.Post) outputs
+  pub one_duoprism : OneOutcome (GatheredTwo told_built duoprism.Post) outputs
+  pub one_duotegum : OneOutcome (GatheredTwo told_built duotegum.Post) outputs
+  pub one_duocomb : OneOutcome (GatheredTwo told_built duocomb.Post) outputs
+  pub one_read_text : OneOutcome (Told told_built read_text.Post) read_into
+  pub one_check_text : OneAnswer (Told (λ d. (told d).no) check_text.Post)
+  pub one_write_text : OneOutcome (Gathered told_written write_text.Post) written_into
   -- the event cursor, by what its contract cites
   pub one_fd_next_event : (at count place c d : ℕ) (e f : Said) → SaidStep at count place c e
       → SaidStep at count place d f → (e ≡ f) × (c ≡ d)

@@ -20,16 +20,16 @@ use Rattle.listing.specs.Shape.{Shaped}
 use Rattle.listing.specs.Rules.{FirstBroken}
 use Rattle.listing_outputs.specs.Output.{Fits, prefix, Untouched, Wrote}
 use Rattle.valid.specs.Closed.{Closed}
-use Rattle.valid.proofs.closed.Reads as closed
 use Rattle.body_theory.specs.Pieces.{OneBody}
 use Rattle.dual_theory.specs.Dual.{Dual, dual_of}
 use Rattle.dual_theory.specs.TurnedOver.{TurnedOver}
 use Rattle.dual.specs.Rules.{dual_rules}
-use Rattle.dual.proofs.dual.Reads as dual
-use Rattle.product.proofs.duopyramid.Reads as duopyramid
-use Rattle.product.proofs.duoprism.Reads as duoprism
-use Rattle.product.proofs.duotegum.Reads as duotegum
-use Rattle.product.proofs.duocomb.Reads as duocomb
+use Rattle.flumedrac.proofs.fd_closed.Reads as closed
+use Rattle.flumedrac.proofs.fd_dual.Reads as dual
+use Rattle.flumedrac.proofs.fd_duopyramid.Reads as duopyramid
+use Rattle.flumedrac.proofs.fd_duoprism.Reads as duoprism
+use Rattle.flumedrac.proofs.fd_duotegum.Reads as duotegum
+use Rattle.flumedrac.proofs.fd_duocomb.Reads as duocomb
 use Rattle.promises.specs.Entries.{Takes, Says, SaysOfTwo, Call, OneOutcome, Three, ThreeWritten, lent, right, outputs}
 use Rattle.promises.specs.Entries.{turned_into}
 
@@ -40,7 +40,8 @@ module _ {K A X : Type 0} {P : K → A → Built → Three (Three (ThreeWritten 
   abbrev pub built_by : Call P → Listing
   built_by c = prefix (outputs c.exit) c.answer
 
-module _ {K L A C X Y : Type 0} {P : K → Three (Three (ThreeWritten A)) → Built → Three (Three (ThreeWritten X)) → Type 0}
+module _ {K L A C X Y : Type 0}
+    {P : K → Three (Three (ThreeWritten A)) → Built → Three (Three (ThreeWritten X)) → Type 0}
     {Q : L → Three (Three (ThreeWritten C)) → Built → Three (Three (ThreeWritten Y)) → Type 0} where
   pub record BothSides (p : Call P) (d a b : Call dual.Post) (q : Call Q) : Type 0 where
     pub built : p.answer.answer.no ≡ 0

@@ -12,14 +12,15 @@
 -- FlagsNamed    what each refusal says
 -- FlagsAnswer   what changes, searches, orientations and events are
 -- FlagsOnce     no second answer fits
-use Rattle.std.specs.Prelude.{◌≡◌, ◌≢◌, ◌↔◌, List, [], ◌∷◌, ◌++◌, map, ℕ, ◌+◌, ◌-◌, ◌≤◌, pos, neg_ℤ, Float, length, get_or, take, replicate}
+use Rattle.std.specs.Prelude.{Option, Some, None}
+use Rattle.std.specs.Prelude.{◌≡◌, ◌≢◌, ◌↔◌, List, [], ◌∷◌, ◌++◌, map, ℕ, ◌+◌, ◌-◌, ◌≤◌}
+use Rattle.std.specs.Prelude.{pos, neg_ℤ, Float, length, get_or, take, replicate}
 use Rattle.std.specs.Float.{binary64}
 use Rattle.std.specs.Float.Ieee.{of_int}
 use Rattle.order.specs.Diamond.{TheTwo}
 use Rattle.listing.specs.Answers.{fine}
 use Rattle.listing.specs.Listing.{Listing, limits, rank}
 use Rattle.listing.specs.Rules.{FirstBroken}
-use Rattle.valid.proofs.closed.Reads as closed
 use Rattle.flag_change.specs.Change.{Changes, Replaces, HasUnder, change_at, padded}
 use Rattle.flag.specs.Orientations.{byte_of}
 use Rattle.flag.specs.Rules.{change_rules}
@@ -27,20 +28,20 @@ use Rattle.search.specs.declared.Searched.{Searched}
 use Rattle.search.specs.Exact.{Holds, Finds}
 use Rattle.search.specs.Promised.{Promised}
 use Rattle.search_events.specs.declared.Event.{Event}
-use Rattle.search_events.specs.declared.Event.TheVariants.{Nothing}
 use Rattle.search_events.specs.declared.Said.{Said}
 use Rattle.search_events.specs.Events.{events, events_of, said_of, Stepped, SaidStep}
-use Rattle.flag.proofs.change.Reads as change
 use Rattle.flag.proofs.Orientation.flip.Reads as flip
 use Rattle.flag.proofs.Orientation.sign.Reads as sign
-use Rattle.flag.proofs.Orientation.byte.Reads as byte
-use Rattle.flag.proofs.Orientation.of_byte.Reads as of_byte
-use Rattle.search.proofs.search.Reads as search
+use Rattle.flag.proofs.U8FromOrientation.from.Reads as byte
+use Rattle.flag.proofs.OrientationFromU8.from.Reads as of_byte
 use Rattle.search_events.proofs.is_marked.Reads as is_marked
 use Rattle.search_events.proofs.event_at.Reads as event_at
 use Rattle.search_events.proofs.events_in.Reads as events_in
 use Rattle.search_events.proofs.next_at.Reads as next_at
 use Rattle.search_events.proofs.numbers.Reads as numbers
+use Rattle.flumedrac.proofs.fd_closed.Reads as closed
+use Rattle.flumedrac.proofs.fd_change.Reads as change
+use Rattle.flumedrac.proofs.fd_search.Reads as search
 use Rattle.promises.specs.Entries.{Takes, Says, SaysOfTwo, OneAnswer, OneOutcome, lent, flag, asked, tables}
 use Rattle.promises.specs.Named.{Named}
 
@@ -124,19 +125,19 @@ pub record FlagsAnswer : Type 0 where
   pub of_byte_by_byte : Says of_byte.Post (λ a r x. ByteFor a.0 (byte_of r))
   -- an event is told by two numbers: kind 0 nothing, 1 a flag, with its number, 2 not orientable
   pub event_by_numbers : Says numbers.Post (λ a r x. r ≡ said_of a.0)
-  -- a new cursor says the flags in order, NonOrientable after the first `place` of them, and Nothing from then on
-  pub events_in_order : (count place n : ℕ) (l : List Event) → length l ≡ events count place + n
-      → Calls (λ at at' e. Stepped at count place at' e) 0 l → l ≡ events_of count place ++ replicate n Nothing
+  -- a new cursor says the flags in order, NonOrientable after the first `place` of them, and None from then on
+  pub events_in_order : (count place n : ℕ) (l : List (Option Event)) → length l ≡ events count place + n
+      → Calls (λ at at' e. Stepped at count place at' e) 0 l → l ≡ map Some (events_of count place) ++ replicate n None
   -- so in numbers
   pub said_in_order : (count place n : ℕ) (l : List Said) → length l ≡ events count place + n
       → Calls (λ at at' s. SaidStep at count place at' s) 0 l
-      → l ≡ map said_of (events_of count place ++ replicate n Nothing)
-  -- at any place at or past the end of the events a cursor says Nothing and stays
-  pub nothing_past_the_last : (count place at at' : ℕ) (e : Event) → events count place ≤ at
-      → Stepped at count place at' e → (e ≡ Nothing) × (at' ≡ at)
+      → l ≡ map said_of (map Some (events_of count place) ++ replicate n None)
+  -- at any place at or past the end of the events a cursor says None and stays
+  pub nothing_past_the_last : (count place at at' : ℕ) (e : Option Event) → events count place ≤ at
+      → Stepped at count place at' e → (e ≡ None) × (at' ≡ at)
   -- so in numbers
   pub nothing_said_past_the_last : (count place at at' : ℕ) (s : Said) → events count place ≤ at
-      → SaidStep at count place at' s → (s ≡ said_of Nothing) × (at' ≡ at)
+      → SaidStep at count place at' s → (s ≡ said_of None) × (at' ≡ at)
 
 pub record FlagsOnce : Type 0 where
   pub one_change : OneAnswer change.Post
@@ -155,5 +156,5 @@ pub record FlagsOnce : Type 0 where
   pub one_next_at : OneAnswer next_at.Post
   pub one_numbers : OneAnswer numbers.Post
   -- the event cursor, by what its contract cites
-  pub one_next_event : (at count place c d : ℕ) (e f : Event) → Stepped at count place c e
+  pub one_next_event : (at count place c d : ℕ) (e f : Option Event) → Stepped at count place c e
       → Stepped at count place d f → (e ≡ f) × (c ≡ d)

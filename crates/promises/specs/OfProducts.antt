@@ -14,13 +14,15 @@
 use Rattle.std.specs.Prelude.{◌≡◌, Bool, true, false}
 use Rattle.listing.specs.declared.Built.{Built}
 use Rattle.listing.specs.Answers.{plain}
+use Rattle.listing.specs.Told.{told_built}
 use Rattle.listing_outputs.specs.Output.{prefix}
-use Rattle.product.proofs.duopyramid.Reads as duopyramid
-use Rattle.product.proofs.duoprism.Reads as duoprism
-use Rattle.product.proofs.duotegum.Reads as duotegum
-use Rattle.product.proofs.duocomb.Reads as duocomb
 use Rattle.product.proofs.make.make.Reads as make
-use Rattle.promises.specs.Entries.{Takes, Says, SaysOfTwo, OneOutcome, Three, ThreeWritten, lent, right, outputs}
+use Rattle.flumedrac.proofs.fd_duopyramid.Reads as duopyramid
+use Rattle.flumedrac.proofs.fd_duoprism.Reads as duoprism
+use Rattle.flumedrac.proofs.fd_duotegum.Reads as duotegum
+use Rattle.flumedrac.proofs.fd_duocomb.Reads as duocomb
+use Rattle.promises.specs.Entries.{Takes, Says, SaysOfTwo, OneOutcome, ByPoles, Three, ThreeWritten}
+use Rattle.promises.specs.Entries.{lent, right, outputs}
 use Rattle.promises.specs.Products.{Produces, Kept, Exchange}
 
 module _ {K A X : Type 0} where
@@ -85,4 +87,5 @@ pub record ProductsOnce : Type 0 where
   pub one_duoprism : OneOutcome duoprism.Post outputs
   pub one_duotegum : OneOutcome duotegum.Post outputs
   pub one_duocomb : OneOutcome duocomb.Post outputs
-  pub one_make : OneOutcome make.Post (λ x. outputs x.1.1)
+  -- of what they all call, whichever product it is
+  pub one_make : (min max : Bool) → OneOutcome (ByPoles min max told_built make.Post) outputs

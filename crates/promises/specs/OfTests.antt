@@ -16,6 +16,7 @@ use Rattle.listing.specs.declared.Answer.{Answer}
 use Rattle.listing.specs.declared.Number.{Number}
 use Rattle.listing.specs.Refusals.{band_no}
 use Rattle.listing.specs.Answers.{fine}
+use Rattle.listing.specs.Told.{told}
 use Rattle.listing.specs.Listing.{Listing, Limits, limits, rank}
 use Rattle.listing.specs.Shape.{Shaped}
 use Rattle.listing.specs.Rules.{Rule, FirstBroken, shape_rules}
@@ -27,17 +28,17 @@ use Rattle.valid.specs.Closed.{Closed}
 use Rattle.valid.specs.Rules.{bounded_rules, incident_rules, dyadic_rules, valid_rules, closed_rules}
 use Rattle.listing_shape.proofs.class.Reads as class
 use Rattle.listing_shape.proofs.band_number.Reads as band_number
-use Rattle.listing_shape.proofs.rank.Reads as rank_count
-use Rattle.listing_shape.proofs.el_count.Reads as el_count
-use Rattle.listing_shape.proofs.vertex_count.Reads as vertex_count
-use Rattle.listing_shape.proofs.facet_count.Reads as facet_count
 use Rattle.listing_shape.proofs.shape.Reads as shape
-use Rattle.valid.proofs.bounded.Reads as bounded
-use Rattle.valid.proofs.check_incidences.Reads as check_incidences
-use Rattle.valid.proofs.is_dyadic.Reads as is_dyadic
-use Rattle.valid.proofs.is_valid.Reads as is_valid
-use Rattle.valid.proofs.closed.Reads as closed
-use Rattle.promises.specs.Entries.{Takes, Says, OneAnswer, Slice, Three, lent}
+use Rattle.flumedrac.proofs.fd_rank.Reads as rank_count
+use Rattle.flumedrac.proofs.fd_el_count.Reads as el_count
+use Rattle.flumedrac.proofs.fd_vertex_count.Reads as vertex_count
+use Rattle.flumedrac.proofs.fd_facet_count.Reads as facet_count
+use Rattle.flumedrac.proofs.fd_bounded.Reads as bounded
+use Rattle.flumedrac.proofs.fd_check_incidences.Reads as check_incidences
+use Rattle.flumedrac.proofs.fd_is_dyadic.Reads as is_dyadic
+use Rattle.flumedrac.proofs.fd_is_valid.Reads as is_valid
+use Rattle.flumedrac.proofs.fd_closed.Reads as closed
+use Rattle.promises.specs.Entries.{Takes, Says, OneAnswer, Gathered, Slice, Three, lent}
 use Rattle.promises.specs.Named.{Named, BetweenNamed}
 
 pub record ClassOf (n c : ℕ) : Type 0 where
@@ -85,7 +86,7 @@ pub record TestsRefuse : Type 0 where
   -- a class is told by that number
   pub class_by_number : Says band_number.Post (λ a r x. r ≡ band_no a.0)
   -- the shape test refuses in the order 1 to 6
-  pub shape_refuses : Refuses shape.Post shape_rules
+  pub shape_refuses : Refuses (Gathered told shape.Post) shape_rules
   -- bounded refuses as the shape test does, then with 10
   pub bounded_refuses : Refuses bounded.Post bounded_rules
   -- check_incidences refuses as the shape test does, then with 11 to 16
@@ -97,12 +98,12 @@ pub record TestsRefuse : Type 0 where
   -- closed refuses as bounded does, then with 11 to 16, then with 19, then with 17 and 18 up to the top
   pub closed_refuses : Refuses closed.Post closed_rules
   -- a test that accepts answers nothing but 0s
-  pub accepted_fine : Accepts shape.Post × Accepts bounded.Post × Accepts check_incidences.Post
+  pub accepted_fine : Accepts (Gathered told shape.Post) × Accepts bounded.Post × Accepts check_incidences.Post
       × Accepts is_dyadic.Post × Accepts is_valid.Post × Accepts closed.Post
 
 pub record TestsNamed : Type 0 where
   -- the shape test: what it refuses with carries nothing
-  pub shape_names : Names shape.Post (λ L. 0)
+  pub shape_names : Names (Gathered told shape.Post) (λ L. 0)
   -- bounded: what it refuses with is true of the listing
   pub bounded_names : Names bounded.Post (λ L. 0)
   -- so with check_incidences
@@ -153,7 +154,7 @@ pub record TestsOnce : Type 0 where
   pub one_el_count : OneAnswer el_count.Post
   pub one_vertex_count : OneAnswer vertex_count.Post
   pub one_facet_count : OneAnswer facet_count.Post
-  pub one_shape : OneAnswer shape.Post
+  pub one_shape : OneAnswer (Gathered told shape.Post)
   pub one_bounded : OneAnswer bounded.Post
   pub one_check_incidences : OneAnswer check_incidences.Post
   pub one_is_dyadic : OneAnswer is_dyadic.Post

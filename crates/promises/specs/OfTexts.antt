@@ -19,14 +19,14 @@ use Rattle.listing.specs.Rules.{FirstBroken}
 use Rattle.listing_outputs.specs.Output.{Fits, prefix, Untouched, Wrote}
 use Rattle.valid.specs.Closed.{Closed}
 use Rattle.valid.specs.Derived.{Derived}
-use Rattle.valid.proofs.closed.Reads as closed
 use Rattle.text_theory.specs.Text.{text_of}
 use Rattle.text_theory.specs.Said.{bound_of}
 use Rattle.text_theory.specs.Places.{FirstPlace, Readable, cut_at}
 use Rattle.text.specs.Rules.{read_rules, check_rules, write_rules}
-use Rattle.text.proofs.read_text.Reads as read_text
-use Rattle.text.proofs.check_text.Reads as check_text
-use Rattle.text.proofs.write_text.Reads as write_text
+use Rattle.flumedrac.proofs.fd_closed.Reads as closed
+use Rattle.flumedrac.proofs.fd_read_text.Reads as read_text
+use Rattle.flumedrac.proofs.fd_check_text.Reads as check_text
+use Rattle.flumedrac.proofs.fd_write_text.Reads as write_text
 use Rattle.promises.specs.Entries.{Takes, Says, SaysOfTwo, SaysOfThree, OneAnswer, OneOutcome, lent}
 use Rattle.promises.specs.Entries.{lent_text, read_into, written_into}
 use Rattle.promises.specs.OfProducts.{Carries}

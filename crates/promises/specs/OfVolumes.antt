@@ -10,27 +10,26 @@
 use Rattle.std.specs.Prelude.{◌≡◌, ◌≢◌, List, ℕ, ◌≤◌, ◌<◌, Float}
 use Rattle.listing.specs.Refusals.{not_rank_four}
 use Rattle.listing.specs.Listing.{Listing, limits, rank}
-use Rattle.valid.proofs.closed.Reads as closed
 use Rattle.flag_change.specs.Change.{change_at}
 use Rattle.search_masks.specs.Masks.{every_rank}
-use Rattle.search.proofs.search.Reads as search
 use Rattle.volume_metres.specs.Points.{Site}
 use Rattle.volume_theory.specs.Six.{cell_rank, Shifted}
-use Rattle.volume.specs.declared.Volume.{Volume}
-use Rattle.volume.specs.Volumes.{number_of, six_fold}
+use Rattle.volume.specs.declared.Measured.{Measured}
+use Rattle.volume.specs.Volumes.{refused_with}
 use Rattle.volume.specs.Promised.{VolumePromised, Negated}
-use Rattle.volume.proofs.six_volume.Reads as six_volume
-use Rattle.volume.proofs.numbers.Reads as numbers
-use Rattle.promises.specs.Entries.{Takes, Says, SaysOfTwo, OneAnswer, OneOutcome}
+use Rattle.flumedrac.proofs.fd_closed.Reads as closed
+use Rattle.flumedrac.proofs.fd_search.Reads as search
+use Rattle.flumedrac.proofs.fd_six_volume.Reads as six_volume
+use Rattle.promises.specs.Entries.{Takes, Says, SaysOfTwo, OneOutcome}
 use Rattle.promises.specs.Entries.{lent, flag, asked, metres, tables}
 
-abbrev pub VolumeSays : (Listing → List ℕ → List Float → List ℕ → List ℕ → Volume → List ℕ → List ℕ → Type 0) → Type 0
+abbrev pub VolumeSays : (Listing → List ℕ → List Float → List ℕ → List ℕ → Measured → List ℕ → List ℕ → Type 0)
+    → Type 0
 VolumeSays Q = Says six_volume.Post
     (λ a r x. Q (lent a) (flag a) (metres a) (tables a).0 (tables a).1 r (tables x).0 (tables x).1)
 
 pub record VolumesTaken : Type 0 where
   pub six_volume : Takes six_volume.Asked
-  pub numbers : Takes numbers.Asked
 
 pub record VolumesRefuse : Type 0 where
   -- it refuses as closed does, then with 20, 22, 50, 51, 52, 53; the search with every change stands in the slices; and
@@ -40,27 +39,26 @@ pub record VolumesRefuse : Type 0 where
 pub record VolumesNamed : Type 0 where
   -- where closed refuses, it has closed's number
   pub six_volume_as_closed : SaysOfTwo closed.Post six_volume.Post
-      (λ a r x c s y. lent c ≡ lent a → r.no ≢ 0 → number_of s ≡ r.no)
+      (λ a r x c s y. lent c ≡ lent a → r.no ≢ 0 → s.no ≡ r.no)
   -- a search of the same listing with every change from the same flag, lent the same slices, leaves the same in them;
   -- its number is the volume's below 50, and from 50 on it was answered
   pub six_volume_as_search : SaysOfTwo six_volume.Post search.Post
       (λ a r x c s y. lent c ≡ lent a → flag c ≡ flag a → asked c ≡ every_rank (rank (lent a))
       → (tables c).0 ≡ (tables a).0 → (tables c).1 ≡ (tables a).1
       → ((tables y).0 ≡ (tables x).0) × ((tables y).1 ≡ (tables x).1)
-      × (number_of r < not_rank_four → number_of r ≡ s.answer.no) × (not_rank_four ≤ number_of r → s.answer.no ≡ 0))
+      × (r.no < not_rank_four → r.no ≡ s.answer.no) × (not_rank_four ≤ r.no → s.answer.no ≡ 0))
 
 pub record VolumesAnswer : Type 0 where
   -- with the first flag changed once, and both answered: negated, and where it is 0 both are the positive zero
   pub six_volume_negated : SaysOfTwo six_volume.Post six_volume.Post
       (λ a r x c s y. (q : ℕ) → 0 < q → q < cell_rank → lent c ≡ lent a → flag c ≡ change_at (lent a) q (flag a)
-      → metres c ≡ metres a → number_of r ≡ 0 → number_of s ≡ 0 → Negated r s)
+      → metres c ≡ metres a → r.no ≡ 0 → s.no ≡ 0 → Negated r s)
   -- with all vertices moved by the same whole metres, and both answered: the same
   pub six_volume_moved : SaysOfTwo six_volume.Post six_volume.Post
       (λ a r x c s y. (t : Site) → lent c ≡ lent a → flag c ≡ flag a → Shifted (lent a) t (metres a) (metres c)
-      → number_of r ≡ 0 → number_of s ≡ 0 → s ≡ r)
+      → r.no ≡ 0 → s.no ≡ 0 → s ≡ r)
   -- an answer is told by two numbers: 0 and the volume, or the refusal's and 0.0
-  pub volume_by_numbers : Says numbers.Post (λ a r x. (r.no ≡ number_of a.0) × (r.six ≡ six_fold a.0))
+  pub volume_by_numbers : Says six_volume.Post (λ a r x. r.no ≢ 0 → r ≡ refused_with r.no)
 
 pub record VolumesOnce : Type 0 where
   pub one_six_volume : OneOutcome six_volume.Post tables
-  pub one_volume_numbers : OneAnswer numbers.Post

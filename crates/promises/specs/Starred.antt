@@ -39,13 +39,15 @@ use Rattle.std.specs.Prelude.{Bool, true, false, List, [], ◌∷◌, ◌++◌, 
 use Prim.Native.Char.{code}
 use Prim.Native.String.{String, [] as none, ◌∷◌ as ◌then◌}
 use Rattle.listing.specs.declared.Answer.{Answer}
-use Rattle.listing.specs.Refusals.{no_ranks, over_ranks, over_elements, not_bounded, sub_not_back, sub_missing, third_between}
+use Rattle.listing.specs.Refusals.{no_ranks, over_ranks, over_elements, not_bounded, sub_not_back, sub_missing}
+use Rattle.listing.specs.Refusals.{third_between}
 use Rattle.listing.specs.Refusals.{lone_between, not_ascending, not_a_flag, outside_ranks, more_flags, several_parts}
 use Rattle.listing.specs.Refusals.{comb_of_point, output_short, wrong_key, bad_line, more_bytes, bytes_short}
 use Rattle.listing.specs.Answers.{refusal, plain, fine}
 use Rattle.listing.specs.Listing.{Listing, listing, limits}
 use Rattle.listing.specs.Layers.{layers}
-use Rattle.listing.specs.Cells.{nullitope, point, dyad, triangle, rankless, two_minimal, three_on_top, one_on_top, struck}
+use Rattle.listing.specs.Cells.{nullitope, point, dyad, triangle, rankless, two_minimal, three_on_top, one_on_top}
+use Rattle.listing.specs.Cells.{struck}
 use Rattle.valid.specs.Tests.{is_valid, closed}
 use Rattle.product_closure.specs.Result.{result_of}
 use Rattle.product.specs.Outcome.{product_test}
