@@ -49,8 +49,8 @@ use Rattle.volume_metres.specs.Formulas.{in_floats}
 use Rattle.volume_theory.specs.Six.{cell_rank, even_flags, six_formula}
 use Rattle.volume_theory.proofs.EvenFlags.{Oriented, even_flag}
 use Rattle.volume_theory.proofs.Exactly.{six_exact}
-use Rattle.volume.specs.Volumes.{measured, refused_with, volume_test, volume_by, volume_table_after}
-use Rattle.volume.specs.Volumes.{volume_bytes_after, told_volume}
+use Rattle.volume.specs.Volumes.{measured, unmeasured, volume_test, volume_by}
+use Rattle.volume.specs.Volumes.{told_volume}
 
 -- ---- the mask
 
@@ -211,66 +211,56 @@ module _ (L : Listing) (first : List ℕ) (xs : List Float) (table bytes : List 
 
 -- what `?` returns is the refusal that it met
 pub volume_err : (result : Result Float Refusal) (d : Refusal) → IsErrAnd result (λ x. x ≡ d)
-    → told_volume result ≡ refused_with (answer_of d).no
+    → told_volume result ≡ unmeasured (answer_of d).no
 volume_err result d h = let p = err_from_is_err_and result h in rw (p.1, p.2) refl
 
-module _ (L : Listing) (first : List ℕ) (table bytes : List ℕ) (mask : ℕ)
-    (M : length L.counts ≤ limits.ranks → mask ≡ every_rank (length L.counts - 1)) (s : Searched) (t b : List ℕ)
-    (V : s ≡ searched_by limits L first mask table bytes) (T : t ≡ table_after limits L first mask table bytes)
-    (B : b ≡ bytes_after limits L first mask table bytes) where
-  ends_every : Ends limits L first (every_rank (rank L)) table bytes s t b
-  ends_every = any_mask L first mask table bytes M (record { answer = V; flags = T; turns = B })
+pub ends_every : (L : Listing) (first : List ℕ) (mask : ℕ) (table bytes : List ℕ) {s : Searched} {t b : List ℕ}
+    → (length L.counts ≤ limits.ranks → mask ≡ every_rank (length L.counts - 1))
+    → s ≡ searched_by limits L first mask table bytes → t ≡ table_after limits L first mask table bytes
+    → b ≡ bytes_after limits L first mask table bytes
+    → Ends limits L first (every_rank (rank L)) table bytes s t b
+ends_every L first mask table bytes M V T B =
+    any_mask L first mask table bytes M (record { answer = V; flags = T; turns = B })
 
-  pub table_left : t ≡ volume_table_after limits L first table bytes
-  table_left = ends_every.flags
+module _ {L : Listing} {first : List ℕ} {table bytes : List ℕ} {s : Searched} {t b : List ℕ}
+    (E : Ends limits L first (every_rank (rank L)) table bytes s t b) (xs : List Float) where
+  -- a test refuses
+  pub test_halts : (d : Refusal) → answer_of d ≡ volume_test L.counts xs s
+      → unmeasured (answer_of d).no ≡ volume_by limits L first xs table bytes
+  unfolding volume_by
+  test_halts d e =
+      let n = rw E.answer at e in
+      rw (← n) (sym (if_not _ (measured _) (unmeasured _) (refuses d)))
 
-  pub bytes_left : b ≡ volume_bytes_after limits L first table bytes
-  bytes_left = ends_every.turns
+  -- the search does
+  pub search_halts : (d : Refusal) → s ≡ refused_as (answer_of d)
+      → unmeasured (answer_of d).no ≡ volume_by limits L first xs table bytes
+  unfolding volume_test
+  search_halts d e = test_halts d (rw e (sym (or_stop (answer_of d) _ (refuses d))))
 
-  module _ (xs : List Float) where
-    -- a test refuses
-    pub test_halts : (d : Refusal) → answer_of d ≡ volume_test L.counts xs s
-        → refused_with (answer_of d).no ≡ volume_by limits L first xs table bytes
+  -- nothing is refused
+  module _ (z : fine ≡ volume_test L.counts xs s) where
+    pub passes : Answered L first xs table bytes
+    passes = answered L first xs table bytes (rw E.answer at (no_of z refl))
+
+    pub is_closed : (closed limits L).no ≡ 0
+    is_closed = (closed_exact limits L).1 passes.searchable.closed
+
+    pub asks : ((s.count * length L.counts ≤ length t) × (s.count ≤ length b)) × AllFlags L t s.count
+    asks = sum_asks L first xs table bytes passes E.answer E.flags E.turns
+
+    -- the sum, as it was worked out from what the search left
+    pub summed : (x : Float) → x ≡ in_floats xs (six_formula L (evens (rows (length L.counts) t s.count) b))
+        → measured x ≡ volume_by limits L first xs table bytes
     unfolding volume_by
-    test_halts d e =
-        let n = rw ends_every.answer at e in
-        rw (← n) (sym (if_not _ (measured _) (refused_with _) (refuses d)))
-
-    -- the search does
-    pub search_halts : (d : Refusal) → s ≡ refused_as (answer_of d)
-        → refused_with (answer_of d).no ≡ volume_by limits L first xs table bytes
-    unfolding volume_test
-    search_halts d e = test_halts d (rw e (sym (or_stop (answer_of d) _ (refuses d))))
-
-    -- nothing is refused
-    module _ (z : fine ≡ volume_test L.counts xs s) where
-      pub passes : Answered L first xs table bytes
-      passes = answered L first xs table bytes (rw ends_every.answer at (no_of z refl))
-
-      pub is_closed : (closed limits L).no ≡ 0
-      is_closed = (closed_exact limits L).1 passes.searchable.closed
-
-      pub in_room : (s.count * length L.counts ≤ length t) × (s.count ≤ length b)
-      in_room = (sum_asks L first xs table bytes passes ends_every.answer table_left bytes_left).0
-
-      pub flags_there : AllFlags L t s.count
-      flags_there = (sum_asks L first xs table bytes passes ends_every.answer table_left bytes_left).1
-
-      -- the sum, as it was worked out from what the search left
-      pub summed : (x : Float) → x ≡ in_floats xs (six_formula L (evens (rows (length L.counts) t s.count) b))
-          → measured x ≡ volume_by limits L first xs table bytes
-      unfolding volume_by
-      summed x i =
-          let A = passes in
-          let h = rw ends_every.answer at (no_of z refl) in
-          let l =
-          (λ j. evens (rows (wide L first xs table bytes A j) (table_left j) (ends_every.answer j).count)
-          (bytes_left j))
-          ∙ evens_left L first xs table bytes A in
-          let y =
-          six_exact A.searchable.closed A.is_cell xs A.metres A.three_each
-          (even_flags L first (room_in limits L table bytes)) (evens_flags L first xs table bytes A)
-          (few L first xs table bytes A) in
-          rw h (ap measured (i ∙ ap (λ q. in_floats xs (six_formula L q)) l ∙ y))
-
-pub ruleset cases = (volume_err, table_left, bytes_left, search_halts, test_halts)
+    summed x i =
+        let A = passes in
+        let h = rw E.answer at (no_of z refl) in
+        let l =
+        (λ j. evens (rows (wide L first xs table bytes A j) (E.flags j) (E.answer j).count) (E.turns j))
+        ∙ evens_left L first xs table bytes A in
+        let y =
+        six_exact A.searchable.closed A.is_cell xs A.metres A.three_each
+        (even_flags L first (room_in limits L table bytes)) (evens_flags L first xs table bytes A)
+        (few L first xs table bytes A) in
+        rw h (ap measured (i ∙ ap (λ q. in_floats xs (six_formula L q)) l ∙ y))

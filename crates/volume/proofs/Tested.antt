@@ -18,7 +18,7 @@ use Rattle.search_masks.specs.Masks.{every_rank}
 use Rattle.volume_metres.specs.Whole.{all_coordinates}
 use Rattle.volume_metres.proofs.Running.{zero_literal}
 use Rattle.volume_theory.specs.Six.{cell_rank}
-use Rattle.volume.specs.Volumes.{refused_with, volume_test}
+use Rattle.volume.specs.Volumes.{unmeasured, volume_test}
 
 module _ (counts : List ℕ) (xs : List Float) (count place : ℕ) where
   pub other_rank : (length counts ≡ 5 → ⊥)
@@ -58,7 +58,7 @@ no_mask ranks e = rw e
 
 -- the zero beside a refusal
 pub zero_beside : (a : Answer) (d : Refusal) → a ≡ answer_of d
-    → record { no = a.no; six = of_bits binary64 0 } ≡ refused_with (answer_of d).no
+    → record { no = a.no; six = of_bits binary64 0 } ≡ unmeasured (answer_of d).no
 zero_beside a d e = rw (e, zero_literal) refl
 
 pub ruleset crossing = (zero_beside)

@@ -16,7 +16,7 @@ use Rattle.listing.specs.Refusals.{not_in_metres}
 use Rattle.listing.specs.Answers.{plain, fine, if_zero, on, ◌or_else◌}
 use Rattle.listing.specs.Listing.{Listing, limits, rank, count}
 use Rattle.listing.specs.Rules.{FirstBroken, rule}
-use Rattle.listing.proofs.Answers.{or_fine, or_stop, or_assoc}
+use Rattle.listing.proofs.Answers.{if_not, or_fine, or_stop, or_assoc}
 use Rattle.listing.proofs.Broken.{zero_or, broken_last, broken_step, tests_on, tests_not}
 use Rattle.valid.specs.Closed.{Closed}
 use Rattle.flag_change.specs.Flags.{IsFlag, start_test}
@@ -36,14 +36,14 @@ use Rattle.search.proofs.Exact.{fine_number, promised}
 use Rattle.volume_metres.specs.Whole.{AllCoordinates, all_coordinates}
 use Rattle.volume_metres.proofs.Coordinates.{all_exact}
 use Rattle.volume_theory.specs.Six.{cell_rank}
-use Rattle.volume.specs.Volumes.{measured, refused_with, volume_test, volume_as, volume_by}
+use Rattle.volume.specs.Volumes.{measured, unmeasured, volume_test, volume_as, volume_by}
 use Rattle.volume.specs.Rules.{volume_rules}
 use Rattle.volume.proofs.Cases.{said, left, turns}
 
 number_as : (a : Answer) (x : Float) → (volume_as a x).no ≡ a.no
 number_as a x = go a.no
   where
-    go : (n : ℕ) → (if_zero n (measured x) (refused_with n)).no ≡ n
+    go : (n : ℕ) → (if_zero n (measured x) (unmeasured n)).no ≡ n
     go zero = refl
     go (suc n) = refl
 
@@ -74,6 +74,13 @@ module _ (L : Listing) (first : List ℕ) (xs : List Float) (table bytes : List 
       ≡ (volume_test L.counts xs (said L first xs table bytes)).no
   unfolding volume_by
   number_is = number_as (volume_test L.counts xs (said L first xs table bytes)) _
+
+  -- Beside a refusal stands the positive zero.
+  pub none_measured : let r = volume_by limits L first xs table bytes in r.no ≢ 0 → r ≡ unmeasured r.no
+  unfolding volume_by
+  none_measured h =
+      let t = volume_test L.counts xs (said L first xs table bytes) in
+      if_not t.no (measured _) (unmeasured t.no) (rw number_is at h) ∙ ap unmeasured (sym number_is)
 
   -- ---- what comes after the search
 

@@ -1,7 +1,7 @@
 -- What six_volume answers. In the table and the orientations it leaves what a search with every change leaves.
 --
 -- measured             the answer of a volume: no refusal
--- refused_with         the answer of a refusal by its number: +0.0 beside it
+-- unmeasured           the answer of a refusal by its number: +0.0 beside it
 -- volume_test          the refusals in their order: that of a search with every change that answered s, then 50, 51,
 --                      52, 53
 -- volume_as            the answer by its refusal: a refusal's number, or a volume as a float
@@ -30,8 +30,8 @@ use Rattle.volume.specs.declared.Measured.{Measured}
 abbrev pub measured : Float → Measured
 measured x = record { no = 0; six = x }
 
-abbrev pub refused_with : ℕ → Measured
-refused_with n = record { no = n; six = of_int binary64 (pos 0) }
+abbrev pub unmeasured : ℕ → Measured
+unmeasured n = record { no = n; six = of_int binary64 (pos 0) }
 
 unfoldable pub volume_test : List ℕ → List Float → Searched → Answer
 volume_test counts xs s =
@@ -42,7 +42,7 @@ volume_test counts xs s =
     on (not (all_coordinates xs)) (plain not_in_metres)
 
 abbrev pub volume_as : Answer → Float → Measured
-volume_as a x = if_zero a.no (measured x) (refused_with a.no)
+volume_as a x = if_zero a.no (measured x) (unmeasured a.no)
 
 unfoldable pub volume_by : Limits → Listing → List ℕ → List Float → List ℕ → List ℕ → Measured
 unfolding volume_test
@@ -58,4 +58,4 @@ volume_bytes_after m L first table bytes = bytes_after m L first (every_rank (ra
 
 abbrev pub told_volume : Result Float Refusal → Measured
 told_volume (Ok x) = measured x
-told_volume (Err e) = refused_with (answer_of e).no
+told_volume (Err e) = unmeasured (answer_of e).no

@@ -22,7 +22,6 @@ pub struct Measured {
 // The sum over the even flags that a search with every change finds from the first flag; docs/RULE.md says of which
 // cells that is six times the volume. From a flag one change away it is negated. What the search leaves in the table
 // and the orientations stays there, whatever is answered after it.
-#[tactic(auto, using(crate::proofs::Cases::cases))]
 pub fn six_volume(
     slices: Slices<'_>,
     first: &[Index],
