@@ -1,7 +1,7 @@
 -- The search with every change from a flag: its steps are the single changes, and it finds all flags exactly if these
 -- are in one piece. The flag of first sups is one such flag.
 -- Assumes nothing.
-use mathlib.Core.Path.{◌≡◌, refl, sym, ap₂, ◌∙◌}
+use mathlib.Core.Path.{◌≡◌, refl, sym}
 use mathlib.Core.Bool.{Bool, true, false}
 use mathlib.Core.Logic.{◌↔◌, ⊎_elim}
 use mathlib.Core.List.Memᴰ
@@ -12,18 +12,23 @@ use native.Mathlib.Omega.{arith}
 use lib.ListN.{length}
 use Rattle.order.specs.Steps.{Reach}
 use Rattle.order.proofs.Steps.{Reach-kept, Reach-map}
-use Rattle.listing.specs.Listing.{Listing, limits, rank}
+use Rattle.std.specs.Prelude.{Result}
+use Rattle.listing.specs.declared.Slices.{Slices}
+use Rattle.listing.specs.declared.Refusal.{Refusal}
+use Rattle.listing.specs.Listing.{Listing, held, limits, rank}
 use Rattle.valid.specs.Closed.{Closed}
+use Rattle.valid.specs.Tests.{closed}
+use Rattle.valid.proofs.InClosed.{is_closed, shaped}
 use Rattle.flag_change.specs.Flags.{IsFlag}
 use Rattle.search_theory.specs.Search.{State, Once, AtLeast, Neighbour, Proper, index_in}
 use Rattle.search_theory.proofs.Once.{mem_at, once_fits}
 use Rattle.search_theory.proofs.Lookup.{index_at, index_in_lem}
 use Rattle.search_theory.proofs.Proper.{search_proper}
 use Rattle.search_theory.proofs.Found.{found_exact}
-use Rattle.search_store.specs.declared.found.Progress.{Progress}
+use Rattle.search_store.specs.declared.Found.{Found}
 use Rattle.search_index.specs.Rows.{same_list}
 use Rattle.search_index.proofs.Rows.{same_decides}
-use Rattle.search_masks.specs.Masks.{every_rank}
+use Rattle.search_masks.specs.Masks.{InnerRanks, every_rank}
 use Rattle.search_walk.specs.Searched.{mask_changes, found_by}
 use Rattle.search_walk.specs.Ready.{Ended}
 use Rattle.search.specs.Exact.{Searchable, Leads}
@@ -36,17 +41,6 @@ use Rattle.body_theory.proofs.First.{sups_flag_lem}
 use Rattle.body_theory.proofs.Pieces.{one_piece_from, change_inner}
 use Rattle.body_theory.proofs.InAll.{all_flags, all_flags_lem, all_once, all_many, flags_exact}
 use Rattle.body.specs.Body.{whole_search}
-
--- a search from what is the flag of first sups, by what is every change, has come to its end
-pub whole_ended : (L : Listing) {w room mask : ℕ} {first table bytes table' bytes' : List ℕ} {p : Progress}
-    → first ≡ sups_flag L → mask ≡ every_rank (rank L)
-    → Ended w room table bytes table' bytes' p (found_by L first mask room)
-    → Ended w room table bytes table' bytes' p (whole_search L room)
-whole_ended L {room = room} e k E = record {
-  state = E.state ∙ ap₂ (λ f n. found_by L f n room) e k;
-  fits = E.fits;
-  rest = E.rest;
-}
 
 module _ {L : Listing} (C : Closed limits L) {start : List ℕ} (F : IsFlag L start) where
   abbrev mask : ℕ
@@ -161,3 +155,24 @@ module _ {L : Listing} (C : Closed limits L) {start : List ℕ} (F : IsFlag L st
 -- A closed listing can be searched from the flag of first sups.
 pub whole_searchable : {L : Listing} → Closed limits L → Searchable limits L (sups_flag L) (every_rank (rank L))
 whole_searchable C = every_searchable C (sups_flag_lem C)
+
+-- ---- the same as the code meets it
+
+module _ (s : Slices) (e : (closed limits (held s)).no ≡ 0) where
+  abbrev searched : Searchable limits (held s) (sups_flag (held s)) (every_rank (rank (held s)))
+  searched = whole_searchable (is_closed s e)
+
+  pub first_flag : (first : List ℕ) → first ≡ sups_flag (held s) → IsFlag (held s) first
+  first_flag first k = rw k searched.is_flag
+
+  pub every_inner : (mask : ℕ) → mask ≡ every_rank (rank (held s)) → InnerRanks (rank (held s)) mask
+  every_inner mask k = rw k searched.inner
+
+-- a search from what is the flag of first sups, by what is every change, has come to its end
+pub whole_ended : (L : Listing) {w room mask : ℕ} {first table bytes table' bytes' : List ℕ}
+    {r : Result Found Refusal} → first ≡ sups_flag L → mask ≡ every_rank (rank L)
+    → Ended w room table bytes table' bytes' r (found_by L first mask room)
+    → Ended w room table bytes table' bytes' r (whole_search L room)
+whole_ended L e k E = rw (e, k) at E
+
+pub ruleset whole = (shaped, first_flag, every_inner, whole_ended)

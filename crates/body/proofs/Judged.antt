@@ -7,12 +7,11 @@ use native.Mathlib.Decide.{dec_lt}
 use native.Mathlib.Omega.{arith}
 use borrow.Author.Tests.{lt-ltb, le-ltb}
 use lib.Dec.{ltb}
-use Rattle.listing.specs.declared.Answer.{Answer}
 use Rattle.listing.specs.Refusals.{more_flags, several_parts}
 use Rattle.listing.specs.Answers.{plain, fine}
 use Rattle.listing.specs.Listing.{limits}
 use Rattle.listing.proofs.Answers.{or_fine, or_stop}
-use Rattle.search.specs.SearchedBy.{searched_as}
+use Rattle.search.specs.SearchedBy.{refused_as, found_as, searched_as}
 use Rattle.body_count.specs.Capped.{capped}
 use Rattle.body.specs.Body.{parts_test, judged_as}
 
@@ -30,9 +29,17 @@ module _ (room found all : ℕ) where
   parts_fine h k = rw (le-ltb room all h, le-ltb found all k) (or_fine fine fine refl)
 
   -- What is answered goes by what is refused.
-  pub judged_as_lem : (place : ℕ) {a : Answer} → parts_test room found all ≡ a
-      → searched_as a found place ≡ judged_as room all found place
-  judged_as_lem place e = sym (ap (λ t. searched_as t found place) e)
+  module _ (place : ℕ) where
+    pub judged_more : room < all → refused_as (plain more_flags) ≡ judged_as room all found place
+    judged_more h = sym (ap (λ t. searched_as t found place) (parts_more h))
+
+    pub judged_several : all ≤ room → found < all → refused_as (plain several_parts) ≡ judged_as room all found place
+    judged_several h k = sym (ap (λ t. searched_as t found place) (parts_several h k))
+
+    pub judged_fine : all ≤ room → all ≤ found → found_as fine found place ≡ judged_as room all found place
+    judged_fine h k = sym (ap (λ t. searched_as t found place) (parts_fine h k))
+
+pub ruleset judging = (judged_more, judged_several, judged_fine)
 
 -- a number that no search has more than is compared with what stops after it as with the whole
 ltb_capped : (k n : ℕ) → k ≤ limits.flags → ltb k (capped n) ≡ ltb k n

@@ -5,35 +5,24 @@ mod whole;
 
 ghost use Rattle.std.specs.Prelude.{◌≡◌};
 ghost use Rattle.listing.specs.Listing.{held, limits};
+ghost use Rattle.search.specs.SearchedBy.{told_searched};
 ghost use Rattle.body.specs.Body.{body_by, body_table_after, body_bytes_after};
 
 use body_count::chains;
-use listing::Index;
-use search::{Searched, answer};
+use listing::{Index, Refusal, Slices};
+use search::Found;
 use search_index::row;
 
 // The closed test, and then whether a search with every change finds all flags that there are. The search goes out from
 // the flag of first sups, and is left in the table and the bytes whatever is answered after the closed test.
-pub fn one_body(
-    counts: &[Index],
-    ends: &[Index],
-    inc: &[Index],
-    table: &mut [Index],
-    bytes: &mut [u8],
-) -> Searched
-    ensures value { result ≡ body_by limits (held counts.entry ends.entry inc.entry) table.old
-        bytes.old }
-    ensures table_after { table.new ≡ body_table_after limits (held counts.entry ends.entry inc.entry)
-        table.old bytes.old }
-    ensures bytes_after { bytes.new ≡ body_bytes_after limits (held counts.entry ends.entry inc.entry)
-        table.old bytes.old }
+#[tactic(auto, using(crate::proofs::Cases::asked))]
+pub fn one_body(slices: Slices<'_>, table: &mut [Index], bytes: &mut [u8]) -> Result<Found, Refusal>
+    ensures value { told_searched result ≡ body_by limits (held slices.entry) table.old bytes.old }
+    ensures table_after { table.new ≡ body_table_after limits (held slices.entry) table.old bytes.old }
+    ensures bytes_after { bytes.new ≡ body_bytes_after limits (held slices.entry) table.old bytes.old }
 {
-    let a = valid::closed(counts, ends, inc);
-    if a.no != 0 {
-        return answer::refused(a);
-    }
-    let room = row::room_of(table.len(), bytes.len(), counts.len());
-    let p = whole::search_whole(counts, ends, inc, table, bytes, room);
-    let all = chains::flags_in_all(counts, ends, inc);
-    whole::judged(p, all, room)
+    let cell = valid::closed(slices)?;
+    let room = row::room_of(table.len(), bytes.len(), slices.counts.len());
+    let found = whole::search_whole(cell, table, bytes, room)?;
+    whole::judged(found, chains::flags_in_all(cell), room)
 }

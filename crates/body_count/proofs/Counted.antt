@@ -3,7 +3,7 @@
 use mathlib.Core.Path.{◌≡◌, ap, ◌∙◌}
 use mathlib.Core.Logic.{◌⊎◌, inl, inr}
 use mathlib.Core.List.{List}
-use Prim.Native.Nat.{ℕ, zero, suc, ◌+◌, ◌-◌, ◌≤◌, ◌<◌}
+use Prim.Native.Nat.{ℕ, zero, suc, ◌+◌, ◌-◌, ◌*◌, ◌≤◌, ◌<◌}
 use native.Mathlib.Decide.{ℕ_discrete}
 use native.Mathlib.Omega.{arith}
 use lib.ListN.{length, get_or, set, replicate, length-set, length-replicate}
@@ -11,11 +11,16 @@ use lib.Seq.{get_or-set_same, get_or-set_other}
 use Rattle.order.specs.Lists.{Earlier, In}
 use Rattle.order.specs.Sums.{sum_over}
 use Rattle.order.proofs.Sums.{sum_over_same}
-use Rattle.listing.specs.Listing.{Listing, limits, rank, count, before, subs}
+use Rattle.listing.specs.declared.Slices.{Slices}
+use Rattle.listing.specs.Listing.{Listing, held, limits, rank, count, before, entries, subs}
 use Rattle.listing.specs.Shape.{Shaped}
 use Rattle.listing.proofs.Listing.{before_zero, before_next, before_le, before_on}
-use Rattle.listing.proofs.Places.{few_before}
-use Rattle.valid_incidence.specs.Incidence.{Incident}
+use Rattle.listing.proofs.InCell.{ends_are, side_there}
+use Rattle.listing.proofs.Places.{side_at, few_before}
+use Rattle.valid_incidence.specs.Incidence.{Incident, incidences_test}
+use Rattle.valid_incidence.proofs.IncidenceExact.{incidences_exact}
+use Rattle.valid.specs.Tests.{closed}
+use Rattle.valid.proofs.InClosed.{is_closed, shaped}
 use Rattle.body_theory.specs.InAll.{chains_to, flags_in_all}
 use Rattle.body_count.specs.Capped.{most, capped, number_at, CountedBelow}
 use Rattle.body_count.proofs.Capped.{capped_sum}
@@ -147,3 +152,74 @@ module _ (L : Listing) where
   counted_last numbers e p K =
       let z : before L.counts (rank L) + 0 ≡ before L.counts (rank L) = omega arith in
       rw z at (K.counted (rank L) 0 (inl (omega arith)) (omega arith))
+
+-- ---- the same as the code meets it
+
+-- a rank begins after the n elements of the rank below, which begins at b
+module _ (s : Slices) (S : Shaped limits (held s)) (r b n : ℕ)
+    (begins : (b ≡ before s.counts.now (r - 1)) × (0 < r) × (r < length s.counts.now))
+    (d : n ≡ get_or s.counts.now (r - 1) 0) where
+  here_is : b + n ≡ before s.counts.now r
+  here_is = rank_begins s.counts.now b n r begins d
+
+  pub here_few : b + n ≤ limits.elements
+  here_few = rw here_is (few_before (held s) S r)
+
+  -- an element of it
+  module _ (i : ℕ) (h : i < get_or s.counts.now r 0) where
+    pub subs_there : 2 * (b + n + i) + 0 < length s.ends.now
+    subs_there = side_there s S r (b + n) i 0 here_is h (omega arith)
+
+    pub number_there : (x : ℕ) → x ≡ i → b + n + x < limits.elements
+    number_there x e = number_inside (held s) S r (b + n) i here_is h e
+
+    -- its subs
+    module _ (I : (incidences_test (held s)).no ≡ 0) (list : List ℕ)
+        (l : list ≡ entries s.ends.now s.inc.now (2 * (b + n + i) + 0)) where
+      incident : Incident (held s)
+      incident = (incidences_exact (held s)).0 I
+
+      are_subs : list ≡ subs (held s) r i
+      are_subs = l ∙ side_at (held s) (b + n) r i 0 here_is
+
+      pub subs_inside : (x : ℕ) → In x list → b + x < limits.elements
+      subs_inside x m = sub_fits (held s) S incident r i b x begins.0 h (rw are_subs at m)
+
+      pub count_next : (numbers : List ℕ) → CountedBelow (held s) r i numbers
+          → (v : ℕ) → v ≡ capped (sum_over (number_at numbers b) list) → (x : ℕ) → x ≡ i
+          → CountedBelow (held s) r (i + 1) (set numbers (b + n + x) v)
+      count_next numbers K v e x z =
+          let number = e ∙ ap (λ l. capped (sum_over (number_at numbers b) l)) are_subs
+          ∙ counted_sum (held s) numbers r i K incident b begins.0 begins.1 h in
+          rw (z, here_is) (counted_set (held s) numbers r i K S v h number)
+
+pub ruleset ranking = (ends_are, here_few, subs_there, number_there, subs_inside, count_next)
+
+module _ (s : Slices) (C : (closed limits (held s)).no ≡ 0) where
+  pub begun : CountedBelow (held s) 1 0 (set cleared 0 1)
+  begun = counted_first (held s) (is_closed s C).bounded.one_minimal
+
+  pub some : 0 < length s.counts.now
+  some = (shaped s C).some_rank
+
+  module _ (r b : ℕ) (e : b ≡ before s.counts.now (r - 1)) where
+    pub next_begins : (n : ℕ) → 0 < r → r < length s.counts.now → n ≡ get_or s.counts.now (r - 1) 0
+        → b + n ≡ before s.counts.now (r + 1 - 1)
+    next_begins n p h d =
+        let z : r + 1 - 1 ≡ r = omega arith in
+        rw z (rank_begins s.counts.now b n r (e, p, h) d)
+
+    pub next_few : (n : ℕ) → 0 < r → r < length s.counts.now → n ≡ get_or s.counts.now (r - 1) 0
+        → b + n ≤ limits.elements
+    next_few n p h d = rw (rank_begins s.counts.now b n r (e, p, h) d) (few_before (held s) (shaped s C) r)
+
+    module _ (z : r ≡ length s.counts.now) where
+      pub last_there : b < limits.elements
+      last_there = last_inside (held s) (shaped s C) (is_closed s C).bounded.one_maximal r b z e
+
+      pub last_number : (numbers : List ℕ) → CountedBelow (held s) r 0 numbers
+          → get_or numbers b 0 ≡ capped (flags_in_all (held s))
+      last_number numbers K =
+          rw (e, z) (counted_last (held s) numbers (is_closed s C).bounded.one_maximal some (rw z at K))
+
+pub ruleset counting = (begun, some, shaped, before_zero, next_begins, next_few, last_there, last_number)

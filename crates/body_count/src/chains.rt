@@ -23,6 +23,7 @@ fn plus(a: u16, b: u16) -> u16
 }
 
 // The numbers of the elements in a list added up, at most MOST. Their rank begins at place b.
+#[tactic(auto, using(crate::proofs::Capped::adding))]
 fn sum_of(numbers: &[u16; limit::ELEMENTS], b: usize, list: &[Index]) -> u16
     requires by_index { (x : ℕ) → In x list.now → b + x < limits.elements }
     requires capped { Capped numbers.now }
@@ -36,6 +37,7 @@ fn sum_of(numbers: &[u16; limit::ELEMENTS], b: usize, list: &[Index]) -> u16
 }
 
 // The numbers of the elements of rank r, from those of the rank below, which begins at place b.
+#[tactic(auto, using(crate::proofs::Counted::ranking))]
 fn count_rank(numbers: &mut [u16; limit::ELEMENTS], cell: MatchedCell<'_>, b: usize, r: usize)
     requires b_value { (b ≡ before cell.slices.counts.now (r - 1)) × (0 < r) × (r < length cell.slices.counts.now) }
     requires counted_below { CountedBelow (held cell.slices) r 0 numbers.old }
@@ -44,12 +46,13 @@ fn count_rank(numbers: &mut [u16; limit::ELEMENTS], cell: MatchedCell<'_>, b: us
     let counts = cell.slices.counts;
     let here = b + usize::from(counts[r - 1]);
     for i in 0..counts[r] {
-        let subs = cell.side_of(here, i, Side::Subs);
-        numbers[here + usize::from(i)] = sum_of(numbers, b, subs);
+        let subs = cell.slices.side_of(here, i, Side::Subs);
+        numbers[here + usize::from(i)] = sum_of(&*numbers, b, subs);
     }
 }
 
 // The flags of a closed cell, at most MOST.
+#[tactic(auto, using(crate::proofs::Counted::counting))]
 pub fn flags_in_all(cell: ClosedCell<'_>) -> u16
     ensures { result ≡ capped (flags_in_all (held cell.entry.slices)) }
 {

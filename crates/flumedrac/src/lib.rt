@@ -24,8 +24,6 @@ ghost use Rattle.volume.specs.Volumes.{volume_by, volume_table_after, volume_byt
 
 use flag::{Changed, Orientation};
 use listing::{Answer, Built, Index, Number, Slices};
-use product::make;
-use product_places::Poles;
 use search::Searched;
 use search_events::{Cursor, Said};
 use text::Written;
@@ -216,7 +214,7 @@ pub fn fd_duopyramid(
         ends: qends,
         inc: qinc,
     };
-    Built::from(make::make(Poles::DUOPYRAMID, p, q, counts, ends, inc))
+    Built::from(product::duopyramid(p, q, counts, ends, inc))
 }
 
 pub fn fd_duoprism(
@@ -245,7 +243,7 @@ pub fn fd_duoprism(
         ends: qends,
         inc: qinc,
     };
-    Built::from(make::make(Poles::DUOPRISM, p, q, counts, ends, inc))
+    Built::from(product::duoprism(p, q, counts, ends, inc))
 }
 
 pub fn fd_duotegum(
@@ -274,7 +272,7 @@ pub fn fd_duotegum(
         ends: qends,
         inc: qinc,
     };
-    Built::from(make::make(Poles::DUOTEGUM, p, q, counts, ends, inc))
+    Built::from(product::duotegum(p, q, counts, ends, inc))
 }
 
 pub fn fd_duocomb(
@@ -303,7 +301,7 @@ pub fn fd_duocomb(
         ends: qends,
         inc: qinc,
     };
-    Built::from(make::make(Poles::DUOCOMB, p, q, counts, ends, inc))
+    Built::from(product::duocomb(p, q, counts, ends, inc))
 }
 
 // The dual: writes the last three slices, which overlap no other slice that is lent here.

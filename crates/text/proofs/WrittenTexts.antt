@@ -23,7 +23,7 @@ use Rattle.listing.proofs.Told.{refuses, then_ok, then_halt}
 use Rattle.std.proofs.Common.{Result, Ok, Err}
 use Rattle.std.specs.Result.{IsErrAnd}
 use Rattle.std.proofs.lemmas.Result.{err_from_is_err_and}
-use Rattle.listing.proofs.Answers.{or_no, no_or, no_of, stops, if_not}
+use Rattle.listing.proofs.Answers.{or_fine, or_no, no_or, no_of, stops, if_not}
 use Rattle.listing.proofs.Broken.{tests_over, zero_or, broken_step, broken_last}
 use Rattle.listing.proofs.Layers.{layers_topped}
 use Rattle.listing.proofs.Places.{few_in_rank}
@@ -83,6 +83,10 @@ module _ (m : Limits) (L : Listing) (room : ℕ) where
       → a ≡ write_test m L room
   unfolding write_test
   write_then f e {a} h = then_ok (length_test m size room) f a (h ∙ ap (λ (n : ℕ). length_test m n room) e)
+
+  pub write_goes : (closed m L).no ≡ 0 → write_test m L room ≡ length_test m size room
+  unfolding write_test
+  write_goes z = or_fine (closed m L) _ z
 
   pub write_broken : FirstBroken (write_rules m L room) (write_test m L room).no
   unfolding write_test length_test

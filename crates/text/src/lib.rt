@@ -39,7 +39,8 @@ impl From<Result<usize, Refusal>> for Written {
     }
 }
 
-// Reads a listing: all that is refused of the text is known before a number is written.
+// Reads a listing: all that is refused of the text is known before a number is written. The three lent slices stay
+// apart: in a struct each function would have to say that they are still the same slices.
 pub fn read_text(
     text: &[u8],
     counts: &mut [Index],

@@ -61,7 +61,8 @@ fn put_elements(notes: &Notes, n: usize, ends: &mut [Index], inc: &mut [Index])
     }
 }
 
-// Writes the listing of layers that have been noted down, of so many ranks and n elements.
+// Writes the listing of layers that have been noted down, of so many ranks and n elements. The three lent slices stay
+// apart: in a struct each function would have to say that they are still the same slices.
 pub fn build(
     notes: &Notes,
     ranks: usize,

@@ -39,7 +39,8 @@ fn count_known(up: &mut [Index], from: usize, n: usize, x: usize) -> usize
 }
 
 // Counts the numbers of a row that begins at a place, and raises the count of each of n elements, from place `from`
-// on, that one of them names. The numbers are written from place `to` of subs on: each takes two bytes of the text.
+// on, that one of them names. The numbers are written from place `to` of subs on: each takes two bytes of the text. Of
+// the notes these two arrays are lent alone: of all four it would have to be said that the others stay as they are.
 #[tactic(auto, using(crate::proofs::Tallies::rows))]
 fn tally_row(
     text: &[u8],

@@ -1,5 +1,4 @@
--- The invariant: the elements of the ranks below, and the first i of this rank, have their numbers.
--- Assumes nothing.
+-- Invariant: the elements of the ranks below, and the first i of this rank, have their numbers.
 use Rattle.listing.specs.Listing.{held}
 use Rattle.body_count.specs.Capped.{CountedBelow}
 use Rattle.body_count.proofs.chains.count_rank.Given as goal

@@ -1,5 +1,4 @@
--- The invariant: the elements of the ranks below r have their numbers, and b is where the rank below r begins.
--- Assumes nothing.
+-- Invariant: the elements of the ranks below r have their numbers, and b is where the rank below r begins.
 use mathlib.Core.Path.{◌≡◌}
 use Prim.Native.Nat.{◌-◌}
 use Rattle.listing.specs.Listing.{held, before}

@@ -1,6 +1,5 @@
--- The invariant: what was added up, together with the numbers of the elements left, makes the answer once it stops
+-- Invariant: what was added up, together with the numbers of the elements left, makes the answer once it stops
 -- where it must; it has stopped there itself.
--- Assumes nothing.
 use mathlib.Core.Path.{◌≡◌}
 use Prim.Native.Nat.{◌+◌, ◌≤◌}
 use lib.ListN.{drop}
