@@ -99,7 +99,8 @@ module _ (L : Listing) (table bytes : List ℕ) where
 
     -- that it found so many
     pub body_go : {table' bytes' : List ℕ} (f : Found) → Walked table' bytes' (Ok f) → (n : ℕ)
-        → n ≡ capped (flags_in_all L) → (r : Searched) → r ≡ judged_as room n f.count f.place → BodyEnds L table bytes r table' bytes'
+        → n ≡ capped (flags_in_all L) → (r : Searched) → r ≡ judged_as room n f.count f.place
+        → BodyEnds L table bytes r table' bytes'
     unfolding body_by body_test searched_of state_of
     body_go f E n e r j =
         let count = count_found (whole_searchable C) table bytes f E in

@@ -23,13 +23,13 @@ pub list_inside : (list : List ℕ) (b j : ℕ) {x : ℕ} → ((x : ℕ) → In 
 list_inside list b j h i e = rw e (h (get_or list j 0) (in_at list j i))
 
 -- numbers are added up along a list
-module _ (f : ℕ → ℕ) (l : List ℕ) (j v : ℕ) (e : (v ≤ most) × (capped (v + sum_over f (drop j l)) ≡ capped (sum_over f l)))
-  where
-    pub add_next : j < length l → (w : ℕ) → w ≡ capped (v + f (get_or l j 0))
-        → (w ≤ most) × (capped (w + sum_over f (drop (j + 1) l)) ≡ capped (sum_over f l))
-    add_next h w d = (omega arith, omega (arith, e, sum_over_next f l j h))
+module _ (f : ℕ → ℕ) (l : List ℕ) (j v : ℕ)
+    (e : (v ≤ most) × (capped (v + sum_over f (drop j l)) ≡ capped (sum_over f l))) where
+  pub add_next : j < length l → (w : ℕ) → w ≡ capped (v + f (get_or l j 0))
+      → (w ≤ most) × (capped (w + sum_over f (drop (j + 1) l)) ≡ capped (sum_over f l))
+  add_next h w d = (omega arith, omega (arith, e, sum_over_next f l j h))
 
-    pub add_end : length l ≤ j → v ≡ capped (sum_over f l)
-    add_end h = omega (arith, e, sum_over_end f l j h)
+  pub add_end : length l ≤ j → v ≡ capped (sum_over f l)
+  add_end h = omega (arith, e, sum_over_end f l j h)
 
 pub ruleset adding = (add_next, add_end)

@@ -80,6 +80,7 @@ fn other_among(short: &[Index], long: &[Index], e: Index) -> Index
 
 // The first number that two ascending lists share and that is not e; 0 where there is none. The shorter list is walked:
 // the other may be an end's, with thousands of numbers.
+#[tactic(auto, using(crate::proofs::Common::common_swap))]
 fn other_between(below: &[Index], above: &[Index], e: Index) -> Index
     requires ascending { Ascending below.now }
     requires ascending_2 { Ascending above.now }

@@ -17,7 +17,8 @@ use Rattle.product_pairs.specs.Sound.{Sound}
 use Rattle.product_pairs.specs.Product.{product_of}
 use Rattle.product_closure.specs.Result.{first_factor, second_factor, null_case, comb_case, result_of, HighEnough}
 use Rattle.product_closure.proofs.Results.{result_product, result_null, nullitope_closed, both}
-use Rattle.product_closure.proofs.Sizes.{product_of_ranks, product_of_elements, product_of_incidences, product_of_within}
+use Rattle.product_closure.proofs.Sizes.{product_of_ranks, product_of_elements, product_of_incidences}
+use Rattle.product_closure.proofs.Sizes.{product_of_within}
 use Rattle.product_closure.proofs.Valid.{valid_sound}
 use Rattle.product_closure.proofs.Products.{four_closed}
 use Rattle.product.specs.Outcome.{Outcome}

@@ -29,7 +29,8 @@ use Rattle.product_sizes.proofs.Tested.{listing_tested, Passed, sizes_passed}
 
 -- sizes that pass their test are small
 module _ (s : Totals) (o : Room) where
-  few_totals : fine ≡ totals_test limits s o → (s.ranks ≤ limits.ranks) × (s.elements ≤ limits.elements) × (s.incidences ≤ limits.incidences)
+  few_totals : fine ≡ totals_test limits s o
+      → (s.ranks ≤ limits.ranks) × (s.elements ≤ limits.elements) × (s.incidences ≤ limits.incidences)
   unfolding totals_test
   few_totals e =
       let p1 = on_or_no _ (plain product_ranks) _ (λ w. omega arith) (ap (λ (a : Answer). a.no) (sym e)) in

@@ -154,7 +154,8 @@ unfolding under_pair
 under_at false max P Q i a j b ha hb = high_under false max P Q i a j b ha hb (omega arith)
 under_at true max P Q i a j b ha hb = go (dec_lt 0 (i + j))
   where
-    go : Dec (0 < i + j) → (target true max P Q).under (i + j + 1) (stand true P Q i a j b) ≡ under_pair true P Q i a j b
+    go : Dec (0 < i + j)
+        → (target true max P Q).under (i + j + 1) (stand true P Q i a j b) ≡ under_pair true P Q i a j b
     go (yes l) = rw (ne_eqb (i + j) 0 (λ z. omega arith)) (high_under true max P Q i a j b ha hb (omega arith))
     go (no l) =
         let p : i ≡ 0 = omega arith in

@@ -8,8 +8,8 @@
 -- lists_of        the lists of the product, by their numbers: the subs and the derived sups of each element in turn
 -- product_lists   the same, with the two flags in one
 -- pair_shift      how the subs of a pair follow from those of its members
--- under_pair      what a pair has under it: the added minimal element alone where it is a lowest pair and that is added;
---                 else the pairs with a member replaced by one of its subs in use
+-- under_pair      what a pair has under it: the added minimal element alone, where it is a lowest pair and that is
+--                 added; else the pairs with a member replaced by one of its subs in use
 -- over_pair       how many lie over a pair: as many as over its members, and the added maximal element over a highest
 --                 pair
 -- size_of         how many elements the product has

@@ -4,7 +4,7 @@
 use mathlib.Core.Path.{◌≡◌}
 use mathlib.Core.List.{List, ◌++◌}
 use native.Mathlib.Omega.{arith}
-use borrow.Author.Tests.{eq-eqb, ne_eqb, eqb-true, not-false}
+use borrow.Author.Tests.{eq-eqb, eqb-true, not-false}
 use lib.Dec.{eqb}
 use Rattle.listing.specs.declared.Answer.{Answer}
 use Rattle.listing.specs.Refusals.{left_invalid, right_invalid}
@@ -17,14 +17,6 @@ use Rattle.valid.specs.Tests.{is_valid}
 use Rattle.product_factors.specs.Factors.{factors_test, factor_rules}
 
 module _ (m : Limits) (A B : Listing) where
-  pub factors_left : ((is_valid m A).no ≡ 0 → ⊥) → factors_test m A B ≡ plain left_invalid
-  unfolding factors_test ◌or_else◌
-  factors_left h = rw (ne_eqb _ _ h)
-
-  pub factors_right : (is_valid m A).no ≡ 0 → ((is_valid m B).no ≡ 0 → ⊥) → factors_test m A B ≡ plain right_invalid
-  unfolding factors_test ◌or_else◌
-  factors_right a h = rw (eq-eqb _ _ a, ne_eqb _ _ h)
-
   pub factors_fine : (is_valid m A).no ≡ 0 → (is_valid m B).no ≡ 0 → factors_test m A B ≡ fine
   unfolding factors_test ◌or_else◌
   factors_fine a b = rw (eq-eqb _ _ a, eq-eqb _ _ b)
@@ -45,5 +37,3 @@ module _ (m : Limits) (A B : Listing) where
   factors_broken l y r =
       broken_inner _ (tests_not (eqb (is_valid m A).no 0) 30 (omega arith) (eqb-true _ _) (eq-eqb _ _)) _ y (λ a.
       broken_step l (tests_not (eqb (is_valid m B).no 0) 31 (omega arith) (eqb-true _ _) (eq-eqb _ _)) y (λ b. r a b))
-
-pub ruleset factors = (factors_left, factors_right, factors_fine)

@@ -66,6 +66,9 @@ sum_fits p q R n s x d e h k = omega (arith, pairs_room p q R n h)
 -- where a loop over the ranks begins, and a turn of it
 pub ruleset pairs_steps = (pairs_none, pairs_next, sum_fits)
 
+-- the same, of a loop that begins with the added minimal element
+pub ruleset ranks = (bit_is, pairs_none, pairs_next)
+
 module _ (min : Bool) (p q : List ℕ) where
   pub number_at : (i a j b : ℕ) → pair_number min p q i a j b ≡ first_at min p q (i + j) i + a * get_or q j 0 + b
   unfolding pair_number offset_in

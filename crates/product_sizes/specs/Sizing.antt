@@ -6,7 +6,8 @@
 -- subs_between     how many subs the elements from one number up to another list
 -- extent_of        how large layers are
 -- Little           an extent so small that products of two fit a word
--- totals_of        how many ranks, elements and incidences the product has of two factors that have these extents in use
+-- totals_of        how many ranks, elements and incidences the product has of two factors that have these extents in
+--                  use
 -- Measures         the same of a listing
 -- need_of_totals   how much room a listing of these three numbers takes
 -- limits_then      33, 34, 35 by the limits, and then the rest

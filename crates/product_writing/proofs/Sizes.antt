@@ -17,7 +17,8 @@ use Rattle.listing.proofs.Written.{tabulated_same, nth_at}
 use Rattle.product_pairs.specs.Trimmed.{bit}
 use Rattle.product_pairs.proofs.Sequences.{sum_all}
 use Rattle.product_places.proofs.Parts.{when}
-use Rattle.product_pairs.specs.Grown.{up_to, min_size, min_under, max_size, max_under, add_max, add_min_if, add_max_if, grown}
+use Rattle.product_pairs.specs.Grown.{up_to, min_size, min_under, max_size, max_under, add_max, add_min_if}
+use Rattle.product_pairs.specs.Grown.{add_max_if, grown}
 
 table_first : (f : ℕ → ℕ) (n : ℕ) → tabulated f (suc n) ≡ f 0 ∷ tabulated (λ k. f (suc k)) n
 unfolding tabulated joined

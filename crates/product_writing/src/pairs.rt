@@ -63,6 +63,7 @@ fn put_rank(
 }
 
 // All pairs, from place `at` on. Returns the place after them.
+#[tactic(auto, using(product_places::proofs::Numbers::ranks))]
 fn put_ranks(factors: Factors<'_>, ends: &mut [Index], inc: &mut [Index], at: usize) -> usize
     requires writable { Writable factors ends.old inc.old }
     requires at_value { at ≡ starts (lists_in factors) (2 * first_in factors 0 0) }

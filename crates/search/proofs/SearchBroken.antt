@@ -38,7 +38,8 @@ module _ (m : Limits) (L : Listing) (first : List ℕ) (mask : ℕ) where
       (on (found_by L first mask room).overflow (plain more_flags))
   overflow_tested room T =
       tests_on (found_by L first mask room).overflow more_flags (omega arith)
-      (λ f q. true≢false (sym ((overflow_more T room).1 q) ∙ f)) (λ n. back n (found_by L first mask room).overflow refl)
+      (λ f q. true≢false (sym ((overflow_more T room).1 q) ∙ f))
+      (λ n. back n (found_by L first mask room).overflow refl)
     where
       back : (¬ AtLeast (suc room) (Leads L mask) first) → (b : Bool) → (found_by L first mask room).overflow ≡ b
           → (found_by L first mask room).overflow ≡ false

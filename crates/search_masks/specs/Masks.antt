@@ -7,7 +7,8 @@
 -- every_rank   the mask that asks for every change of a cell of that rank: at 1 to rank - 1
 -- bits_in      the set bits of a number among its k lowest, upward, each b more than its place
 -- ranks_of     the ranks that a mask asks for, from the lowest upward
-use Rattle.std.specs.Prelude.{◌≡◌, Bool, cond, ◌&&◌, ◌||◌, List, [], ◌∷◌, ℕ, zero, suc, ◌+◌, ◌-◌, ◌/◌, ◌%◌, ◌^◌, ◌<◌, eqb, ltb}
+use Rattle.std.specs.Prelude.{◌≡◌, Bool, cond, ◌&&◌, ◌||◌, List, [], ◌∷◌, ℕ, zero, suc}
+use Rattle.std.specs.Prelude.{◌+◌, ◌-◌, ◌/◌, ◌%◌, ◌^◌, ◌<◌, eqb, ltb}
 use Rattle.order.specs.Tests.{every}
 use Rattle.listing.specs.Listing.{limits}
 

@@ -3,8 +3,8 @@
 -- state_of   the state that a table, its bytes and what was found stand for
 -- state_in   the same of what a store holds
 -- count_in   how many flags stand in the table: all that there is room for where one more turned up
--- come_to    the state that a table and its bytes stand for after a step of the search, which answers what was found, or
---            that one more turned up than there is room for; the place that the search has then is not kept
+-- come_to    the state that a table and its bytes stand for after a step of the search, which answers what was found,
+--            or that one more turned up than there is room for; the place that the search has then is not kept
 -- SameLent   what is lent to a store is lent to it still
 -- Held       the table and the bytes have the room, n rows of it are in use, and these are indexed
 -- Added      the flag, whose hash is h, stands in row n, with a byte

@@ -14,8 +14,8 @@ pub struct Found {
     pub place: u16,
 }
 
-// Where the flags found are kept: a table of rows, a byte for each, and the chains by which a flag is looked up; and how
-// many there is room for.
+// Where the flags found are kept: a table of rows, a byte for each, and the chains by which a flag is looked up; and
+// how many there is room for.
 #[derive(Drop)]
 pub struct Store<'a> {
     pub table: &'a mut [Index],

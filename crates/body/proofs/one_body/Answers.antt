@@ -1,4 +1,5 @@
--- Three returns: a refusal of the closed test, more flags than there is room for, and what is answered after the search.
+-- Three returns: a refusal of the closed test, more flags than there is room for, and what is answered after the
+-- search.
 -- Assumes nothing.
 use mathlib.Core.Path.{◌∙◌}
 use Rattle.listing.specs.Listing.{held}

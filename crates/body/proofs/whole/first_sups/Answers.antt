@@ -1,3 +1,4 @@
+-- One more rank is written.
 use native.Mathlib.Omega.{arith}
 use lib.ListN.{length-set}
 use Rattle.body.proofs.FirstSups.{next_begins, next_written}

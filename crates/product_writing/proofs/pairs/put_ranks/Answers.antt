@@ -1,34 +1,22 @@
 -- Each rank stands where the one before ended, and the pairs are few.
-use mathlib.Core.Path.{refl}
 use Prim.Native.Nat.{ℕ, ◌+◌}
 use native.Mathlib.Omega.{arith}
-use Rattle.listing_sups.proofs.Laying.{put_none, put_then}
-use Rattle.product_places.proofs.Numbers.{bit_is, pairs_none, pairs_next}
+use Rattle.listing_sups.proofs.Laying.{put_then}
+use Rattle.product_places.proofs.Numbers.{pairs_next}
 use Rattle.product_element.specs.Writing.{first_in}
 use Rattle.product_element.proofs.Fits.{first_few}
 use Rattle.product_writing.proofs.pairs.put_ranks.Goals as goal
 
-pub loop-rank-init : goal.loop-rank-init
-loop-rank-init c = (
-  omega (arith, c.from-start.ensures, bit_is, pairs_none c.args.factors.p.slices.counts.now c.args.factors.q.slices.counts.now),
-  put_none _ _ _ _ _ _ c.requires.at_value refl,
-)
-
 pub overflow_add-start : goal.overflow_add-start
 overflow_add-start c =
     let k = c.loop-rank.rank in
-    omega (
-      arith,
-      first_few c.requires.writable k (k + 1) (omega arith) (omega arith),
-      c.pairs_in-start.ensures,
-      c.loop-rank.invariant.0,
-    )
+    omega (arith, first_few c.requires.writable k (k + 1) (omega arith) (omega arith))
 
 pub loop-rank-preserved : goal.loop-rank-preserved
 loop-rank-preserved c =
     let number : ℕ → ℕ = λ r. first_in c.args.factors r 0 in
     let r = c.loop-rank.rank in
-    let v = c.loop-rank.invariant in (
-      omega (arith, v.0, c.pairs_in-start.ensures, pairs_next),
-      put_then _ (number 0) (number r) (number (r + 1)) _ _ _ _ _ _ _ _ v.1 c.put_rank-to.ensures,
-    )
+    let v = c.loop-rank.invariant in record {
+      begins = omega (arith, pairs_next);
+      put = put_then _ (number 0) (number r) (number (r + 1)) _ _ _ _ _ _ _ _ v.put c.put_rank-to.ensures;
+    }

@@ -8,7 +8,8 @@ use Rattle.product_element.specs.Writing.{lists_in, first_in}
 use Rattle.product_writing.proofs.pairs.put_ranks.Given as goal
 
 abbrev pub invariant-loop-rank : goal.invariant-loop-rank
-invariant-loop-rank l =
-    (l.start ≡ bit l.factors.poles.min + pairs_to l.p l.q l.rank)
-    × Put (lists_in l.factors) (first_in l.factors 0 0) (first_in l.factors l.rank 0) l.to
-    l.initial.ends l.initial.inc l.ends l.inc
+invariant-loop-rank l = record {
+  begins : l.start ≡ bit l.factors.poles.min + pairs_to l.p l.q l.rank;
+  put : Put (lists_in l.factors) (first_in l.factors 0 0) (first_in l.factors l.rank 0) l.to
+      l.initial.ends l.initial.inc l.ends l.inc;
+}

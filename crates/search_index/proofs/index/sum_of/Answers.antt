@@ -26,7 +26,9 @@ turn c =
       below = omega (arith, t.0);
       number = c.from.ensures ∙ t.2 0;
       weighs = t.3 0 ∙ c.requires.1.each r (omega (arith, t.0));
-      small = times_small _ _ (rw (c.from.ensures, t.2 0) (omega (arith, c.type_inv.flag r))) (rw (t.3 0) (weights_small v c.requires.1 r (omega (arith, t.0))));
+      small =
+          times_small _ _ (rw (c.from.ensures, t.2 0) (omega (arith, c.type_inv.flag r)))
+          (rw (t.3 0) (weights_small v c.requires.1 r (omega (arith, t.0))));
     }
 
 pub overflow_mul-sum : goal.overflow_mul-sum

@@ -1,3 +1,4 @@
+-- Nothing is found in a new store, and what stands in it at the end stands in the slices lent to it.
 use mathlib.Core.Path.{refl}
 use Rattle.std.proofs.Common.{rules}
 use Rattle.search_walk.proofs.Starts.{held_none, ended}

@@ -1,3 +1,4 @@
+-- The first flag is met, and then all are worked.
 use Rattle.search_store.proofs.Meets.{moved_err}
 use Rattle.search_walk.proofs.Starts.{first_hash, first_held, first_met, first_full, first_flags, all_found}
 use Rattle.search_walk.proofs.walk.search_in.Goals as goal

@@ -1,3 +1,4 @@
+-- The flag at hand is the kth row; each change that is left is met, from the lowest rank upward.
 use mathlib.Core.Path.{sym, ◌∙◌}
 use native.Mathlib.Omega.{arith}
 use lib.Seq.{length-take-le}
@@ -32,7 +33,8 @@ try_next-requires-clause-at_hand c =
 
 pub without-left-requires : goal.without-left-requires
 without-left-requires c =
-    (c.lowest-r.ensures.1, rw c.lowest-r.ensures.0 (low_fits limits.ranks _ (omega arith) c.loop-left.invariant.1.small))
+    let few = c.loop-left.invariant.1.small in
+    (c.lowest-r.ensures.1, rw c.lowest-r.ensures.0 (low_fits limits.ranks _ (omega arith) few))
 
 pub try_next-requires-clause-r_inside : goal.try_next-requires-clause-r_inside
 try_next-requires-clause-r_inside c =

@@ -1,5 +1,5 @@
--- Invariant: the flag at hand is the kth row as it was at first, and meeting the changes that are left leads from here to the same
--- state as meeting all of them led to from the start. The measure is the mask that is left.
+-- Invariant: the flag at hand is the kth row as it was at first, and meeting the changes that are left leads from here
+-- to the same state as meeting all of them led to from the start. The measure is the mask that is left.
 use mathlib.Core.Path.{◌≡◌}
 use Prim.Native.Nat.{◌-◌}
 use lib.ListN.{length, get_or}
