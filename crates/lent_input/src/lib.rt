@@ -21,6 +21,7 @@ pub fn read_full(input: &mut impl Read, room: &mut [u8]) -> usize
     ensures { IsPrefixLen result room.new }
 {
     let mut filled: usize = 0;
+    // No `for`: each read says by how much the next one moves on.
     while filled < room.len() {
         let brought = read_some(input, &mut room[filled..]);
         if brought == 0 {

@@ -1,1 +1,2 @@
+mod Halving
 mod Scanning

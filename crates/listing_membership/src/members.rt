@@ -18,25 +18,12 @@ fn stands_at_own_place(list: &[Index], x: Index) -> bool
 }
 
 // Whether halving finds x in a list: it does if x is there and the list ascends. In another list it may miss x.
+#[tactic(auto, using(crate::proofs::Halving::halved))]
 fn found_by_halving(list: &[Index], x: Index) -> bool
     ensures { (result ≡ true → has list.now x ≡ true)
         × (Ascending list.now → result ≡ has list.now x) }
 {
-    let mut low: usize = 0;
-    let mut high = list.len();
-    while low < high {
-        let middle = low + (high - low) / 2;
-        let y = list[middle];
-        if y == x {
-            return true;
-        }
-        if y < x {
-            low = middle + 1;
-        } else {
-            high = middle;
-        }
-    }
-    false
+    list.binary_search(&x).is_ok()
 }
 
 // Whether x is one of the numbers of a list.

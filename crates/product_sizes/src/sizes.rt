@@ -33,7 +33,7 @@ pub struct Totals {
 
 // The counts of the ranks in use: without the lowest where min is set, without the highest where max is.
 #[tactic(auto, using(product_places::proofs::Numbers::bit_is), unfolding(crate::specs::Sizing::counts_in_use))]
-fn range<'a>(poles: Poles, counts: &'a [Index]) -> &'a [Index]
+pub fn range<'a>(poles: Poles, counts: &'a [Index]) -> &'a [Index]
     requires { bit poles.min + bit poles.max ≤ length counts.now }
     ensures { result.now ≡ counts_in_use poles.min poles.max counts.now }
 {

@@ -48,7 +48,7 @@ fn tests(rt: &impl Print, slices: Slices<'_>) -> io::Result<()> {
 // What is asked besides of what a product wrote: what the tests say of it, or its text, with room of the fourth length.
 fn besides(rt: &impl Print, line: &[u8], slices: Slices<'_>) -> io::Result<()> {
     if is_written(line) {
-        replay_texts::write(rt, slices, text::plain(line, 3))
+        replay_texts::write(rt, slices, u64::from(text::plain(line, 3)))
     } else {
         tests(rt, slices)
     }

@@ -45,7 +45,7 @@ pub fn bytes<const N: usize>() -> [u8; N]
 }
 
 // So many items of a slice, or all if it has fewer.
-pub fn within<T>(n: u32, room: &[T]) -> usize
+pub fn within<T>(n: u64, room: &[T]) -> usize
     ensures value { result ≡ min n (length room.now) }
     ensures prefix_len { (result ≤ length room.now) × (result ≡ length (take result room.now)) }
 {
@@ -61,9 +61,9 @@ where
     let mut few = numbers::<FEW>();
     let mut some = numbers::<SOME>();
     let mut many = numbers::<MANY>();
-    let c = within(counts, &few);
-    let e = within(ends, &some);
-    let i = within(inc, &many);
+    let c = within(u64::from(counts), &few);
+    let e = within(u64::from(ends), &some);
+    let i = within(u64::from(inc), &many);
     lend(&mut few[..c], &mut some[..e], &mut many[..i])
 }
 
@@ -75,7 +75,7 @@ where
 {
     let mut flags = numbers::<TABLE>();
     let mut odd = bytes::<BYTES>();
-    let t = within(table, &flags);
-    let o = within(orientations, &odd);
+    let t = within(u64::from(table), &flags);
+    let o = within(u64::from(orientations), &odd);
     lend(&mut flags[..t], &mut odd[..o])
 }

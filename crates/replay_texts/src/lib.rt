@@ -57,7 +57,7 @@ fn write_into(rt: &impl Print, slices: Slices<'_>, bytes: &mut [u8]) -> io::Resu
 }
 
 // The same with room of a length, as far as there is so much.
-pub fn write(rt: &impl Print, slices: Slices<'_>, length: u32) -> io::Result<()> {
+pub fn write(rt: &impl Print, slices: Slices<'_>, length: u64) -> io::Result<()> {
     let mut bytes = room::bytes::<{ room::WRITTEN }>();
     let n = room::within(length, &bytes);
     write_into(rt, slices, &mut bytes[..n])
@@ -65,5 +65,5 @@ pub fn write(rt: &impl Print, slices: Slices<'_>, length: u32) -> io::Result<()>
 
 // The text of a listing, with room of the length that the line asks for.
 pub fn write_text(rt: &impl Print, line: &[u8], slices: Slices<'_>) -> io::Result<()> {
-    write(rt, slices, reading::plain(line, 0))
+    write(rt, slices, u64::from(reading::plain(line, 0)))
 }

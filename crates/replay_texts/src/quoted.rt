@@ -31,6 +31,7 @@ fn put_once(piece: &[u8], out: &mut [u8], from: usize) -> usize
 {
     let mut n = from;
     let mut i = 0;
+    // No `for`: an escape and the byte after it are one step.
     while i < piece.len() {
         let b = piece[i];
         if b == ESCAPE {
@@ -74,6 +75,7 @@ pub fn put_text(line: &[u8], out: &mut [u8]) -> usize
 {
     let mut n = 0;
     let mut from = 0;
+    // No `for`: each pair of quotes is looked for behind the one before it.
     loop {
         let quote = reading::find(line, from, QUOTE);
         if quote == line.len() {

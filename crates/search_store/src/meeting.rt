@@ -29,6 +29,7 @@ impl<'a> Store<'a> {
         ensures { result ≡ index_in same_list (rows (length flag.now) self.now.table.now n) flag.now }
     {
         let mut p = self.chains.heads[h];
+        // No `for`: a chain goes on where the row at hand says.
         while p != 0 {
             let k = p - 1;
             if *row::row_at(&*self.table, usize::from(k), flag.len()) == *flag {

@@ -62,6 +62,7 @@ fn tally_row(
     let mut count: usize = 0;
     let mut named: usize = 0;
     let mut i = at;
+    // No `for`: where a number begins is known only when the one before it is read.
     while let Some(w) = lines::term_at(text, i) {
         subs[to + count] = w.value as Index;
         named += count_known(up, from, n, w.value);

@@ -51,7 +51,7 @@ pub fn is_valid(slices: Slices<'_>) -> Result<(), Refusal>
     ensures { told result ≡ tests.is_valid limits (held slices.entry) }
 {
     let cell = listing_shape::shape(slices)?;
-    bounds::check_bounded(cell)?;
+    bounds::check_bounded(cell.slices.counts)?;
     let matched = incidence::check_all(cell)?;
     dyadic::check_below_top(matched)
 }
@@ -62,7 +62,7 @@ pub fn bounded(slices: Slices<'_>) -> Result<(), Refusal>
     ensures { told result ≡ tests.bounded limits (held slices.entry) }
 {
     let cell = listing_shape::shape(slices)?;
-    bounds::check_bounded(cell)
+    bounds::check_bounded(cell.slices.counts)
 }
 
 // Whether subs and sups match up, and all refer to elements that are there.
@@ -92,7 +92,7 @@ pub fn closed(slices: Slices<'_>) -> Result<ClosedCell<'_>, Refusal>
     ensures same { IfOk result (λ cell. cell.slices ≡ slices.entry) }
 {
     let cell = listing_shape::shape(slices)?;
-    bounds::check_bounded(cell)?;
+    bounds::check_bounded(cell.slices.counts)?;
     let matched = lists::check_lists(cell)?;
     dyadic::check_up_to(matched, slices.counts.len() - 1)?;
     Ok(ClosedCell { slices })
