@@ -17,7 +17,8 @@ pub struct Factor<'a> {
     pub sups: &'a [Index],
 }
 
-// The two factors of a product, and which product it is. The first members of the pairs are of p.
+// The two factors of a product, with their sups counted, and which product it is. The first members of the pairs are
+// of p.
 #[derive(Clone, Copy)]
 pub struct Factors<'a> {
     pub poles: Poles,
