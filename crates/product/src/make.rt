@@ -1,4 +1,5 @@
 // The chain of tests, and then the builder, whichever product it is.
+// Output slices stay parameters of their own: a struct of them would need a clause on each of its parts everywhere.
 ghost use Rattle.std.specs.Prelude.{◌≡◌, false, ◌||◌, ◌*◌, ◌<◌, eqb, length, IfOk};
 ghost use Rattle.listing.specs.Listing.{Listing, held, limits, listing, rank};
 ghost use Rattle.listing.specs.Told.{told, told_built};

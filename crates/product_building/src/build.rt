@@ -1,4 +1,5 @@
 // The product of two factors, written into lent slices.
+// Output slices stay parameters of their own: a struct of them would need a clause on each of its parts everywhere.
 ghost use Rattle.std.specs.Prelude.{◌≡◌, suc, ◌+◌, ◌*◌, ◌≤◌, ◌<◌, length};
 ghost use Rattle.listing.specs.Listing.{width, limits, held};
 ghost use Rattle.listing.specs.Laid.{Laid, LaidList};

@@ -1,4 +1,5 @@
 // One pair, and the pairs of one element of the first factor with all of a rank of the second.
+// Output slices stay parameters of their own: a struct of them would need a clause on each of its parts everywhere.
 ghost use Rattle.std.specs.Prelude.{◌≡◌, cond, [], ◌+◌, ◌*◌, ◌≤◌, ◌<◌, eqb, length, get_or};
 ghost use Rattle.listing.specs.Listing.{width, held, entries, Ends};
 ghost use Rattle.listing_sups.specs.Filling.{starts, Put};

@@ -1,4 +1,5 @@
 // The pairs of two factors, written in their order: by rank, the first member's rank, its index, the second's index.
+// Output slices stay parameters of their own: a struct of them would need a clause on each of its parts everywhere.
 ghost use Rattle.std.specs.Prelude.{◌≡◌, ◌+◌, ◌-◌, ◌*◌, ◌≤◌, length};
 ghost use Rattle.listing_sups.specs.Filling.{starts, ElementsLaid, Put};
 ghost use Rattle.product_pairs.specs.Trimmed.{bit};
