@@ -2,11 +2,9 @@
 -- Assumes nothing.
 use mathlib.Core.Path.{◌≡◌, refl, sym, ap, ◌∙◌}
 use mathlib.Core.Bool.{true, false}
-use Rattle.listing.specs.Listing.{limits, rank}
-use Rattle.listing.specs.Told.{told}
+use Rattle.listing.specs.Listing.{limits}
 use Rattle.listing_shape.specs.Counts.{rank_of, el_count_of, vertex_count_of, facet_count_of}
 use Rattle.listing_outputs.proofs.Output.{made_once}
-use Rattle.valid.specs.Tests as tests
 use Rattle.valid.proofs.TestsClear.{bounded_clear, incidences_clear, is_dyadic_clear, is_valid_clear, closed_clear}
 use Rattle.text.proofs.WrittenTexts.{text_once}
 use Rattle.search_events.specs.Events.{event_at, said_of}

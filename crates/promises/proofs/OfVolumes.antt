@@ -21,7 +21,7 @@ use Rattle.search.proofs.SearchBroken as search
 use Rattle.search.specs.Promised.{room_in}
 use Rattle.volume_metres.specs.Whole.{all_coordinates}
 use Rattle.volume_theory.specs.Six.{even_flags, six_of}
-use Rattle.volume.specs.Volumes.{refused_with, volume_test, volume_by, told_volume}
+use Rattle.volume.specs.Volumes.{unmeasured, volume_test, volume_by, told_volume}
 use Rattle.volume.proofs.Cases.{said}
 use Rattle.volume.proofs.VolumeBroken.{number_is, stopped, as_searched, searched_first}
 use Rattle.volume.proofs.Exact.{volume_promised}
@@ -68,26 +68,26 @@ module _ (L : Listing) (first : List ℕ) (xs : List Float) (table bytes : List 
   abbrev t : Answer
   t = volume_test L.counts xs (said L first xs table bytes)
 
-  zero_beside : let r = volume_by limits L first xs table bytes in r.no ≢ 0 → r ≡ refused_with r.no
+  zero_beside : let r = volume_by limits L first xs table bytes in r.no ≢ 0 → r ≡ unmeasured r.no
   unfolding volume_by
   zero_beside h = if_not t.no _ _ (rw (number_is L first xs table bytes) at h)
-      ∙ ap refused_with (sym (number_is L first xs table bytes))
+      ∙ ap unmeasured (sym (number_is L first xs table bytes))
 
   -- a result that is told as six_volume answers
   test_clear : Clear t
   unfolding volume_test
   test_clear =
       rw (search.said limits L first (every_rank (rank L)) table bytes) (
-        clear_or (search_test limits L first (every_rank (rank L)) _)
-        (clear_or _ (clear_or _ (clear_or _ (clear_plain (not (all_coordinates xs)) not_in_metres)))))
+      clear_or (search_test limits L first (every_rank (rank L)) _)
+      (clear_or _ (clear_or _ (clear_or _ (clear_plain (not (all_coordinates xs)) not_in_metres)))))
 
   test_refused : Refused t
   unfolding volume_test
   test_refused =
       rw (search.said limits L first (every_rank (rank L)) table bytes) (
-        or_refused _ _ (search_refusals L first (every_rank (rank L)) _)
-        (or_refused _ _ (on_refused _ NotRankFour) (or_refused _ _ (on_refused _ NotOrientable)
-        (or_refused _ _ (on_refused _ WrongCoordinates) (on_refused _ NotInMetres)))))
+      or_refused _ _ (search_refusals L first (every_rank (rank L)) _)
+      (or_refused _ _ (on_refused _ NotRankFour) (or_refused _ _ (on_refused _ NotOrientable)
+      (or_refused _ _ (on_refused _ WrongCoordinates) (on_refused _ NotInMetres)))))
 
   pub measured_so : (d : Result Float Refusal) × (told_volume d ≡ volume_by limits L first xs table bytes)
   unfolding volume_by

@@ -2,12 +2,12 @@
 -- Assumes nothing.
 use mathlib.Core.Path.{◌≡◌, refl, sym, ap, ◌∙◌}
 use mathlib.Core.Logic.{◌≢◌, ◌⊎◌, inl, inr}
-use mathlib.Core.Bool.{Bool, not, ◌&&◌, ◌||◌}
+use mathlib.Core.Bool.{Bool, ◌||◌}
 use mathlib.Core.List.{List, [], ◌∷◌}
 use Prim.Native.Nat.{ℕ, zero, suc, ◌+◌, ◌-◌, ◌≤◌}
 use native.Mathlib.Omega.{arith}
 use borrow.Author.Tests.{ne_eqb}
-use lib.Dec.{ltb, eqb}
+use lib.Dec.{ltb}
 use lib.ListN.{length}
 use Rattle.std.proofs.Common.{Result, Ok, Err}
 use Rattle.std.specs.Result.{IfOk}
@@ -21,7 +21,7 @@ use Rattle.listing.specs.declared.Refusal.TheVariants.{NoRanks, OverRanks, OverE
 use Rattle.listing.specs.declared.Refusal.TheVariants.{FallingEnds, NotBounded, Bare, NotBack, Missing, ThirdBetween}
 use Rattle.listing.specs.declared.Refusal.TheVariants.{LoneBetween, NotAscending, NotAFlag, OutsideRanks, MoreFlags}
 use Rattle.listing.specs.declared.Refusal.TheVariants.{SeveralParts, OutputShort}
-use Rattle.listing.specs.declared.Refusal.TheVariants.{WrongKey, BadLine, LongText, MoreBytes, BytesShort}
+use Rattle.listing.specs.declared.Refusal.TheVariants.{WrongKey, BadLine, LongText, MoreBytes}
 use Rattle.listing.specs.Refusals.{output_short}
 use Rattle.listing.specs.Answers.{plain, fine, on, ◌or_else◌}
 use Rattle.listing.specs.Listing.{Listing, Limits, limits, rank, count}
@@ -33,7 +33,7 @@ use Rattle.listing_shape.specs.Counts.{counted}
 use Rattle.listing_outputs.specs.Output.{room_test, short_test, built_of, Made}
 use Rattle.valid.specs.Tests as tests
 use Rattle.text_theory.specs.Said.{bound_of, bound_at, form_test, bound_test, line_test, text_test, said}
-use Rattle.text_theory.specs.Text.{Line, spot, line_at, line_count}
+use Rattle.text_theory.specs.Text.{Line, spot, line_count}
 use Rattle.promises.specs.Named.{Named, of_shape, of_flags, named_not_bounded, named_no_subs, named_no_sups}
 use Rattle.promises.specs.Named.{named_sub_not_back, named_sup_not_back, named_sub_missing, named_sup_missing}
 use Rattle.promises.specs.Named.{named_third_between, named_lone_between, named_not_ascending, named_several_parts}

@@ -15,7 +15,7 @@ use Rattle.search_masks.specs.Masks.{every_rank}
 use Rattle.volume_metres.specs.Points.{Site}
 use Rattle.volume_theory.specs.Six.{cell_rank, Shifted}
 use Rattle.volume.specs.declared.Measured.{Measured}
-use Rattle.volume.specs.Volumes.{refused_with}
+use Rattle.volume.specs.Volumes.{unmeasured}
 use Rattle.volume.specs.Promised.{VolumePromised, Negated}
 use Rattle.flumedrac.proofs.fd_closed.Reads as closed
 use Rattle.flumedrac.proofs.fd_search.Reads as search
@@ -58,7 +58,7 @@ pub record VolumesAnswer : Type 0 where
       (λ a r x c s y. (t : Site) → lent c ≡ lent a → flag c ≡ flag a → Shifted (lent a) t (metres a) (metres c)
       → r.no ≡ 0 → s.no ≡ 0 → s ≡ r)
   -- an answer is told by two numbers: 0 and the volume, or the refusal's and 0.0
-  pub volume_by_numbers : Says six_volume.Post (λ a r x. r.no ≢ 0 → r ≡ refused_with r.no)
+  pub volume_by_numbers : Says six_volume.Post (λ a r x. r.no ≢ 0 → r ≡ unmeasured r.no)
 
 pub record VolumesOnce : Type 0 where
   pub one_six_volume : OneOutcome six_volume.Post tables
