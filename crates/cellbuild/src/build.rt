@@ -1,4 +1,5 @@
-// From two texts to the text of a product. Each cell is read into arrays of its own and lent on.
+// From two texts to the text of a product. Each cell is read into arrays of its own and lent on, since no memory is
+// asked for.
 use crate::say;
 use listing::{Index, Refusal, Slices, limit};
 use listing_outputs::outputs;

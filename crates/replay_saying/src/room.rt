@@ -1,5 +1,6 @@
 // Arrays to read into and to lend, full of the largest number, each a little larger than its limit, and how much of
-// them is lent. The contract of an array fixes what is returned, and then gives the length, which lending it needs.
+// them is lent: no memory is asked for. The contract of an array fixes what is returned, and then gives the length,
+// which lending it needs.
 ghost use Rattle.std.specs.Prelude.{◌≡◌, ◌≤◌, ◌-◌, min, length, take, replicate};
 ghost use Rattle.listing.specs.Listing.{width};
 
@@ -52,7 +53,8 @@ pub fn within<T>(n: u64, room: &[T]) -> usize
     room.len().min(n as usize)
 }
 
-// Lends three slices of these lengths for a listing, as far as there is so much room.
+// Lends three slices of these lengths for a listing, as far as there is so much room. They stay apart while they are
+// written: the entries take them so.
 pub fn for_listing<F>(counts: u32, ends: u32, inc: u32, lend: F) -> io::Result<()>
 where
     F: FnOnce(&mut [Index], &mut [Index], &mut [Index]) -> io::Result<()>,
