@@ -30,17 +30,41 @@ counted_broken (c ∷ counts) n = inr (omega arith, rw (ne_eqb (length (c ∷ co
 abbrev word : ℕ
 word = 2 ^ 64
 
--- two less than the number of ranks, wrapped, names the rank below the top, or none
-pub facets_wrapped : (counts : List ℕ) (r : ℕ) → length counts < word → r < word → (r + 2) % word ≡ length counts
-    → el_count_of counts r ≡ facet_count_of counts
-unfolding el_count_of facet_count_of facets
-facets_wrapped counts r f g h = go (leb 2 (length counts)) refl
+-- the rank less one, wrapped, counts the facets
+wrapped : (counts : List ℕ) (v r : ℕ) → (rank_of counts).value ≡ v → length counts < word → r < word
+    → (r + 1) % word ≡ v → (length counts ≡ 0 → ⊥) → get_or counts r 0 ≡ facets counts
+unfolding facets rank_of
+wrapped counts v r e f g h some = go (leb 2 (length counts)) refl
   where
-    go : (q : Bool) → leb 2 (length counts) ≡ q
-        → counted counts (get_or counts r 0) ≡ counted counts (cond q (get_or counts (length counts - 2) 0) 0)
+    at : length counts - 1 ≡ v
+    at = ap (λ (n : Number). n.value) (sym (counted_some counts (length counts - 1) some)) ∙ e
+
+    go : (q : Bool) → leb 2 (length counts) ≡ q → get_or counts r 0 ≡ cond q (get_or counts (length counts - 2) 0) 0
     go true t =
-        let i : r ≡ length counts - 2 = omega (arith, leb-true 2 (length counts) t) in
-        ap (λ (k : ℕ). counted counts (get_or counts k 0)) i
+        let i : r ≡ length counts - 2 = omega (arith, leb-true 2 (length counts) t, at) in
+        ap (λ (k : ℕ). get_or counts k 0) i
+    go false t = get_or-eq_default counts 0 (omega (arith, leb-false 2 (length counts) t, at))
+
+pub facets_wrapped : (counts : List ℕ) (v r : ℕ) → (rank_of counts).value ≡ v → length counts < word → r < word
+    → (r + 1) % word ≡ v → el_count_of counts r ≡ facet_count_of counts
+unfolding el_count_of facet_count_of
+facets_wrapped counts v r e f g h = go (eqb (length counts) 0) refl
+  where
+    go : (q : Bool) → eqb (length counts) 0 ≡ q → counted counts (get_or counts r 0) ≡ counted counts (facets counts)
+    go true t =
+        let z = eqb-true (length counts) 0 t in
+        counted_none counts _ z ∙ sym (counted_none counts _ z)
+    go false t = ap (counted counts) (wrapped counts v r e f g h (eqb-false (length counts) 0 t))
+
+-- where the rank is refused, so are the facets
+pub no_facets : (counts : List ℕ) (n : Number) → n ≡ rank_of counts → (n.no ≡ 0 → ⊥) → n ≡ facet_count_of counts
+unfolding rank_of facet_count_of
+no_facets counts n e h = go (eqb (length counts) 0) refl
+  where
+    go : (q : Bool) → eqb (length counts) 0 ≡ q → n ≡ counted counts (facets counts)
+    go true t =
+        let z = eqb-true (length counts) 0 t in
+        e ∙ counted_none counts _ z ∙ sym (counted_none counts _ z)
     go false t =
-        let few = leb-false 2 (length counts) t in
-        ap (counted counts) (get_or-eq_default counts 0 (omega (arith, few)))
+        let some = counted_some counts (length counts - 1) (eqb-false (length counts) 0 t) in
+        absurd (h (ap (λ (k : Number). k.no) (e ∙ some)))

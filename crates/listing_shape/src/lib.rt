@@ -68,12 +68,12 @@ pub fn vertex_count(counts: &[Index]) -> Result<usize, Refusal>
     el_count(counts, 1)
 }
 
-// The number of elements of the rank below the top. The nullitope has none: two less than its one rank wraps, to a rank
-// that is not there.
+// The number of elements of the rank below the top. The nullitope has none: its rank less one wraps, to a rank that is
+// not there.
 pub fn facet_count(counts: &[Index]) -> Result<usize, Refusal>
     ensures { told_number result ≡ facet_count_of counts.now }
 {
-    el_count(counts, counts.len().wrapping_sub(2))
+    el_count(counts, rank(counts)?.wrapping_sub(1))
 }
 
 // Whether the ends do not fall, and come to n.

@@ -21,7 +21,7 @@ use Rattle.product_places.specs.Blocks.{BlockOf}
 use Rattle.product_places.proofs.Numbers.{bit_le, product_le, number_at, number_more, number_lt, first_le}
 use Rattle.product_element.specs.declared.Factors.{Factors}
 use Rattle.product_element.specs.Pairs.{subs_in_use, under_pair, over_pair, size_of, Plan}
-use Rattle.product_element.specs.Writing.{lists_in, number_in, first_in, BlockIn, Writable}
+use Rattle.product_element.specs.Writing.{lists_in, number_in, begins_in, BlockIn, Writable}
 
 cond_le : (b : Bool) → cond b 1 0 ≤ 1
 cond_le true = omega arith
@@ -41,7 +41,7 @@ module _ {f : Factors} {ends inc : List ℕ} (w : Writable f ends inc) where
 
   -- the pairs are few
   pub first_few : (R i : ℕ) → i ≤ R + 1 → R + 2 ≤ length P.counts + length Q.counts
-      → first_in f R i ≤ limits.elements
+      → begins_in f R i ≤ limits.elements
   unfolding size_of
   first_few R i h k =
       let n = length P.counts + length Q.counts in

@@ -2,7 +2,7 @@
 --
 -- lists_in    the lists of the product of two factors
 -- number_in   the number, among all elements, of the pair of the elements a and b of a block's ranks
--- first_in    the number of the first pair of rank R whose first member is of rank i or higher, among all elements
+-- begins_in   the number of the first pair of rank R whose first member is of rank i or higher, among all elements
 -- size_in     how many elements the product has
 -- BlockIn     the numbers of a block of pairs of the factors
 -- Writable    there is a plan for the factors, and slices as long as it asks for
@@ -21,8 +21,8 @@ module _ (f : Factors) where
   abbrev pub number_in : Block → ℕ → ℕ → ℕ
   number_in B a b = in_block f.poles f.p.slices.counts.now f.q.slices.counts.now B a b
 
-  abbrev pub first_in : ℕ → ℕ → ℕ
-  first_in R i = first_at f.poles.min f.p.slices.counts.now f.q.slices.counts.now R i
+  abbrev pub begins_in : ℕ → ℕ → ℕ
+  begins_in R i = first_at f.poles.min f.p.slices.counts.now f.q.slices.counts.now R i
 
   abbrev pub size_in : ℕ
   size_in = size_of f.poles.min f.poles.max f.p.slices.counts.now f.q.slices.counts.now

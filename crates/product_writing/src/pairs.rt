@@ -3,7 +3,7 @@ ghost use Rattle.std.specs.Prelude.{◌≡◌, ◌+◌, ◌-◌, ◌*◌, ◌≤
 ghost use Rattle.listing_sups.specs.Filling.{starts, ElementsLaid, Put};
 ghost use Rattle.product_pairs.specs.Trimmed.{bit};
 ghost use Rattle.product_places.specs.Places.{pairs_to};
-ghost use Rattle.product_element.specs.Writing.{lists_in, first_in, size_in, BlockIn, Writable};
+ghost use Rattle.product_element.specs.Writing.{lists_in, begins_in, size_in, BlockIn, Writable};
 
 use listing::{Index, reading};
 use product_element::{Factors, pair};
@@ -21,9 +21,9 @@ fn put_block(
 ) -> usize
     requires writable { Writable factors ends.old inc.old }
     requires block_of { BlockIn factors block }
-    requires at_value { at ≡ starts (lists_in factors) (2 * first_in factors (block.i + block.j) block.i) }
-    ensures { Put (lists_in factors.entry) (first_in factors.entry (block.i + block.j) block.i)
-        (first_in factors.entry (block.i + block.j) (block.i + 1)) result ends.old inc.old ends.new inc.new }
+    requires at_value { at ≡ starts (lists_in factors) (2 * begins_in factors (block.i + block.j) block.i) }
+    ensures { Put (lists_in factors.entry) (begins_in factors.entry (block.i + block.j) block.i)
+        (begins_in factors.entry (block.i + block.j) (block.i + 1)) result ends.old inc.old ends.new inc.new }
 {
     if block.qcount == 0 {
         return at;
@@ -48,9 +48,9 @@ fn put_rank(
     requires rank_in_bounds { rank + 2 ≤ length factors.p.slices.counts.now + length factors.q.slices.counts.now }
     requires start_value { start ≡ bit factors.poles.min
         + pairs_to factors.p.slices.counts.now factors.q.slices.counts.now rank }
-    requires at_value { at ≡ starts (lists_in factors) (2 * first_in factors rank 0) }
-    ensures { Put (lists_in factors.entry) (first_in factors.entry rank 0) (first_in factors.entry (rank + 1) 0) result
-        ends.old inc.old ends.new inc.new }
+    requires at_value { at ≡ starts (lists_in factors) (2 * begins_in factors rank 0) }
+    ensures { Put (lists_in factors.entry) (begins_in factors.entry rank 0)
+        (begins_in factors.entry (rank + 1) 0) result ends.old inc.old ends.new inc.new }
 {
     let p = factors.p.slices.counts;
     let q = factors.q.slices.counts;
@@ -66,9 +66,9 @@ fn put_rank(
 #[tactic(auto, using(product_places::proofs::Numbers::ranks))]
 fn put_ranks(factors: Factors<'_>, ends: &mut [Index], inc: &mut [Index], at: usize) -> usize
     requires writable { Writable factors ends.old inc.old }
-    requires at_value { at ≡ starts (lists_in factors) (2 * first_in factors 0 0) }
-    ensures { Put (lists_in factors.entry) (first_in factors.entry 0 0)
-        (first_in factors.entry
+    requires at_value { at ≡ starts (lists_in factors) (2 * begins_in factors 0 0) }
+    ensures { Put (lists_in factors.entry) (begins_in factors.entry 0 0)
+        (begins_in factors.entry
         (length factors.entry.p.slices.counts.now + length factors.entry.q.slices.counts.now - 1) 0) result
         ends.old inc.old ends.new inc.new }
 {

@@ -43,6 +43,14 @@ pub fn every(rank: usize) -> u16
     (1u16 << rank).saturating_sub(2)
 }
 
+// Whether any change is left: whether the mask has a one.
+#[tactic(auto, using(crate::proofs::Low::any_ones))]
+pub fn any_left(left: u16) -> bool
+    ensures { result ≡ ltb 0 left }
+{
+    left.count_ones() != 0
+}
+
 // The rank of the next change.
 pub fn lowest(left: u16) -> u16
     requires { 0 < left }

@@ -20,7 +20,7 @@ use Rattle.search_store.specs.declared.Found.{Found}
 use Rattle.search_store.specs.declared.Store.{Store}
 use Rattle.search_index.specs.Rows.{rows, same_list}
 use Rattle.search_index.specs.Hash.{hash_of}
-use Rattle.search_store.specs.Held.{state_of, state_in, SameLent, Held, Added, Rest, Moved}
+use Rattle.search_store.specs.Held.{state_of, state_in, SameLent, Held, AddedRow, Rest, Moved}
 use Rattle.search_index.proofs.Hash.{hash_small}
 use Rattle.search_index.proofs.Rows.{row_end, rows_length, put_length, put_rest, put_rows}
 use Rattle.search_index.proofs.Indexing.{index_more}
@@ -167,7 +167,7 @@ module _ (w : ℕ) (t : Store) (s : Found) (H : Held w t s.count) where
 -- it is new, and was added
 module _ (t : Store) (s : Found) (flag : List ℕ) (H : Held (length flag) t s.count) (h b k : ℕ) (e : h ≡ hash_of flag)
     (d : k ≡ index_in same_list (rows (length flag) t.table.now s.count) flag) (i : s.count ≤ k) (r : s.count < t.room)
-    (u : Store) (A : Added t flag h b s.count u)
+    (u : Store) (A : AddedRow t flag h b s.count u)
   where
     abbrev w : ℕ
     w = length flag

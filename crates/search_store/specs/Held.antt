@@ -7,7 +7,7 @@
 --            or that one more turned up than there is room for; the place that the search has then is not kept
 -- SameLent   what is lent to a store is lent to it still
 -- Held       the table and the bytes have the room, n rows of it are in use, and these are indexed
--- Added      the flag, whose hash is h, stands in row n, with a byte
+-- AddedRow   the flag, whose hash is h, stands in row n, with a byte
 -- Rest       what stands past the first n rows and bytes is as it was
 -- Moved      the code has come from what was found, s, with one store, to a result, with the store as another: that
 --            stands for the state S, is held, and the rest is as it was
@@ -60,7 +60,7 @@ pub record Held (w : ℕ) (t : Store) (n : ℕ) : Type 0 where
   pub fits : n ≤ t.room
   pub indexed : Indexed w n t.table.now t.chains
 
-pub record Added (t : Store) (flag : List ℕ) (h byte n : ℕ) (u : Store) : Type 0 where
+pub record AddedRow (t : Store) (flag : List ℕ) (h byte n : ℕ) (u : Store) : Type 0 where
   pub same : SameLent t u
   pub table : u.table.now ≡ paste t.table.now (n * length flag) flag (length flag)
   pub bytes : u.bytes.now ≡ set t.bytes.now n byte

@@ -5,7 +5,7 @@ ghost use Rattle.search_theory.specs.Search.{meet as meet_in, index_in};
 ghost use Rattle.search_index.specs.Hash.{hash_of};
 ghost use Rattle.search_index.specs.Rows.{row_of, rows, same_list};
 ghost use Rattle.search_index.specs.Index.{Indexed};
-ghost use Rattle.search_store.specs.Held.{state_in, Held, Added, Moved};
+ghost use Rattle.search_store.specs.Held.{state_in, Held, AddedRow, Moved};
 
 use crate::{Found, Store};
 use listing::{Index, Refusal};
@@ -45,7 +45,7 @@ impl<'a> Store<'a> {
         requires hash { h ≡ hash_of flag.now }
         requires fits { (n * length flag.now + length flag.now ≤ length self.now.table.now)
             × (n < length self.now.bytes.now) × (n < limits.flags) }
-        ensures { Added self.old flag.now h byte n self.new }
+        ensures { AddedRow self.old flag.now h byte n self.new }
     {
         let at = usize::from(n);
         row::put_row(self.table, at, flag);

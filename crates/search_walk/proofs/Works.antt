@@ -1,10 +1,13 @@
 -- The changes of one flag are met, from the lowest rank upward.
 -- Assumes nothing.
 use mathlib.Core.Path.{◌≡◌, refl, sym, ap, ◌∙◌}
+use mathlib.Core.Bool.{Bool, true}
 use mathlib.Core.Logic.{inl, inr}
 use mathlib.Core.List.{List, ◌∷◌, map}
 use Prim.Native.Nat.{ℕ, ◌-◌, ◌^◌, ◌<◌}
 use native.Mathlib.Omega.{arith}
+use borrow.Author.Tests.{ltb-true}
+use lib.Dec.{ltb}
 use lib.Count.{count_trailing_zeros}
 use lib.ListN.{length}
 use Rattle.std.specs.Prelude.{Ok, Err}
@@ -39,6 +42,10 @@ pub working_start : (L : Listing) (byte : ℕ) (f : List ℕ) {t : Store} {s : F
     (meet_all same_list t.room byte (state_in (length L.counts) t s) (mask_changes L mask f)) t mask s
 working_start L byte f mask H m w =
     record { moved = moved_none _ _ _ H refl refl; small = m; inner = w; whole = refl }
+
+-- a change is left
+pub some_left : {left : ℕ} {any : Bool} → any ≡ ltb 0 left → any ≡ true → 0 < left
+some_left e h = ltb-true 0 _ (sym e ∙ h)
 
 -- the lowest rank that is left, and those after it
 module _ (left : ℕ) (m : left < width) (p : 0 < left) (r : ℕ) (e : r ≡ count_trailing_zeros limits.ranks left) where

@@ -89,7 +89,7 @@ fn work(
     let byte = parity::flipped(store.bytes[at]);
     let mut left = mask;
     let mut s = start;
-    while left != 0 {
+    while mask::any_left(left) {
         let r = mask::lowest(left);
         left = mask::without(left, r);
         s = try_next(cell, ranks, store, flag, sum, r, byte, s)?;

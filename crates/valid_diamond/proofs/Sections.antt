@@ -18,7 +18,7 @@ use Rattle.listing.proofs.Places.{side_at, side_fits, few_in_rank}
 use Rattle.listing.proofs.Told.{refuses}
 use Rattle.valid_incidence.specs.Incidence.{Incident}
 use Rattle.valid_diamond.specs.Dyadic.{subs_of_all, third, lone, sections_test}
-use Rattle.valid_diamond.specs.Tally.{Tallied, lone_in, Under}
+use Rattle.valid_diamond.specs.Tally.{Tallied, lone_in, SubsUnder}
 use Rattle.valid_diamond.proofs.OneTwice.{pair_passes}
 use Rattle.valid_diamond.proofs.Walks.{walk_same, walkable, lone_same, sections_stop, sections_go}
 
@@ -35,7 +35,7 @@ module _ (L : Listing) (S : Shaped limits L) (r q i b n : ℕ) (rank_is : q ≡ 
   subs_there = rw here (side_fits L S r i 0 in_rank (omega arith))
 
   pub subs_under : Incident L → (list : List ℕ)
-      → list ≡ entries L.ends L.inc (2 * (b + n + i) + 0) → Under L r i b limits.elements list
+      → list ≡ entries L.ends L.inc (2 * (b + n + i) + 0) → SubsUnder L r i b limits.elements list
   subs_under I list e =
       let its = e ∙ side_at L _ r i 0 here in record {
         walks = walkable L S I r i in_rank below its;
@@ -45,7 +45,7 @@ module _ (L : Listing) (S : Shaped limits L) (r q i b n : ℕ) (rank_is : q ≡ 
 
 -- ---- the answer of its sections
 
-module _ (L : Listing) (r i b n : ℕ) (list : List ℕ) (U : Under L r i b n list) where
+module _ (L : Listing) (r i b n : ℕ) (list : List ℕ) (U : SubsUnder L r i b n list) where
   -- one index is met twice and nothing else
   pub pair_answer : (twice : Bool) → twice ≡ true
       → (twice ≡ true → (x : ℕ) × (subs_of_all L.ends L.inc b list ≡ x ∷ x ∷ [])) → fine ≡ sections_test L r i

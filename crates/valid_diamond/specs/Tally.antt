@@ -8,7 +8,7 @@
 -- lone_in    the refusal f x at the smallest index x below n whose count is 1
 -- undone     a tally, with the counts of a list's indices set back to 0, the last first
 -- Walkable   the numbers of a list are elements whose lists begin at place b, and the subs of these are below n
--- Under      a list is the subs of element i of rank r: it can be walked, and that meets what the walk under i does
+-- SubsUnder  a list is the subs of element i of rank r: it can be walked, and that meets what the walk under i does
 use Rattle.std.specs.Prelude.{◌≡◌, cond, List, [], ◌∷◌, ℕ, ◌+◌, ◌-◌, ◌*◌, ◌≤◌, ◌<◌, leb, eqb, length, get_or, set}
 use Rattle.order.specs.Lists.{In, occurs}
 use Rattle.listing.specs.declared.Answer.{Answer}
@@ -47,7 +47,7 @@ pub record Walkable (ends inc : List ℕ) (b n : ℕ) (list : List ℕ) : Type 0
   pub there : (s : ℕ) → In s list → 2 * (b + s) + 0 < length ends
   pub inside : (s x : ℕ) → In s list → In x (entries ends inc (2 * (b + s) + 0)) → x < n
 
-pub record Under (L : Listing) (r i b n : ℕ) (list : List ℕ) : Type 0 where
+pub record SubsUnder (L : Listing) (r i b n : ℕ) (list : List ℕ) : Type 0 where
   pub walks : Walkable L.ends L.inc b n list
   pub met : subs_of_all L.ends L.inc b list ≡ walk L r i
   pub few : count L (r - 2) ≤ n

@@ -6,7 +6,7 @@ ghost use Rattle.listing.specs.Answers.{first_of};
 ghost use Rattle.listing.specs.Listing.{width, held, limits, before};
 ghost use Rattle.listing.specs.Told.{told};
 ghost use Rattle.valid_diamond.specs.Dyadic.{subs_of_all, seen_after, third, lone, sections_test, dyadic_test};
-ghost use Rattle.valid_diamond.specs.Tally.{MetIn, TotalsIn, Tally, Tallied, lone_in, undone, Walkable, Under};
+ghost use Rattle.valid_diamond.specs.Tally.{MetIn, TotalsIn, Tally, Tallied, lone_in, undone, Walkable, SubsUnder};
 
 use listing::{Element, Index, Refusal, Side, limit};
 use valid_incidence::MatchedCell;
@@ -207,7 +207,7 @@ fn meets_one_twice(cell: MatchedCell<'_>, b: usize, subs: &[Index]) -> bool
 fn subs_of<'a>(cell: MatchedCell<'a>, b: usize, of: Element) -> &'a [Index]
     requires b_value { (b ≡ before cell.slices.counts.now (of.rank - 1)) × (2 ≤ of.rank) }
     requires in_rank { of.index < get_or cell.slices.counts.now of.rank 0 }
-    ensures { Under (held cell.entry.slices) of.rank of.index b limits.elements result.now }
+    ensures { SubsUnder (held cell.entry.slices) of.rank of.index b limits.elements result.now }
 {
     let below = cell.slices.counts[usize::from(of.rank) - 1];
     cell.side_of(b + usize::from(below), of.index, Side::Subs)

@@ -4,7 +4,7 @@ use Prim.Native.Nat.{ℕ, ◌+◌, ◌-◌}
 use native.Mathlib.Omega.{arith}
 use Rattle.listing_sups.proofs.Laying.{put_then}
 use Rattle.product_places.proofs.Numbers.{first_next}
-use Rattle.product_element.specs.Writing.{first_in}
+use Rattle.product_element.specs.Writing.{begins_in}
 use Rattle.product_element.proofs.Fits.{first_few, block_put}
 use Rattle.product_writing.proofs.pairs.put_rank.Goals as goal
 
@@ -20,7 +20,7 @@ block_of-block-requires-clause-i_bound c =
 
 pub loop-i-preserved : goal.loop-i-preserved
 loop-i-preserved c =
-    let number : ℕ → ℕ = first_in c.args.factors c.args.rank in
+    let number : ℕ → ℕ = begins_in c.args.factors c.args.rank in
     let i = c.loop-i.i in
     let whole : i + (c.args.rank - i) ≡ c.args.rank = omega arith in
     put_then _ (number 0) (number i) (number (i + 1)) _ _ _ _ _ _ _ _ c.loop-i.invariant

@@ -3,7 +3,7 @@ use Prim.Native.Nat.{ℕ, ◌+◌}
 use native.Mathlib.Omega.{arith}
 use Rattle.listing_sups.proofs.Laying.{put_then}
 use Rattle.product_places.proofs.Numbers.{pairs_next}
-use Rattle.product_element.specs.Writing.{first_in}
+use Rattle.product_element.specs.Writing.{begins_in}
 use Rattle.product_element.proofs.Fits.{first_few}
 use Rattle.product_writing.proofs.pairs.put_ranks.Goals as goal
 
@@ -14,7 +14,7 @@ overflow_add-start c =
 
 pub loop-rank-preserved : goal.loop-rank-preserved
 loop-rank-preserved c =
-    let number : ℕ → ℕ = λ r. first_in c.args.factors r 0 in
+    let number : ℕ → ℕ = λ r. begins_in c.args.factors r 0 in
     let r = c.loop-rank.rank in
     let v = c.loop-rank.invariant in record {
       begins = omega (arith, pairs_next);

@@ -9,13 +9,13 @@ use Rattle.search_walk.proofs.Runs.{worked}
 use Rattle.search_walk.proofs.Works.{Working}
 use Rattle.search_walk.proofs.walk.work.Given as goal
 
-abbrev pub invariant-loop-left : goal.invariant-loop-left
-invariant-loop-left l =
+abbrev pub invariant-loop-flag : goal.invariant-loop-flag
+invariant-loop-flag l =
     let L = held l.cell.slices in
     let i = l.initial in
     let f = row_of (length L.counts) i.store.table.now l.k in
     (l.flag ≡ f)
     × Working L i.store i.s (1 - get_or i.store.bytes.now l.k 0) f (worked L l.mask i.store i.s l.k) l.store l.left l.s
 
-abbrev pub decreases-loop-left : goal.decreases-loop-left
-decreases-loop-left l = l.left
+abbrev pub decreases-loop-flag : goal.decreases-loop-flag
+decreases-loop-flag l = l.left
