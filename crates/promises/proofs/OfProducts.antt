@@ -91,7 +91,8 @@ product_refused min max A B c e i =
 pub product_so : (min max : Bool) {A B old new : Listing} {r : Built} → Outcome limits min max A B old new r
     → (d : Result Lengths Refusal) × Outcome limits min max A B old new (told_built d) × (r ≡ told_built d)
 product_so min max {A} {B} o =
-    let d = built_so (plain_clear (product_plain limits min max A B _ _ _)) (product_refused min max A B _ _ _) o.made in
+    let d = built_so (plain_clear (product_plain limits min max A B _ _ _)) (product_refused min max A B _ _ _)
+    o.made in
     (d.0, record { made = d.1 }, d.2)
 
 -- ---- no second answer

@@ -81,7 +81,8 @@ tests_refuse = record {
 
 pub tests_named : TestsNamed
 tests_named = record {
-  shape_names = λ k a r x p. rw (p.2 ∙ p.1.0) (shape_tells (Named 0 (lent a)) (λ n p q. of_shape n p q) limits (lent a));
+  shape_names = λ k a r x p. rw (p.2 ∙ p.1.0)
+      (shape_tells (Named 0 (lent a)) (λ n p q. of_shape n p q) limits (lent a));
   bounded_names = λ k a r x p. rw p (bounded_named limits (lent a));
   incidences_name = λ k a r x p. rw p (incidences_named limits (lent a));
   dyadic_names = λ k a r x p. rw p (dyadic_named limits (lent a));
