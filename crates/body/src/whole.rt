@@ -20,6 +20,7 @@ fn first_sups(cell: ClosedCell<'_>) -> [Index; limit::RANKS]
     let counts = cell.slices.counts;
     let mut flag: [Index; limit::RANKS] = [0; limit::RANKS];
     let mut here: usize = 0;
+    // By index: each number comes from the one before.
     for r in 1..counts.len() {
         let sups = cell.slices.side_of(here, flag[r - 1], Side::Sups);
         flag[r] = sups[0];

@@ -12,7 +12,8 @@ use listing_outputs::outputs;
 use listing_outputs::outputs::Room;
 
 // Writes the dual of a listing: the ranks from the top down, with the subs and the sups of each element changed over.
-// All that is refused is known before a number is written.
+// All that is refused is known before a number is written. The output slices stay parameters of their own, as in
+// `write`.
 pub fn dual(
     slices: Slices<'_>,
     counts: &mut [Index],

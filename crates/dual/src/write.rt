@@ -1,5 +1,6 @@
 // The dual of a cell, written into lent slices that have room for it: the counts, and then, rank by rank from
 // the highest down, the sups and the subs of each element.
+// Output slices stay parameters of their own: a struct of them would need a clause on each of its parts everywhere.
 ghost use Rattle.std.specs.Prelude.{◌≡◌, ◌+◌, ◌*◌, ◌≤◌, ◌<◌, length};
 ghost use Rattle.order.specs.Sums.{sum};
 ghost use Rattle.order.specs.Lists.{over};

@@ -66,7 +66,8 @@ pub fn check_flag<'a>(slices: Slices<'a>, flag: &[Index]) -> Result<ClosedCell<'
     Ok(closed)
 }
 
-// The first number of one list that another, ascending one holds too and that is not e; 0 where there is none.
+// The first number of one list that another, ascending one holds too and that is not e; 0 where there is none, as
+// `other` of the definitions says.
 fn other_among(short: &[Index], long: &[Index], e: Index) -> Index
     requires { Ascending long.now }
     ensures { result ≡ other e (common short.now long.now) }

@@ -9,7 +9,8 @@ pub mod limit;
 pub mod numbers;
 pub mod reading;
 
-// A number of a listing: a count, an end, an index. Its width is `width` in specs/Listing.
+// A number of a listing: a count, an end, an index. Its width is `width` in specs/Listing. `as Index` stands where a
+// contract bounds the number: `try_from` would need a refusal that cannot come.
 pub type Index = u16;
 
 // The largest number of a listing.
@@ -139,7 +140,7 @@ pub struct Number {
     pub value: usize,
 }
 
-// How many numbers were written into each output slice.
+// How many numbers were written into each output slice: as wide as in the C record `Built`.
 #[derive(Clone, Copy)]
 pub struct Lengths {
     pub counts: u16,

@@ -1,4 +1,4 @@
-// The numbers of the refusals.
+// The numbers of the refusals. The C header gives them; they are used only where a `Refusal` becomes an `Answer`.
 
 // Shape.
 pub const NO_RANKS: u16 = 1;

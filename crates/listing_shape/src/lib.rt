@@ -10,7 +10,7 @@ ghost use Rattle.listing_shape.specs.Counts.{rank_of, el_count_of, vertex_count_
 
 use listing::{Band, Cell, Index, Refusal, Slices, limit, reading};
 
-// The class that a refusal's number falls into.
+// The class that a refusal's number falls into: by number, for C, which has no enum.
 #[tactic(auto, using(crate::proofs::Bands::bands))]
 pub fn class(no: u16) -> Option<Band>
     ensures { result ≡ band no }

@@ -1,4 +1,5 @@
 // Sups derived from subs: counted, and filled in.
+// Output slices stay parameters of their own: a struct of them would need a clause on each of its parts everywhere.
 ghost use Rattle.std.specs.Prelude.{◌≡◌, [], ◌∷◌, ℕ, ◌+◌, ◌*◌, ◌≤◌, ◌<◌, length, get_or, replicate};
 ghost use Rattle.order.specs.Lists.{occurs};
 ghost use Rattle.order.specs.Sums.{sum};
@@ -102,6 +103,7 @@ fn fill_element(
     ensures strewn { Strewn from n (λ y. replicate (occurs y (span inc.old lo hi)) k)
         next.old inc.old inc.new }
 {
+    // By index: `inc` is written while a list of it is read.
     for t in lo..hi {
         let x = usize::from(inc[t]);
         fill_entry(inc, next, from, n, x, k);

@@ -1,4 +1,5 @@
-// The four products of cells, under the names that the promises and the C interface say. Each is `make` of its poles.
+// The four products of cells, under the names that the promises and the C interface say. Each is `make` of its poles,
+// and takes its output slices one by one as `make` does.
 #![tactic(auto)]
 
 pub mod make;

@@ -18,7 +18,8 @@ pub struct Block {
     pub base: usize,
     // the number of the first pair
     pub from: usize,
-    // whether the added minimal element lies under the pairs, and it alone
+    // whether the added minimal element lies under the pairs, and it alone: a yes or no beside numbers that are there
+    // either way
     pub low: bool,
     // how many added elements lie over each pair
     pub cap: usize,

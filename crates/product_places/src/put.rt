@@ -1,4 +1,5 @@
 // Numbers written at a place of a slice.
+// Output slices stay parameters of their own: a struct of them would need a clause on each of its parts everywhere.
 ghost use Rattle.std.specs.Prelude.{◌≡◌, cond, ℕ, ◌+◌, ◌*◌, ◌≤◌, ◌<◌, length, get_or, set};
 ghost use Rattle.order.specs.Lists.{In};
 ghost use Rattle.listing.specs.Listing.{width};
@@ -15,7 +16,8 @@ pub struct Spot {
     pub at: usize,
 }
 
-// How the subs of an element follow from those of its two members: a 0 where `low` is set, then left + x * scale for
+// How the subs of an element follow from those of its two members: a 0 where `low` is set (the numbers beside it are
+// there either way), then left + x * scale for
 // each sub x of the first, then right + y for each sub y of the second.
 #[derive(Clone, Copy)]
 pub struct Shift {

@@ -1,5 +1,6 @@
 // Each question read from its line and put to the function that it names. The functions are told apart by letters of
 // their names. By whole names, a line that no list has, with a name of its own, would be answered in another way.
+// The runtime, the line and the cell go one by one: each function passes on other ones of them.
 ghost use Rattle.std.specs.Prelude.{◌<◌};
 ghost use Rattle.listing.specs.Listing.{width};
 

@@ -1,4 +1,4 @@
-// Questions on counts, on one cell, and on the number of a refusal.
+// Questions on counts, on one cell, and on the number of a refusal; told apart by letters, as in `ask`.
 use listing::{Answer, Index, Number, Refusal, Slices};
 use replay_reading::text;
 use replay_saying::say;

@@ -1,4 +1,4 @@
-// Questions on flags: changes, searches, and their events.
+// Questions on flags: changes, searches, and their events; told apart by letters, as in `ask`.
 use flag::{Changed, Orientation};
 use listing::{Answer, Index, Refusal, Slices};
 use replay_reading::text;

@@ -33,7 +33,7 @@ fn line(rt: &impl Print, text: &[u8]) -> io::Result<()> {
 // All lines.
 fn all(rt: &impl Print, text: &[u8]) -> io::Result<()> {
     let mut at = 0;
-    // No `for`: where a line begins is known only when the end of the one before it is found.
+    // No `for`: `split` would give one line more, an empty one, at the end.
     while at < text.len() {
         let end = text::find(text, at, b'\n');
         line(rt, &text[at..end])?;

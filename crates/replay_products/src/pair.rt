@@ -7,7 +7,8 @@ use replay_reading::text;
 use replay_saying::{room, say};
 use std::io;
 
-// Whether the line asks for a product and what the tests say of it: it begins with the word 'tested'.
+// Whether the line asks for a product and what the tests say of it: it begins with the word 'tested'. Questions are
+// told apart by letters here, as where they are read.
 fn is_tested(line: &[u8]) -> bool {
     text::letter(line, 0) == b't'
 }
@@ -56,10 +57,7 @@ fn besides(rt: &impl Print, line: &[u8], slices: Slices<'_>) -> io::Result<()> {
 
 // Whether more is asked than the product.
 fn asks_more(line: &[u8]) -> bool {
-    if is_tested(line) {
-        return true;
-    }
-    is_written(line)
+    is_tested(line) || is_written(line)
 }
 
 // What a product answered and left in its slices: all of it or, where more is asked, that of what it wrote; of a
@@ -80,7 +78,7 @@ fn left(
     }
 }
 
-// The product that the line asks for, and what it left in the slices lent.
+// The product that the line asks for, and what it left in the slices lent, one by one as `make` takes them.
 fn product_in(
     rt: &impl Print,
     line: &[u8],

@@ -12,7 +12,7 @@ use listing::Index;
 const LARGEST: u32 = u32::MAX;
 
 // A number that is being read: its value, how often it stands, and whether a star has come, after which the digits say
-// how often.
+// how often: a field and no variant, since the definitions step this record byte by byte (`with_byte`).
 #[derive(Clone, Copy)]
 pub struct Item {
     pub value: u32,
@@ -34,14 +34,14 @@ pub fn letter(line: &[u8], at: usize) -> u8
     line.get(at).copied().unwrap_or(0)
 }
 
-// A number of 16 bits.
+// A number of 16 bits, the largest where it is larger: no `From` does that.
 pub fn narrow(v: u32) -> Index
     ensures { result ≡ min v (width - 1) }
 {
     Index::try_from(v).unwrap_or(listing::LARGEST)
 }
 
-// A byte.
+// A byte, likewise.
 pub fn byte(v: u32) -> u8
     ensures { result ≡ min v 255 }
 {

@@ -109,7 +109,7 @@ pub fn bytes(rt: &impl Print, bytes: &[u8]) -> io::Result<()> {
     list(rt, &wide[..n])
 }
 
-// The byte at a place of a list, 0 past its end.
+// The byte at a place of a list, 0 past its end. (`letter` of `replay_reading` is the same; this crate does not use that one.)
 fn byte_at(list: &[u8], i: usize) -> u8 {
     list.get(i).copied().unwrap_or(0)
 }

@@ -10,7 +10,7 @@ use replay_saying::{room, say};
 use std::io;
 use text::Written;
 
-// The listing that a text says, and what is then in the slices lent.
+// The listing that a text says, and what is then in the slices lent, one by one as `read_text` takes them.
 fn read_into(
     rt: &impl Print,
     said: &[u8],

@@ -27,7 +27,7 @@ pub struct Cursor {
     pub at: u32,
 }
 
-// Whether NonOrientable is among the events.
+// Whether NonOrientable is among the events. Here and below a search is two numbers, as `fd_next_event` takes them.
 pub fn is_marked(count: u16, place: u16) -> bool
     ensures { result ≡ marked count place }
 {

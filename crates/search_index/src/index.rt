@@ -26,6 +26,7 @@ pub fn weights() -> [usize; limit::RANKS]
     ensures { Weights result }
 {
     let mut a = [1usize; limit::RANKS];
+    // By index: each number comes from the one before.
     for r in 1..limit::RANKS {
         a[r] = a[r - 1] * 5741 % HASHES;
     }

@@ -1,4 +1,5 @@
-// Flags in a table, one after another: a row for each.
+// Flags in a table, one after another: a row for each, which is as wide as the cell has ranks. That is known only when
+// it runs, so that the width stands beside the table.
 ghost use Rattle.std.specs.Prelude.{◌≡◌, ◌+◌, ◌*◌, ◌/◌, ◌≤◌, ◌<◌, min, length};
 ghost use Rattle.std.proofs.Math.Seq.{paste};
 ghost use Rattle.listing.specs.Listing.{limits};

@@ -7,7 +7,7 @@ use listing::Index;
 use search_index::index::Chains;
 
 // What a search has found: how many flags, and how many there were when the cell showed itself not orientable, 0 while
-// it has not.
+// it has not: no `Option`, since the definitions of the search, which the promises speak of, have 0 there.
 #[derive(Clone, Copy)]
 pub struct Found {
     pub count: u16,

@@ -89,7 +89,7 @@ fn work(
     let byte = parity::flipped(store.bytes[at]);
     let mut left = mask;
     let mut s = start;
-    // No `for`: the ranks are the ones of the mask, and each step takes the lowest out.
+    // No `for`: the ranks are the ones of the mask, and each step takes the lowest out, as DECISIONS 45 has it.
     while mask::any_left(left) {
         let r = mask::lowest(left);
         left = mask::without(left, r);

@@ -16,7 +16,8 @@ pub struct Word {
     pub next: usize,
 }
 
-// A number of a row: whether a comma ends it, and not the line; its value; and the place after that.
+// A number of a row: whether a comma ends it, and not the line; its value; and the place after that. The number is
+// there either way, so that `more` is no `Option`.
 #[derive(Clone, Copy)]
 pub struct Term {
     pub more: bool,

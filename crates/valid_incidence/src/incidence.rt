@@ -19,7 +19,7 @@ pub struct Way {
     pub size: Index,
     // the place where those begin
     pub place: usize,
-    // whether the list must hold anything
+    // whether the list must hold anything: a yes or no beside numbers that are there either way
     pub asked: bool,
 }
 
