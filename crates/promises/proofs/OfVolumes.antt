@@ -28,12 +28,12 @@ use Rattle.volume.proofs.Exact.{volume_promised}
 use Rattle.volume.proofs.TwoCalls.{volume_negated, volume_moved}
 use Rattle.promises.specs.Entries.{lent, flag, metres, tables}
 use Rattle.promises.specs.OfVolumes.{VolumesTaken, VolumesRefuse, VolumesNamed, VolumesAnswer, VolumesOnce}
-use Rattle.promises.proofs.Alike.{any}
+use Rattle.promises.proofs.Alike.{alike, any}
 use Rattle.promises.proofs.OfFlags.{search_refused, search_refusals, same_search}
 use Rattle.promises.proofs.Refused.{Refused, or_refused, on_refused, told_so}
 
 pub volumes_taken : VolumesTaken
-volumes_taken = record { six_volume = any }
+volumes_taken = record { six_volume = any; numbers = any }
 
 pub volumes_refuse : VolumesRefuse
 volumes_refuse = record {
@@ -107,6 +107,7 @@ volumes_answer = record {
       rw (p.0, q.0, e, f)
       (λ z w. volume_moved (lent a) (flag a) (metres a) (tables a).0 (tables a).1 z t (metres c) S (tables c).0
       (tables c).1 w);
+  volume_told = λ k a r x p. p;
   volume_by_numbers = λ k a r x p. rw p.0
       (zero_beside (lent a) (flag a) (metres a) (tables a).0 (tables a).1);
 }
@@ -114,4 +115,5 @@ volumes_answer = record {
 pub volumes_once : VolumesOnce
 volumes_once = record {
   one_six_volume = λ k a b c x y p q. same_search p.0 p.1.0 p.1.1 q.0 q.1.0 q.1.1;
+  one_volume_numbers = λ k a b c x y. alike;
 }

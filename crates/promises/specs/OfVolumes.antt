@@ -15,12 +15,13 @@ use Rattle.search_masks.specs.Masks.{every_rank}
 use Rattle.volume_metres.specs.Points.{Site}
 use Rattle.volume_theory.specs.Six.{cell_rank, Shifted}
 use Rattle.volume.specs.declared.Measured.{Measured}
-use Rattle.volume.specs.Volumes.{unmeasured}
+use Rattle.volume.specs.Volumes.{unmeasured, told_volume}
 use Rattle.volume.specs.Promised.{VolumePromised, Negated}
+use Rattle.volume.proofs.MeasuredFromResultF64Refusal.from.Reads as numbers
 use Rattle.flumedrac.proofs.fd_closed.Reads as closed
 use Rattle.flumedrac.proofs.fd_search.Reads as search
 use Rattle.flumedrac.proofs.fd_six_volume.Reads as six_volume
-use Rattle.promises.specs.Entries.{Takes, Says, SaysOfTwo, OneOutcome}
+use Rattle.promises.specs.Entries.{Takes, Says, SaysOfTwo, OneAnswer, OneOutcome}
 use Rattle.promises.specs.Entries.{lent, flag, asked, metres, tables}
 
 abbrev pub VolumeSays : (Listing → List ℕ → List Float → List ℕ → List ℕ → Measured → List ℕ → List ℕ → Type 0)
@@ -30,6 +31,7 @@ VolumeSays Q = Says six_volume.Post
 
 pub record VolumesTaken : Type 0 where
   pub six_volume : Takes six_volume.Asked
+  pub numbers : Takes numbers.Asked
 
 pub record VolumesRefuse : Type 0 where
   -- it refuses as closed does, then with 20, 22, 50, 51, 52, 53; the search with every change stands in the slices; and
@@ -58,7 +60,10 @@ pub record VolumesAnswer : Type 0 where
       (λ a r x c s y. (t : Site) → lent c ≡ lent a → flag c ≡ flag a → Shifted (lent a) t (metres a) (metres c)
       → r.no ≡ 0 → s.no ≡ 0 → s ≡ r)
   -- an answer is told by two numbers: 0 and the volume, or the refusal's and 0.0
+  pub volume_told : Says numbers.Post (λ a r x. r ≡ told_volume a.0)
+  -- so what six_volume answers: 0.0 stands beside each refusal
   pub volume_by_numbers : Says six_volume.Post (λ a r x. r.no ≢ 0 → r ≡ unmeasured r.no)
 
 pub record VolumesOnce : Type 0 where
   pub one_six_volume : OneOutcome six_volume.Post tables
+  pub one_volume_numbers : OneAnswer numbers.Post
