@@ -11,10 +11,8 @@ use lib.ListN.{length}
 use Rattle.std.specs.Prelude.{Result, Ok, Err}
 use Rattle.listing.specs.declared.Answer.{Answer}
 use Rattle.listing.specs.declared.Slices.{Slices}
-use Rattle.listing.specs.declared.Refusal.{Refusal}
 use Rattle.listing.specs.Refusals.{more_flags}
 use Rattle.listing.specs.Answers.{plain, ◌or_else◌}
-use Rattle.listing.specs.Told.{answer_of}
 use Rattle.listing.specs.Listing.{Listing, held, limits, rank}
 use Rattle.listing.proofs.Answers.{or_fine, or_stop}
 use Rattle.valid.specs.Tests.{closed}
@@ -24,12 +22,14 @@ use Rattle.valid.proofs.InClosed.{is_closed}
 use Rattle.flag_change.specs.Flags.{start_test}
 use Rattle.search_masks.specs.Masks.{every_rank}
 use Rattle.search_store.specs.declared.Found.{Found}
+use Rattle.search_store.specs.declared.Full.{Full}
 use Rattle.search_store.specs.Held.{state_of}
 use Rattle.search_walk.specs.Ready.{Ended}
 use Rattle.search.specs.declared.Searched.{Searched}
-use Rattle.search.specs.SearchedBy.{refused_as, searched_of, told_searched}
+use Rattle.search.specs.SearchedBy.{refused_as, searched_of}
 use Rattle.search.specs.Promised.{room_in}
 use Rattle.search.proofs.Cases.{Ends, room_is, room_fits, answer_none, ends_start, count_found, full_is, ends_walk}
+use Rattle.search.proofs.Cases.{told_walk}
 use Rattle.body_theory.specs.InAll.{flags_in_all}
 use Rattle.body_theory.specs.First.{sups_flag}
 use Rattle.body_theory.proofs.First.{sups_flag_lem}
@@ -68,26 +68,26 @@ module _ (L : Listing) (table bytes : List ℕ) where
   module _ (C : Closed limits L)
       (fits : (room * length L.counts ≤ length table) × (room ≤ length bytes) × (room ≤ limits.flags)) where
     -- it answered r, and left the slices as table' and bytes'
-    abbrev pub Walked : List ℕ → List ℕ → Result Found Refusal → Type 0
+    abbrev pub Walked : List ℕ → List ℕ → Result Found Full → Type 0
     Walked table' bytes' r = Ended (length L.counts) room table bytes table' bytes' r (whole_search L room)
 
-    walked : {table' bytes' : List ℕ} (r : Result Found Refusal) → Walked table' bytes' r
-        → Ends limits L (sups_flag L) (every_rank (rank L)) table bytes (told_searched r) table' bytes'
+    walked : {table' bytes' : List ℕ} (r : Result Found Full) → Walked table' bytes' r
+        → Ends limits L (sups_flag L) (every_rank (rank L)) table bytes (told_walk r) table' bytes'
     walked r E = ends_walk (whole_searchable C) table bytes (fits.0, fits.1) r E
 
     closed_fine : (a : Answer) → closed limits L or_else a ≡ a
     closed_fine a = or_fine (closed limits L) a ((closed_exact limits L).1 C)
 
     -- that one more flag turned up than there is room for
-    pub body_full : {table' bytes' : List ℕ} (d : Refusal) → Walked table' bytes' (Err d)
-        → BodyEnds L table bytes (refused_as (answer_of d)) table' bytes'
+    pub body_full : {table' bytes' : List ℕ} (d : Full) → Walked table' bytes' (Err d)
+        → BodyEnds L table bytes (refused_as (plain more_flags)) table' bytes'
     unfolding body_by body_test
     body_full d E =
         let o = full_is (whole_searchable C) table bytes d E in
-        let more : room < flags_in_all L = go o.1 (dec_lt room (flags_in_all L)) in
+        let more : room < flags_in_all L = go o (dec_lt room (flags_in_all L)) in
         let t = closed_fine _ ∙ parts_more room (length (whole_search L room).found) (flags_in_all L) more in
         record {
-          answer = rw (o.0, t) (answer_none (plain more_flags) (whole_search L room) (λ k. omega arith));
+          answer = rw t (answer_none (plain more_flags) (whole_search L room) (λ k. omega arith));
           flags = (walked (Err d) E).flags;
           turns = (walked (Err d) E).turns;
         }
@@ -135,11 +135,11 @@ module _ (s t : Slices) (same : t ≡ s) (C : (closed limits (held t)).no ≡ 0)
     fits = rw (same, here) at (the_room (length table) (length bytes) n z)
 
     -- the walk answered r
-    abbrev pub Went : List ℕ → List ℕ → Result Found Refusal → Type 0
+    abbrev pub Went : List ℕ → List ℕ → Result Found Full → Type 0
     Went table' bytes' r = Ended (length t.counts.now) n table bytes table' bytes' r (whole_search (held t) n)
 
-    pub ends_full : {table' bytes' : List ℕ} (d : Refusal) → Went table' bytes' (Err d)
-        → BodyEnds (held s) table bytes (refused_as (answer_of d)) table' bytes'
+    pub ends_full : {table' bytes' : List ℕ} (d : Full) → Went table' bytes' (Err d)
+        → BodyEnds (held s) table bytes (refused_as (plain more_flags)) table' bytes'
     ends_full d E = body_full (held s) table bytes closed_here fits d (rw (same, here) at E)
 
     pub ends_judged : {table' bytes' : List ℕ} (f : Found) → Went table' bytes' (Ok f)

@@ -14,7 +14,6 @@ use Rattle.order.specs.Steps.{Reach}
 use Rattle.order.proofs.Steps.{Reach-kept, Reach-map}
 use Rattle.std.specs.Prelude.{Result}
 use Rattle.listing.specs.declared.Slices.{Slices}
-use Rattle.listing.specs.declared.Refusal.{Refusal}
 use Rattle.listing.specs.Listing.{Listing, held, limits, rank}
 use Rattle.valid.specs.Closed.{Closed}
 use Rattle.valid.specs.Tests.{closed}
@@ -26,6 +25,7 @@ use Rattle.search_theory.proofs.Lookup.{index_at, index_in_lem}
 use Rattle.search_theory.proofs.Proper.{search_proper}
 use Rattle.search_theory.proofs.Found.{found_exact}
 use Rattle.search_store.specs.declared.Found.{Found}
+use Rattle.search_store.specs.declared.Full.{Full}
 use Rattle.search_index.specs.Rows.{same_list}
 use Rattle.search_index.proofs.Rows.{same_decides}
 use Rattle.search_masks.specs.Masks.{InnerRanks, every_rank}
@@ -170,7 +170,7 @@ module _ (s : Slices) (e : (closed limits (held s)).no ≡ 0) where
 
 -- a search from what is the flag of first sups, by what is every change, has come to its end
 pub whole_ended : (L : Listing) {w room mask : ℕ} {first table bytes table' bytes' : List ℕ}
-    {r : Result Found Refusal} → first ≡ sups_flag L → mask ≡ every_rank (rank L)
+    {r : Result Found Full} → first ≡ sups_flag L → mask ≡ every_rank (rank L)
     → Ended w room table bytes table' bytes' r (found_by L first mask room)
     → Ended w room table bytes table' bytes' r (whole_search L room)
 whole_ended L e k E = rw (e, k) at E

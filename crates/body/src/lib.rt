@@ -23,6 +23,8 @@ pub fn one_body(slices: Slices<'_>, table: &mut [Index], bytes: &mut [u8]) -> Re
 {
     let cell = valid::closed(slices)?;
     let room = row::room_of(table.len(), bytes.len(), slices.counts.len());
-    let found = whole::search_whole(cell, table, bytes, room)?;
-    whole::judged(found, chains::flags_in_all(cell), room)
+    match whole::search_whole(cell, table, bytes, room) {
+        Ok(found) => whole::judged(found, chains::flags_in_all(cell), room),
+        Err(_) => Err(Refusal::MoreFlags),
+    }
 }

@@ -9,6 +9,7 @@ ghost use Rattle.body.specs.Body.{whole_search, judged_as};
 use listing::{Index, Refusal, Side, limit};
 use search::Found;
 use search_masks::mask;
+use search_store::Full;
 use search_walk::walk;
 use valid::ClosedCell;
 
@@ -36,7 +37,7 @@ pub fn search_whole(
     table: &mut [Index],
     bytes: &mut [u8],
     room: usize,
-) -> Result<Found, Refusal>
+) -> Result<Found, Full>
     requires room_fits { (room * length cell.slices.counts.now ≤ length table.old) × (room ≤ length bytes.old)
         × (room ≤ limits.flags) }
     ensures { Ended (length cell.entry.slices.counts.now) room table.old bytes.old table.new bytes.new result

@@ -25,8 +25,11 @@ fn put_list(list: &[Index], ends: &mut [Index], inc: &mut [Index], p: Place) -> 
     ensures { ListsPut (λ j. list.now) 1 p ends.old inc.old
         ends.new inc.new result }
 {
+    // Number by number: the library's copy would have the archive need `memmove` from outside.
+    for j in 0..list.len() {
+        inc[p.inc + j] = list[j];
+    }
     let end = p.inc + list.len();
-    inc[p.inc..end].copy_from_slice(list);
     let at = p.ends;
     ends[at] = end as Index;
     Place {

@@ -19,7 +19,7 @@ pub struct Change {
 }
 
 // The change at rank r of a flag of a closed listing.
-#[tactic(auto, using(crate::proofs::Making::making))]
+#[tactic(auto, using(crate::proofs::Making::making, valid::proofs::InClosed::ascends))]
 pub fn changed_at(cell: ClosedCell<'_>, flag: &[Index], r: usize) -> Change
     requires flag { IsFlag (held cell.slices) flag.now }
     requires r_nonzero { (0 < r) × (r < rank (held cell.slices)) }
@@ -27,7 +27,7 @@ pub fn changed_at(cell: ClosedCell<'_>, flag: &[Index], r: usize) -> Change
 {
     let low = reading::elements_before(cell.slices.counts, r - 1);
     let high = reading::elements_before(cell.slices.counts, r + 1);
-    let p = chain::replaced_at(cell, flag, r, low, high);
+    let p = chain::replaced_at(cell.cell(), flag, r, low, high);
     let mut new = chain::pad(flag);
     new[r] = p.put;
     Change {

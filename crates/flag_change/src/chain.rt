@@ -3,6 +3,7 @@ ghost use Rattle.std.specs.Prelude.{◌≡◌, ◌+◌, ◌-◌, ◌≤◌, ◌<
 ghost use Rattle.order.specs.Lists.{Ascending};
 ghost use Rattle.listing.specs.Listing.{held, limits, before};
 ghost use Rattle.listing.specs.Told.{told};
+ghost use Rattle.valid.specs.Ascent.{Ascends};
 ghost use Rattle.flag_change.specs.Flags.{flag_at, flag_test, start_test};
 ghost use Rattle.flag_change.specs.Change.{common, other, replaced_at, padded, Flanked};
 
@@ -94,15 +95,12 @@ fn other_between(below: &[Index], above: &[Index], e: Index) -> Index
 }
 
 // What the change at rank r replaces: the flag's own element there, and the other of the two between those at the ranks
-// r - 1, which begins at place low, and r + 1, which begins at place high.
+// r - 1, which begins at place low, and r + 1, which begins at place high. In line: a search calls it for each change,
+// and to pass the cell by value it is copied.
+#[inline(always)]
 #[tactic(auto, using(crate::proofs::Neighbours::neighbours))]
-pub fn replaced_at(
-    cell: ClosedCell<'_>,
-    flag: &[Index],
-    r: usize,
-    low: usize,
-    high: usize,
-) -> Replaced
+pub fn replaced_at(cell: Cell<'_>, flag: &[Index], r: usize, low: usize, high: usize) -> Replaced
+    requires ascends { Ascends (held cell.slices) }
     requires low_value { (low ≡ before cell.slices.counts.now (r - 1))
         × (high ≡ before cell.slices.counts.now (r + 1)) }
     requires flanked { Flanked (held cell.slices) flag.now r }

@@ -26,6 +26,19 @@ fn found_by_halving(list: &[Index], x: Index) -> bool
     list.binary_search(&x).is_ok()
 }
 
+// Whether x is one of the numbers of a short list, looking from its start. By a loop: a search comes here at nearly each
+// change, and the library's test is a call.
+fn found_by_scanning(list: &[Index], x: Index) -> bool
+    ensures { result ≡ has list.now x }
+{
+    for &y in list {
+        if y == x {
+            return true;
+        }
+    }
+    false
+}
+
 // Whether x is one of the numbers of a list.
 pub fn contains(list: &[Index], x: Index) -> bool
     ensures { result ≡ has list.now x }
@@ -44,5 +57,11 @@ pub fn ascending_contains(list: &[Index], x: Index) -> bool
     requires { Ascending list.now }
     ensures { result ≡ has list.now x }
 {
-    stands_at_own_place(list, x) || found_by_halving(list, x)
+    if stands_at_own_place(list, x) {
+        return true;
+    }
+    if list.len() <= SHORT {
+        return found_by_scanning(list, x);
+    }
+    found_by_halving(list, x)
 }

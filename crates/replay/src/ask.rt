@@ -9,7 +9,6 @@ use listing::{Index, Slices};
 use replay_products::pair;
 use replay_reading::text;
 use replay_saying::room;
-use replay_saying::room::{FEW, MANY, SOME};
 use std::io;
 
 // A question on a flag: change, search, events.
@@ -80,9 +79,9 @@ where
     requires k_fits { k < width }
     requires callable { F.IsAlwaysCallable lend }
 {
-    let mut counts = room::numbers::<FEW>();
-    let mut ends = room::numbers::<SOME>();
-    let mut inc = room::numbers::<MANY>();
+    let mut counts = room::few();
+    let mut ends = room::some();
+    let mut inc = room::many();
     let c = text::list(line, k, &mut counts);
     let e = text::list(line, k + 1, &mut ends);
     let i = text::list(line, k + 2, &mut inc);
@@ -95,7 +94,7 @@ where
 
 // A question on one cell, and perhaps a flag, which is its fourth list.
 fn with_flag(rt: &impl Print, line: &[u8], slices: Slices<'_>) -> io::Result<()> {
-    let mut flag = room::numbers::<FEW>();
+    let mut flag = room::few();
     let n = text::list(line, 3, &mut flag);
     on_cell(rt, line, slices, &flag[..n])
 }

@@ -8,6 +8,8 @@ mod bodies;
 mod cell;
 mod flags;
 
+ghost use Rattle.std.specs.Prelude.{◌≡◌, length};
+
 use replay_reading::text;
 use replay_saying::room;
 use std::io;
@@ -42,8 +44,15 @@ fn all(rt: &impl Print, text: &[u8]) -> io::Result<()> {
     Ok(())
 }
 
+// An array for the text; the contract gives the length, which lending an array needs.
+fn room_for_text() -> [u8; TEXT]
+    ensures { 524288 ≡ length result }
+{
+    room::bytes::<TEXT>()
+}
+
 fn main(rt: HostRuntime) -> io::Result<()> {
-    let mut text = room::bytes::<TEXT>();
+    let mut text = room_for_text();
     let n = lent_input::read_full(&mut rt.stdin(), &mut text);
     all(&rt, &text[..n])
 }

@@ -1,4 +1,6 @@
 // Answers as text. A list of more than 300 numbers is given by its length, its sum and its check number.
+ghost use Rattle.std.specs.Prelude.{◌≡◌, ◌*◌, length};
+ghost use Rattle.listing.specs.Listing.{limits};
 ghost use Rattle.lent_input.specs.Counts.{IsPrefixLen};
 
 use crate::room;
@@ -102,9 +104,16 @@ fn widen(list: &[u8], out: &mut [Index]) -> usize
     list.len().min(out.len())
 }
 
+// Room for the bytes of a list as wider numbers: of a list as long as the longest that is lent.
+fn wide_room() -> [Index; WRITTEN]
+    ensures { 2 * limits.text ≡ length result }
+{
+    room::numbers::<WRITTEN>()
+}
+
 // A list of bytes, none longer than the longest that is lent.
 pub fn bytes(rt: &impl Print, bytes: &[u8]) -> io::Result<()> {
-    let mut wide = room::numbers::<WRITTEN>();
+    let mut wide = wide_room();
     let n = widen(bytes, &mut wide);
     list(rt, &wide[..n])
 }

@@ -35,14 +35,14 @@ fn read(rt: &impl Print, line: &[u8], said: &[u8]) -> io::Result<()> {
 
 // The listing that the text of a line says.
 pub fn read_text(rt: &impl Print, line: &[u8]) -> io::Result<()> {
-    let mut bytes = room::bytes::<{ room::TEXT }>();
+    let mut bytes = room::text();
     let n = quoted::put_text(line, &mut bytes);
     read(rt, line, &bytes[..n])
 }
 
 // Whether it is closed.
 pub fn check_text(rt: &impl Print, line: &[u8]) -> io::Result<()> {
-    let mut bytes = room::bytes::<{ room::TEXT }>();
+    let mut bytes = room::text();
     let n = quoted::put_text(line, &mut bytes);
     let checked = Answer::from(text::check_text(&bytes[..n]));
     say::number(rt, u64::from(checked.no))
@@ -58,7 +58,7 @@ fn write_into(rt: &impl Print, slices: Slices<'_>, bytes: &mut [u8]) -> io::Resu
 
 // The same with room of a length, as far as there is so much.
 pub fn write(rt: &impl Print, slices: Slices<'_>, length: u64) -> io::Result<()> {
-    let mut bytes = room::bytes::<{ room::WRITTEN }>();
+    let mut bytes = room::written();
     let n = room::within(length, &bytes);
     write_into(rt, slices, &mut bytes[..n])
 }

@@ -94,7 +94,7 @@ pub fn six_volume(
     slices: Slices<'_>,
     first: &[Index],
 ) -> io::Result<()> {
-    let mut codes = room::numbers::<{ room::MANY }>();
+    let mut codes = room::many();
     let mut coordinates = places();
     let n = text::list(line, 4, &mut codes);
     let m = codes::put_metres(&codes[..n], &mut coordinates);

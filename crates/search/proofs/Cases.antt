@@ -25,8 +25,9 @@ use Rattle.flag_change.specs.Flags.{start_test, IsFlag}
 use Rattle.flag_change.proofs.StartExact.{start_exact}
 use Rattle.search_theory.specs.Search.{State}
 use Rattle.search_store.specs.declared.Found.{Found}
+use Rattle.search_store.specs.declared.Full.{Full}
 use Rattle.search_index.specs.Rows.{rows, flatten}
-use Rattle.search_store.specs.Held.{state_of, count_in, come_to}
+use Rattle.search_store.specs.Held.{state_of, found_in, come_to}
 use Rattle.search_index.proofs.Rows.{rows_length, rows_flat}
 use Rattle.search_masks.specs.Masks.{mask_fits, InnerRanks}
 use Rattle.search_masks.proofs.Ranks.{fits_exact}
@@ -169,17 +170,22 @@ module _ {m : Limits} {L : Listing} {first : List ℕ} {mask : ℕ} (T : Searcha
 -- ---- the walk has come to its end
 
 -- the flags and bytes of the state that a table and its bytes stand for, whatever the result
-come_found : (w room : ℕ) (table bytes : List ℕ) (r : Result Found Refusal) (place : ℕ)
-    → (come_to w room table bytes r place).found ≡ rows w table (count_in room r)
+come_found : (w : ℕ) (table bytes : List ℕ) (r : Result Found Full)
+    → (come_to w table bytes r).found ≡ rows w table (found_in r).count
 unfolding state_of
-come_found w room table bytes (Ok f) place = refl
-come_found w room table bytes (Err d) place = refl
+come_found w table bytes (Ok f) = refl
+come_found w table bytes (Err d) = refl
 
-come_bytes : (w room : ℕ) (table bytes : List ℕ) (r : Result Found Refusal) (place : ℕ)
-    → (come_to w room table bytes r place).bytes ≡ take (count_in room r) bytes
+come_bytes : (w : ℕ) (table bytes : List ℕ) (r : Result Found Full)
+    → (come_to w table bytes r).bytes ≡ take (found_in r).count bytes
 unfolding state_of
-come_bytes w room table bytes (Ok f) place = refl
-come_bytes w room table bytes (Err d) place = refl
+come_bytes w table bytes (Ok f) = refl
+come_bytes w table bytes (Err d) = refl
+
+-- what a walk that ended so is told as
+abbrev pub told_walk : Result Found Full → Searched
+told_walk (Ok f) = found_as fine f.count f.place
+told_walk (Err d) = refused_as (plain more_flags)
 
 module _ {m : Limits} {L : Listing} {first : List ℕ} {mask : ℕ} (T : Searchable m L first mask) (table bytes : List ℕ)
   where
@@ -190,7 +196,7 @@ module _ {m : Limits} {L : Listing} {first : List ℕ} {mask : ℕ} (T : Searcha
     w = length L.counts
 
     -- the walk answered r, and left the slices as table' and bytes'
-    abbrev pub Walked : List ℕ → List ℕ → Result Found Refusal → Type 0
+    abbrev pub Walked : List ℕ → List ℕ → Result Found Full → Type 0
     Walked table' bytes' r = Ended w n table bytes table' bytes' r (S T table bytes)
 
     -- so many were found
@@ -199,41 +205,37 @@ module _ {m : Limits} {L : Listing} {first : List ℕ} {mask : ℕ} (T : Searcha
     unfolding state_of
     count_found {table'} f E = rw (← ap (λ s. s.found) E.state) (rows_length w table' f.count)
 
-    -- a refusal is that of more flags than there is room for
-    pub full_is : {table' bytes' : List ℕ} (d : Refusal) → Walked table' bytes' (Err d)
-        → (answer_of d ≡ plain more_flags) × ((S T table bytes).overflow ≡ true)
-    full_is d E =
-        let o = sym (ap (λ s. s.overflow) E.state) in
-        (rw o at E.answer, o)
+    -- the walk stops where there are more flags than there is room for
+    pub full_is : {table' bytes' : List ℕ} (d : Full) → Walked table' bytes' (Err d)
+        → (S T table bytes).overflow ≡ true
+    full_is d E = sym (ap (λ s. s.overflow) E.state)
 
-    module _ {table' bytes' : List ℕ} (fits : (n * w ≤ length table) × (n ≤ length bytes)) (r : Result Found Refusal)
+    module _ {table' bytes' : List ℕ} (fits : (n * w ≤ length table) × (n ≤ length bytes)) (r : Result Found Full)
         (E : Walked table' bytes' r) where
       table_found : over (flatten (S T table bytes).found) table ≡ table'
       table_found =
-          let k = count_in n r * w in
+          let k = (found_in r).count * w in
           let i : k ≤ length table' = omega (arith, mul-le-mul_right w E.fits, E.rest.long) in
           rw (
-            sym (ap (λ s. s.found) E.state) ∙ come_found w n table' bytes' r (S T table bytes).place,
-            rows_flat w table' (count_in n r),
+            sym (ap (λ s. s.found) E.state) ∙ come_found w table' bytes' r,
+            rows_flat w table' (found_in r).count,
           ) (over_is k table' table i E.rest.past)
 
       bytes_found : over (S T table bytes).bytes bytes ≡ bytes'
       bytes_found =
-          let i : count_in n r ≤ length bytes' = omega (arith, E.fits, E.rest.bytes_long) in
-          rw (sym (ap (λ s. s.bytes) E.state) ∙ come_bytes w n table' bytes' r (S T table bytes).place)
-          (over_is (count_in n r) bytes' bytes i E.rest.bytes_past)
+          let i : (found_in r).count ≤ length bytes' = omega (arith, E.fits, E.rest.bytes_long) in
+          rw (sym (ap (λ s. s.bytes) E.state) ∙ come_bytes w table' bytes' r)
+          (over_is (found_in r).count bytes' bytes i E.rest.bytes_past)
 
     pub ends_walk : {table' bytes' : List ℕ} → (n * w ≤ length table) × (n ≤ length bytes)
-        → (r : Result Found Refusal) → Walked table' bytes' r
-        → Ends m L first mask table bytes (told_searched r) table' bytes'
+        → (r : Result Found Full) → Walked table' bytes' r
+        → Ends m L first mask table bytes (told_walk r) table' bytes'
     unfolding state_of
     ends_walk fits (Ok f) E =
         rw (table_found fits (Ok f) E, bytes_found fits (Ok f) E, count_found f E, sym (ap (λ s. s.place) E.state))
         at (said_fine T table bytes (sym (ap (λ s. s.overflow) E.state)))
     ends_walk fits (Err d) E =
-        let o = full_is d E in
-        rw o.0
-        (rw (table_found fits (Err d) E, bytes_found fits (Err d) E) at (said_full T table bytes o.1))
+        rw (table_found fits (Err d) E, bytes_found fits (Err d) E) at (said_full T table bytes (full_is d E))
 
 -- ---- the same as the code meets it
 
@@ -259,9 +261,9 @@ module _ (s : Slices) (first : List ℕ) where
 
     -- the walk, with the room that there is
     pub ends_search : {table bytes table' bytes' : List ℕ} {mask n : ℕ} → true ≡ mask_fits (rank (held s)) mask
-        → n ≡ min (min (length table / length s.counts.now) (length bytes)) limits.flags → (r : Result Found Refusal)
+        → n ≡ min (min (length table / length s.counts.now) (length bytes)) limits.flags → (r : Result Found Full)
         → Ended (length t.counts.now) n table bytes table' bytes' r (found_by (held t) first mask n)
-        → Ends limits (held s) first mask table bytes (told_searched r) table' bytes'
+        → Ends limits (held s) first mask table bytes (told_walk r) table' bytes'
     ends_search {table} {bytes} {table'} {bytes'} {mask} {n} h z r E =
         let z' = z ∙ room_is limits (held s) (length table) (length bytes) (some_rank e) in
         let f = room_fits limits (length table) (length bytes) (length s.counts.now) _ (sym z' ∙ z) in

@@ -45,5 +45,8 @@ pub fn search(
         return Err(Refusal::OutsideRanks);
     }
     let room = row::room_of(table.len(), bytes.len(), w);
-    walk::search_from(cell, first, mask, table, bytes, room)
+    match walk::search_from(cell, first, mask, table, bytes, room) {
+        Ok(found) => Ok(found),
+        Err(_) => Err(Refusal::MoreFlags),
+    }
 }

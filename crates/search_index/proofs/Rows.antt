@@ -7,12 +7,12 @@ use Prim.Native.Nat.{ℕ, zero, suc, ◌+◌, ◌-◌, ◌*◌, ◌≤◌, ◌<�
 use native.Mathlib.Nat.{mul-le-mul_right, suc-mul, zero-mul}
 use native.Mathlib.Numerals.{add-one}
 use native.Mathlib.Omega.{arith}
-use borrow.Author.Tests.{eq-eqb, eqb-true, eqb-false}
+use borrow.Author.Tests.{eq-eqb, ne_eqb, eqb-true, eqb-false}
 use lib.Dec.{eqb}
-use lib.ListN.{length, get_or, take, drop, length-drop, get_or-append}
-use lib.Seq.{length-take-le, take_at, get_or_at, get_or-take, get_or-drop, take-add}
+use lib.ListN.{length, get_or, take, drop, set, length-drop, drop_of_length-le, get_or-append}
+use lib.Seq.{length-take-le, drop-cons, take_at, get_or_at, get_or-take, get_or-drop, take-add}
 use lib.Seq.{take-append-le, drop-append-le, drop_at, ext_get_or, paste, length_paste_head, length-paste}
-use lib.Seq.{drop-paste, take-length}
+use lib.Seq.{drop-paste, paste-suc, take-length}
 use Rattle.std.specs.Cmp.Lexicographic.{pointwise}
 use Rattle.order.proofs.Tests.{and_true}
 use Rattle.search_theory.specs.Search.{Decides}
@@ -66,6 +66,29 @@ unfolding row_of
 row_between w table k =
     let z : k * w + w - k * w ≡ w = omega arith in
     rw z
+
+-- a row is compared with a flag, number by number: the answer to the whole is the answer to what is left
+module _ (row flag : List ℕ) (z : length row ≡ length flag) (j : ℕ)
+    (e : same_list row flag ≡ same_list (drop j row) (drop j flag)) where
+  pub same_inside : j < length flag → j < length row
+  same_inside i = omega (arith, z)
+
+  split : j < length flag → same_list row flag
+      ≡ (eqb (get_or row j 0) (get_or flag j 0) && same_list (drop (suc j) row) (drop (suc j) flag))
+  unfolding same_list
+  split i = e ∙ rw (drop-cons row j 0 (same_inside i), drop-cons flag j 0 i)
+
+  pub same_next : j < length flag → get_or row j 0 ≡ get_or flag j 0
+      → same_list row flag ≡ same_list (drop (j + 1) row) (drop (j + 1) flag)
+  same_next i q = split i ∙ rw (add-one, eq-eqb _ _ q)
+
+  pub same_stop : j < length flag → (get_or row j 0 ≡ get_or flag j 0 → ⊥) → false ≡ same_list row flag
+  same_stop i q = sym (split i ∙ rw (ne_eqb _ _ q))
+
+  pub same_end : length flag ≤ j → true ≡ same_list row flag
+  unfolding same_list
+  same_end i =
+      sym (e ∙ rw (drop_of_length-le row {i = j} (omega (arith, z))) (rw (drop_of_length-le flag {i = j} i)))
 
 -- a row is as the first numbers of the table are
 row_kept : (w : ℕ) (t u : List ℕ) (k n : ℕ) → k < n → n * w ≤ length t → n * w ≤ length u
@@ -133,6 +156,10 @@ rows_kept w t u (suc m) n h p q e =
 
 -- ---- one more row
 
+pub put_next : (t : List ℕ) (at : ℕ) (f : List ℕ) (j : ℕ) (u : List ℕ) → u ≡ paste t at f j → at + j < length t
+    → j < length f → set u (at + j) (get_or f j 0) ≡ paste t at f (j + 1)
+put_next t at f j u e h g = rw (e, add-one) (paste-suc t at f j 0 h g)
+
 module _ (t : List ℕ) (n : ℕ) (f : List ℕ) (h : n * length f + length f ≤ length t) where
   abbrev w : ℕ
   w = length f
@@ -177,3 +204,6 @@ module _ (t : List ℕ) (n : ℕ) (f : List ℕ) (h : n * length f + length f �
       rows_next w T n
       ∙ ap₂ (λ l x. l ++ (x ∷ []))
       (rows_kept w t T n n (omega arith) (omega arith) (omega (arith, put_length)) put_first) put_row
+
+-- a row compared with a flag
+pub ruleset compared = (row_length, same_inside, same_next, same_stop, same_end)

@@ -3,7 +3,7 @@
 ghost use Rattle.std.specs.Prelude.{◌≡◌, ◌+◌, ◌*◌, ◌/◌, ◌≤◌, ◌<◌, min, length};
 ghost use Rattle.std.proofs.Math.Seq.{paste};
 ghost use Rattle.listing.specs.Listing.{limits};
-ghost use Rattle.search_index.specs.Rows.{row_of};
+ghost use Rattle.search_index.specs.Rows.{same_list, row_of};
 
 use listing::{Index, limit};
 
@@ -25,11 +25,30 @@ pub fn row_at<'a>(table: &'a [Index], k: usize, w: usize) -> &'a [Index]
     &table[from..from + w]
 }
 
+// Whether the flag stands in row k. Number by number, and not by `==` of slices: that reads several numbers at once, and
+// has to wait for the one that was just written.
+#[tactic(auto, using(crate::proofs::Rows::compared))]
+pub fn same_row(table: &[Index], k: usize, flag: &[Index]) -> bool
+    requires { k * length flag.now + length flag.now ≤ length table.now }
+    ensures { result ≡ same_list (row_of (length flag.now) table.now k) flag.now }
+{
+    let row = row_at(table, k, flag.len());
+    for (j, &x) in flag.iter().enumerate() {
+        if row[j] != x {
+            return false;
+        }
+    }
+    true
+}
+
 // The flag is written into row k.
 pub fn put_row(table: &mut [Index], k: usize, flag: &[Index])
     requires { k * length flag.now + length flag.now ≤ length table.old }
     ensures { table.new ≡ paste table.old (k * length flag.now) flag.now (length flag.now) }
 {
     let from = k * flag.len();
-    table[from..from + flag.len()].copy_from_slice(flag);
+    // Number by number: the library's copy would have the archive need `memmove` from outside.
+    for j in 0..flag.len() {
+        table[from + j] = flag[j];
+    }
 }

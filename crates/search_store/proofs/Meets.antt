@@ -11,12 +11,11 @@ use lib.ListN.{length, get_or, take, drop, length-set}
 use lib.Seq.{get_or-take, take-suc-set, drop-set-lt, drop-drop}
 use Rattle.std.specs.Prelude.{Result, Ok, Err, IsErrAnd}
 use Rattle.std.proofs.lemmas.Result.{err_from_is_err_and}
-use Rattle.listing.specs.declared.Refusal.{Refusal}
-use Rattle.listing.specs.declared.Refusal.TheVariants.{MoreFlags}
 use Rattle.search_theory.specs.Search.{State, place_after, again, index_in, meet}
 use Rattle.search_theory.proofs.Step.{place_kept, place_same, place_first, meet_again, meet_full, meet_new}
 use Rattle.listing.specs.Listing.{limits}
 use Rattle.search_store.specs.declared.Found.{Found}
+use Rattle.search_store.specs.declared.Full.{Full}
 use Rattle.search_store.specs.declared.Store.{Store}
 use Rattle.search_index.specs.Rows.{rows, same_list}
 use Rattle.search_index.specs.Hash.{hash_of}
@@ -79,13 +78,14 @@ module _ (w room : ℕ) (table bytes : List ℕ) (s : Found) (b : ℕ) (y : List
     unfolding state_of
     unknown = omega (arith, rows_length w table s.count)
 
-    new_full : s.count ≤ room → room ≤ s.count
-        → record { found = rows w table room; bytes = take room bytes; place = s.place; overflow = true } ≡ met
+    new_full : room ≤ s.count → record {
+      found = rows w table s.count;
+      bytes = take s.count bytes;
+      place = s.place;
+      overflow = true;
+    } ≡ met
     unfolding state_of
-    new_full f r =
-        let c : s.count ≡ room = omega arith in
-        ap (λ m. record { found = rows w table m; bytes = take m bytes; place = s.place; overflow = true }) (sym c)
-        ∙ sym (meet_full same_list room b S y refl unknown (omega (arith, rows_length w table s.count)))
+    new_full r = sym (meet_full same_list room b S y refl unknown (omega (arith, rows_length w table s.count)))
 
     new_added : (table' bytes' : List ℕ) → rows w table' (s.count + 1) ≡ rows w table s.count ++ (y ∷ [])
         → take (s.count + 1) bytes' ≡ take s.count bytes ++ (b ∷ []) → s.count < room
@@ -115,7 +115,6 @@ unfolding state_of
 moved_ok l e H m R = record {
   same = l;
   state = e;
-  answer = rw (sym (ap (λ q. q.overflow) e)) refl;
   held = H;
   more = m;
   rest = R;
@@ -144,25 +143,14 @@ module _ (w : ℕ) (t : Store) (s : Found) (H : Held w t s.count) where
     moved_first h z n = moved_none refl (known_first w t.room t.table.now t.bytes.now s b y k e h z n)
 
     -- it is new, and there is no room
-    pub moved_full : s.count ≤ k → t.room ≤ s.count → Moved w t s t (Err MoreFlags) after
-    moved_full h r =
-        let c : t.room ≡ s.count = omega (arith, H.fits) in
-        let full = new_full w t.room t.table.now t.bytes.now s b y k e h H.fits r in
-        record {
-          same = same_lent t;
-          state =
-              ap (λ p. record {
-                found = rows w t.table.now t.room;
-                bytes = take t.room t.bytes.now;
-                place = p;
-                overflow = true;
-              }) (sym (ap (λ q. q.place) full))
-              ∙ full;
-          answer = rw (sym (ap (λ q. q.overflow) full)) refl;
-          held = subst (Held w t) (sym c) H;
-          more = omega arith;
-          rest = untouched w _ t.table.now t.bytes.now;
-        }
+    pub moved_full : s.count ≤ k → t.room ≤ s.count → Moved w t s t (Err (record { found = s })) after
+    moved_full h r = record {
+      same = same_lent t;
+      state = new_full w t.room t.table.now t.bytes.now s b y k e h r;
+      held = H;
+      more = omega arith;
+      rest = untouched w _ t.table.now t.bytes.now;
+    }
 
 -- it is new, and was added
 module _ (t : Store) (s : Found) (flag : List ℕ) (H : Held (length flag) t s.count) (h b k : ℕ) (e : h ≡ hash_of flag)
@@ -233,30 +221,29 @@ rest_trans {w} {n} {m} {t} {b} {t'} {b'} h R Q = record {
   bytes_past = Q.bytes_past ∙ drop_more n m b' b h R.bytes_past;
 }
 
-pub moved_trans : {w : ℕ} {t u v : Store} {s f : Found} {q : Result Found Refusal} {S T : State (List ℕ)}
+pub moved_trans : {w : ℕ} {t u v : Store} {s f : Found} {q : Result Found Full} {S T : State (List ℕ)}
     → Moved w t s u (Ok f) S → Moved w u f v q T → Moved w t s v q T
 moved_trans M N = record {
   same = same_trans M.same N.same;
   state = N.state;
-  answer = N.answer;
   held = N.held;
   more = omega (arith, M.more, N.more);
   rest = rest_trans N.more M.rest N.rest;
 }
 
 -- the same move, to a state that is the same
-pub moved_to : {w : ℕ} {t u : Store} {s : Found} {q : Result Found Refusal} {S T : State (List ℕ)}
+pub moved_to : {w : ℕ} {t u : Store} {s : Found} {q : Result Found Full} {S T : State (List ℕ)}
     → Moved w t s u q S → S ≡ T → Moved w t s u q T
 moved_to {w} {t} {u} {s} {q} M e = subst (Moved w t s u q) e M
 
--- the same move, whose refusal `?` hands on
-pub moved_err : {w : ℕ} {t u : Store} {s : Found} {S : State (List ℕ)} (q : Result Found Refusal) (d : Refusal)
+-- the same move, whose end `?` hands on
+pub moved_err : {w : ℕ} {t u : Store} {s : Found} {S : State (List ℕ)} (q : Result Found Full) (d : Full)
     → IsErrAnd q (λ x. x ≡ d) → Moved w t s u (Err d) S → Moved w t s u q S
 moved_err {w} {t} {u} {s} {S} q d h M =
     let p = err_from_is_err_and q h in
     subst (λ x. Moved w t s u x S) (sym (p.1 ∙ ap Err p.2)) M
 
--- a refusal is that one more turned up than there is room for
-pub moved_over : {w : ℕ} {t u : Store} {s : Found} {d : Refusal} {S : State (List ℕ)} → Moved w t s u (Err d) S
+-- which is that one more turned up than there is room for
+pub moved_over : {w : ℕ} {t u : Store} {s : Found} {d : Full} {S : State (List ℕ)} → Moved w t s u (Err d) S
     → S.overflow ≡ true
 moved_over M = sym (ap (λ q. q.overflow) M.state)

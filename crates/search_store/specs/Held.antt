@@ -2,9 +2,9 @@
 --
 -- state_of   the state that a table, its bytes and what was found stand for
 -- state_in   the same of what a store holds
--- count_in   how many flags stand in the table: all that there is room for where one more turned up
--- come_to    the state that a table and its bytes stand for after a step of the search, which answers what was found,
---            or that one more turned up than there is room for; the place that the search has then is not kept
+-- found_in   what was found by a step of the search, also where one more turned up than there is room for
+-- come_to    the state that a table and its bytes stand for after a step, which answers what was found, or that one
+--            more turned up
 -- SameLent   what is lent to a store is lent to it still
 -- Held       the table and the bytes have the room, n rows of it are in use, and these are indexed
 -- AddedRow   the flag, whose hash is h, stands in row n, with a byte
@@ -13,13 +13,10 @@
 --            stands for the state S, is held, and the rest is as it was
 use Rattle.std.specs.Prelude.{◌≡◌, Result, Ok, Err, true, false, List, ℕ, ◌*◌, ◌≤◌, length, take, drop, set}
 use Rattle.std.proofs.Math.Seq.{paste}
-use Rattle.listing.specs.declared.Refusal.{Refusal}
-use Rattle.listing.specs.Answers.{plain, on}
-use Rattle.listing.specs.Refusals.{more_flags}
-use Rattle.listing.specs.Told.{told}
 use Rattle.listing.specs.Listing.{limits}
 use Rattle.search_theory.specs.Search.{State}
 use Rattle.search_store.specs.declared.Found.{Found}
+use Rattle.search_store.specs.declared.Full.{Full}
 use Rattle.search_store.specs.declared.Store.{Store}
 use Rattle.search_index.specs.Rows.{rows}
 use Rattle.search_index.specs.Index.{Indexed, entered}
@@ -35,16 +32,16 @@ state_of w table bytes s = record {
 abbrev pub state_in : ℕ → Store → Found → State (List ℕ)
 state_in w t s = state_of w t.table.now t.bytes.now s
 
-abbrev pub count_in : ℕ → Result Found Refusal → ℕ
-count_in room (Ok s) = s.count
-count_in room (Err d) = room
+abbrev pub found_in : Result Found Full → Found
+found_in (Ok s) = s
+found_in (Err d) = d.found
 
-abbrev pub come_to : ℕ → ℕ → List ℕ → List ℕ → Result Found Refusal → ℕ → State (List ℕ)
-come_to w room table bytes (Ok s) place = state_of w table bytes s
-come_to w room table bytes (Err d) place = record {
-  found = rows w table room;
-  bytes = take room bytes;
-  place = place;
+abbrev pub come_to : ℕ → List ℕ → List ℕ → Result Found Full → State (List ℕ)
+come_to w table bytes (Ok s) = state_of w table bytes s
+come_to w table bytes (Err d) = record {
+  found = rows w table d.found.count;
+  bytes = take d.found.count bytes;
+  place = d.found.place;
   overflow = true;
 }
 
@@ -72,11 +69,10 @@ pub record Rest (w n : ℕ) (table bytes table' bytes' : List ℕ) : Type 0 wher
   pub bytes_long : length bytes' ≡ length bytes
   pub bytes_past : drop n bytes' ≡ drop n bytes
 
-pub record Moved (w : ℕ) (t : Store) (s : Found) (u : Store) (result : Result Found Refusal) (S : State (List ℕ))
-    : Type 0 where
-  pub same : SameLent t u
-  pub state : come_to w u.room u.table.now u.bytes.now result S.place ≡ S
-  pub answer : told result ≡ on S.overflow (plain more_flags)
-  pub held : Held w u (count_in u.room result)
-  pub more : s.count ≤ count_in u.room result
-  pub rest : Rest w (count_in u.room result) t.table.now t.bytes.now u.table.now u.bytes.now
+pub record Moved (w : ℕ) (t : Store) (s : Found) (u : Store) (result : Result Found Full) (S : State (List ℕ)) : Type 0
+  where
+    pub same : SameLent t u
+    pub state : come_to w u.table.now u.bytes.now result ≡ S
+    pub held : Held w u (found_in result).count
+    pub more : s.count ≤ (found_in result).count
+    pub rest : Rest w (found_in result).count t.table.now t.bytes.now u.table.now u.bytes.now

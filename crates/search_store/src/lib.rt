@@ -14,6 +14,12 @@ pub struct Found {
     pub place: u16,
 }
 
+// One flag more turned up than there is room for: what had been found by then.
+#[derive(Clone, Copy)]
+pub struct Full {
+    pub found: Found,
+}
+
 // Where the flags found are kept: a table of rows, a byte for each, and the chains by which a flag is looked up; and
 // how many there is room for.
 #[derive(Drop)]

@@ -7,8 +7,8 @@ ghost use Rattle.search_index.specs.Rows.{row_of, rows, same_list};
 ghost use Rattle.search_index.specs.Index.{Indexed};
 ghost use Rattle.search_store.specs.Held.{state_in, Held, AddedRow, Moved};
 
-use crate::{Found, Store};
-use listing::{Index, Refusal};
+use crate::{Found, Full, Store};
+use listing::Index;
 use search_index::row;
 
 impl<'a> Store<'a> {
@@ -32,7 +32,7 @@ impl<'a> Store<'a> {
         // No `for`: a chain goes on where the row at hand says.
         while p != 0 {
             let k = p - 1;
-            if *row::row_at(&*self.table, usize::from(k), flag.len()) == *flag {
+            if row::same_row(&*self.table, usize::from(k), flag) {
                 return k;
             }
             p = self.chains.next[usize::from(k)];
@@ -56,7 +56,7 @@ impl<'a> Store<'a> {
 
     // The flag, whose hash is h, is met, and should have the byte.
     #[tactic(auto, using(crate::proofs::Meets::row_fits))]
-    pub fn meet(&mut self, flag: &[Index], h: usize, byte: u8, s: Found) -> Result<Found, Refusal>
+    pub fn meet(&mut self, flag: &[Index], h: usize, byte: u8, s: Found) -> Result<Found, Full>
         requires hash { h ≡ hash_of flag.now }
         requires held { Held (length flag.now) self.now s.count }
         ensures { Moved (length flag.now) self.old s self.new result
@@ -71,7 +71,7 @@ impl<'a> Store<'a> {
             return Ok(Found { place: n, ..s });
         }
         if self.room <= usize::from(n) {
-            return Err(Refusal::MoreFlags);
+            return Err(Full { found: s });
         }
         self.add(flag, h, byte, n);
         Ok(Found { count: n + 1, ..s })

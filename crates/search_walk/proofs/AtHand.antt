@@ -8,7 +8,6 @@ use lib.ListN.{length, get_or, set, length-set}
 use lib.Seq.{set-set, set-get_or}
 use Rattle.std.specs.Prelude.{Result}
 use Rattle.listing.specs.declared.Slices.{Slices}
-use Rattle.listing.specs.declared.Refusal.{Refusal}
 use Rattle.listing.specs.Listing.{width, Listing, held, limits, rank}
 use Rattle.valid.specs.Tests.{closed}
 use Rattle.valid.proofs.InClosed.{shaped}
@@ -21,6 +20,7 @@ use Rattle.search_index.proofs.Rows.{row_end}
 use Rattle.search_index.specs.Hash.{hashes, weight, sum_from, hash_of}
 use Rattle.search_index.proofs.Hash.{weights_small, old_inside, hash_changed}
 use Rattle.search_store.specs.declared.Found.{Found}
+use Rattle.search_store.specs.declared.Full.{Full}
 use Rattle.search_store.specs.declared.Store.{Store}
 use Rattle.search_store.specs.Held.{state_in, Moved}
 use Rattle.search_store.proofs.Meets.{moved_to}
@@ -66,7 +66,7 @@ module _ (s : Slices) (e : (closed limits (held s)).no ≡ 0) where
         hand_back = rw hand_taken (set-set flag at p.put (get_or flag at 0) ∙ set-get_or flag at 0)
 
         -- the flag with what is put in is met
-        pub hand_met : (t u : Store) (f : Found) (q : Result Found Refusal) (byte : ℕ)
+        pub hand_met : (t u : Store) (f : Found) (q : Result Found Full) (byte : ℕ)
             → Moved (length (set flag at p.put)) t f u q
             (meet same_list t.room byte (state_in (length (set flag at p.put)) t f) (set flag at p.put))
             → Moved (length s.counts.now) t f u q

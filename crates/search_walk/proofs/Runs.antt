@@ -7,13 +7,13 @@ use native.Mathlib.Omega.{arith}
 use lib.ListN.{length, get_or}
 use lib.Seq.{get_or-take}
 use Rattle.std.specs.Prelude.{Ok, Err}
-use Rattle.listing.specs.declared.Refusal.{Refusal}
 use Rattle.listing.specs.Listing.{Listing, limits, rank}
 use Rattle.valid.specs.Closed.{Closed}
 use Rattle.flag_change.specs.Flags.{IsFlag}
 use Rattle.search_theory.specs.Search.{State, meet_all, work, run}
 use Rattle.search_theory.proofs.Run.{run_next, run_stop, run_end}
 use Rattle.search_store.specs.declared.Found.{Found}
+use Rattle.search_store.specs.declared.Full.{Full}
 use Rattle.search_store.specs.declared.Store.{Store}
 use Rattle.search_index.specs.Rows.{row_of, same_list}
 use Rattle.search_store.specs.Held.{state_of, state_in, Held, Moved}
@@ -88,7 +88,7 @@ module _ (L : Listing) (mask : ℕ) where
         whole = λ a. next_whole i a ∙ ap (ran t₀.room a (k + 1)) (sym M.state);
       }
 
-      pub running_stop : {t' : Store} {d : Refusal} → k < s.count → Moved w t s t' (Err d) (worked t s k)
+      pub running_stop : {t' : Store} {d : Full} → k < s.count → Moved w t s t' (Err d) (worked t s k)
           → (a : List ℕ) → Moved w t₀ s₀ t' (Err d) (ran t₀.room a 0 (state_in w t₀ s₀))
       running_stop i M a =
           moved_to (moved_trans K.moved M)

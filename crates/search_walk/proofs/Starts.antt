@@ -7,13 +7,13 @@ use Prim.Native.Nat.{ℕ, ◌*◌, ◌%◌, ◌≤◌}
 use native.Mathlib.Omega.{arith}
 use lib.ListN.{length, replicate, length-replicate, get_or-replicate}
 use Rattle.std.specs.Prelude.{Result, Ok, Err}
-use Rattle.listing.specs.declared.Refusal.{Refusal}
 use Rattle.listing.specs.Listing.{Listing, limits}
 use Rattle.flag_change.specs.Flags.{IsFlag}
 use Rattle.search_theory.specs.Search.{State, unbegun, Once, meet, run, search}
 use Rattle.search_theory.proofs.Run.{run_stop}
 use Rattle.search_index.specs.Chain.{latest}
 use Rattle.search_store.specs.declared.Found.{Found}
+use Rattle.search_store.specs.declared.Full.{Full}
 use Rattle.search_store.specs.declared.Store.{Store}
 use Rattle.search_index.specs.declared.index.Chains.{Chains}
 use Rattle.search_index.specs.Rows.{rows, same_list}
@@ -58,13 +58,13 @@ module _ (w : ℕ) (t : Store) where
   none_is = refl
 
 -- the search has come to its end, and its slices are told
-pub ended : {w : ℕ} {t u : Store} {s : Found} {q : Result Found Refusal} {S : State (List ℕ)} → Moved w t s u q S
+pub ended : {w : ℕ} {t u : Store} {s : Found} {q : Result Found Full} {S : State (List ℕ)} → Moved w t s u q S
     → (table bytes : List ℕ) → table ≡ u.table.now → bytes ≡ u.bytes.now
     → Ended w t.room t.table.now t.bytes.now table bytes q S
 ended {w} {t} {u} {s} {q} {S} M table bytes e d =
     rw (e, d)
     (subst (λ n. Ended w n t.table.now t.bytes.now u.table.now u.bytes.now q S) M.same.room
-    (record { state = M.state; answer = M.answer; fits = M.held.fits; rest = M.rest }))
+    (record { state = M.state; fits = M.held.fits; rest = M.rest }))
 
 -- ---- the first flag is met
 
@@ -76,7 +76,7 @@ first_hash f e = ap (λ n. n % hashes) e
 pub first_held : {L : Listing} {f : List ℕ} {t : Store} → IsFlag L f → Held (length L.counts) t 0 → Held (length f) t 0
 first_held {t = t} F H = subst (λ n. Held n t 0) (sym F.one_each) H
 
-pub first_met : {L : Listing} {f : List ℕ} {t u : Store} {q : Result Found Refusal} → IsFlag L f
+pub first_met : {L : Listing} {f : List ℕ} {t u : Store} {q : Result Found Full} → IsFlag L f
     → Moved (length f) t nothing u q (meet same_list t.room 0 (state_in (length f) t nothing) f)
     → Moved (length L.counts) t nothing u q (meet same_list t.room 0 (state_in (length L.counts) t nothing) f)
 first_met {f = f} {t} {u} {q} F M =
@@ -94,7 +94,7 @@ module _ (L : Listing) (mask : ℕ) (t : Store) (f : List ℕ) where
   begun_is = ap (λ S. meet same_list t.room 0 S f) (none_is w t)
 
   -- there is no room for it
-  pub first_full : {u : Store} {d : Refusal} → Moved w t nothing u (Err d) begun
+  pub first_full : {u : Store} {d : Full} → Moved w t nothing u (Err d) begun
       → Moved w t nothing u (Err d) (found_by L f mask t.room)
   unfolding found_by search
   first_full M =
@@ -111,7 +111,7 @@ module _ (L : Listing) (mask : ℕ) (t : Store) (f : List ℕ) where
         (meet_all_lem same_list t.room 0 (IsFlag L) unbegun f (λ y m. absurd (Memᴰ.not-nil m)) F))
 
     -- and then all are worked
-    pub all_found : {v : Store} {q : Result Found Refusal}
+    pub all_found : {v : Store} {q : Result Found Full}
         → ((a : List ℕ) → Moved w u s v q (run same_list u.room (mask_changes L mask) a 0 (state_in w u s)))
         → Moved w t nothing v q (found_by L f mask t.room)
     unfolding found_by search

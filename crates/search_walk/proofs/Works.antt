@@ -12,12 +12,12 @@ use lib.Count.{count_trailing_zeros}
 use lib.ListN.{length}
 use Rattle.std.specs.Prelude.{Ok, Err}
 use Rattle.order.specs.Lists.{In}
-use Rattle.listing.specs.declared.Refusal.{Refusal}
 use Rattle.listing.specs.Listing.{width, Listing, limits, rank}
 use Rattle.flag_change.specs.Change.{change_at}
 use Rattle.search_theory.specs.Search.{State, meet, meet_all}
 use Rattle.search_theory.proofs.Step.{meets_overflow}
 use Rattle.search_store.specs.declared.Found.{Found}
+use Rattle.search_store.specs.declared.Full.{Full}
 use Rattle.search_store.specs.declared.Store.{Store}
 use Rattle.search_index.specs.Rows.{same_list}
 use Rattle.search_store.specs.Held.{state_in, Held, Moved}
@@ -94,7 +94,7 @@ module _ {L : Listing} {t₀ : Store} {s₀ : Found} {byte : ℕ} {f : List ℕ}
               ∙ ap (λ z. meet_all same_list t₀.room byte z (mask_changes L (left - 2 ^ r) f)) (sym M.state);
         })
 
-    pub working_stop : {t' : Store} {d : Refusal} → Moved (length L.counts) t s t' (Err d) T
+    pub working_stop : {t' : Store} {d : Full} → Moved (length L.counts) t s t' (Err d) T
         → Moved (length L.counts) t₀ s₀ t' (Err d) W
     working_stop M =
         moved_to (moved_trans K.moved M)

@@ -9,30 +9,26 @@
 -- Walks      the walk can go on: all is ready, the mask asks for inner ranks, and n rows are held, which are flags
 -- AtHand     the flag at hand is one, and its sum is known
 use Rattle.std.specs.Prelude.{◌≡◌, Result, List, ℕ, ◌*◌, ◌≤◌, ◌<◌, length, get_or}
-use Rattle.listing.specs.declared.Refusal.{Refusal}
-use Rattle.listing.specs.Answers.{plain, on}
-use Rattle.listing.specs.Refusals.{more_flags}
-use Rattle.listing.specs.Told.{told}
 use Rattle.listing.specs.Listing.{width, Listing, rank, before}
 use Rattle.flag_change.specs.Flags.{IsFlag}
 use Rattle.search_theory.specs.Search.{State}
 use Rattle.search_store.specs.declared.Found.{Found}
+use Rattle.search_store.specs.declared.Full.{Full}
 use Rattle.search_store.specs.declared.Store.{Store}
 use Rattle.search_index.specs.Rows.{row_of}
 use Rattle.search_index.specs.Hash.{hashes, sum_from, Weights}
-use Rattle.search_store.specs.Held.{count_in, come_to, Held, Rest}
+use Rattle.search_store.specs.Held.{found_in, come_to, Held, Rest}
 use Rattle.search_masks.specs.Masks.{InnerRanks}
 use Rattle.search_walk.specs.declared.Ranks.{Ranks}
 
 abbrev pub nothing : Found
 nothing = record { count = 0; place = 0 }
 
-pub record Ended (w room : ℕ) (table bytes table' bytes' : List ℕ) (result : Result Found Refusal)
+pub record Ended (w room : ℕ) (table bytes table' bytes' : List ℕ) (result : Result Found Full)
     (S : State (List ℕ)) : Type 0 where
-  pub state : come_to w room table' bytes' result S.place ≡ S
-  pub answer : told result ≡ on S.overflow (plain more_flags)
-  pub fits : count_in room result ≤ room
-  pub rest : Rest w (count_in room result) table bytes table' bytes'
+  pub state : come_to w table' bytes' result ≡ S
+  pub fits : (found_in result).count ≤ room
+  pub rest : Rest w (found_in result).count table bytes table' bytes'
 
 abbrev pub AllFlags : Listing → List ℕ → ℕ → Type 0
 AllFlags L table n = (k : ℕ) → k < n → IsFlag L (row_of (length L.counts) table k)

@@ -13,10 +13,10 @@ ghost use Rattle.search_walk.specs.Ready.{nothing, Ended, Places, Ready, Walks, 
 use crate::Ranks;
 use flag::parity;
 use flag_change::chain;
-use listing::{Index, Refusal, limit};
+use listing::{Index, limit};
 use search_index::index::{self, Chains};
 use search_masks::mask;
-use search_store::{Found, Store};
+use search_store::{Found, Full, Store};
 use valid::ClosedCell;
 
 // The places where the ranks begin.
@@ -34,7 +34,7 @@ fn places_of(counts: &[Index]) -> [usize; limit::RANKS]
 }
 
 // The change at rank r of the flag at hand, of which sum is the sum, is met; then the flag at hand is as it was.
-#[tactic(auto, using(crate::proofs::AtHand::hand))]
+#[tactic(auto, using(crate::proofs::AtHand::hand, valid::proofs::InClosed::ascends))]
 fn try_next(
     cell: ClosedCell<'_>,
     ranks: &Ranks,
@@ -44,7 +44,7 @@ fn try_next(
     r: u16,
     byte: u8,
     s: Found,
-) -> Result<Found, Refusal>
+) -> Result<Found, Full>
     requires ready { Ready (held cell.slices) ranks.now }
     requires at_hand { AtHand (held cell.slices) flag.old sum }
     requires r_inside { (0 < r) × (r < rank (held cell.slices)) }
@@ -55,7 +55,13 @@ fn try_next(
         (change_at (held cell.entry.slices) r flag.old)) }
 {
     let at = usize::from(r);
-    let p = chain::replaced_at(cell, &*flag, at, ranks.places[at - 1], ranks.places[at + 1]);
+    let p = chain::replaced_at(
+        cell.cell(),
+        &*flag,
+        at,
+        ranks.places[at - 1],
+        ranks.places[at + 1],
+    );
     let h = index::hash_changed(sum, ranks.weights[at], p.taken, p.put);
     flag[at] = p.put;
     let met = store.meet(&*flag, h, byte, s);
@@ -72,7 +78,7 @@ fn work(
     mask: u16,
     k: u16,
     start: Found,
-) -> Result<Found, Refusal>
+) -> Result<Found, Full>
     requires walks { Walks (held cell.slices) ranks.now mask store.old start.count }
     requires k_lt_count { k < start.count }
     ensures { Moved (length cell.entry.slices.counts.now) store.old start store.new result
@@ -105,7 +111,7 @@ fn run(
     store: &mut Store<'_>,
     mask: u16,
     start: Found,
-) -> Result<Found, Refusal>
+) -> Result<Found, Full>
     requires { Walks (held cell.slices) ranks.now mask store.old start.count }
     ensures { (a : List ℕ) → Moved (length cell.entry.slices.counts.now) store.old start store.new result
         (run_in same_list store.old.room (mask_changes (held cell.entry.slices) mask) a 0
@@ -129,7 +135,7 @@ fn search_in(
     store: &mut Store<'_>,
     first: &[Index],
     mask: u16,
-) -> Result<Found, Refusal>
+) -> Result<Found, Full>
     requires ready { Ready (held cell.slices) ranks.now }
     requires held { Held (length cell.slices.counts.now) store.old 0 }
     requires flag { IsFlag (held cell.slices) first.now }
@@ -152,7 +158,7 @@ pub fn search_from(
     table: &mut [Index],
     bytes: &mut [u8],
     room: usize,
-) -> Result<Found, Refusal>
+) -> Result<Found, Full>
     requires flag { IsFlag (held cell.slices) first.now }
     requires inner_ranks { InnerRanks (rank (held cell.slices)) mask }
     requires room_fits { (room * length cell.slices.counts.now ≤ length table.old) × (room ≤ length bytes.old)

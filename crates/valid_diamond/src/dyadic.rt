@@ -37,22 +37,21 @@ fn totals_after(totals: Totals, before: u8) -> Totals
 }
 
 // Counts the subs of one of an element's subs, and refuses the first that is met a third time. `totals` are those of
-// what was met before.
+// what was met, before and after: lent, since beside a refusal in one result they are slower to read.
 #[tactic(auto, using(crate::proofs::Walks::along_list, crate::proofs::Totals::totals_few))]
 fn tally_list(
     tally: &mut [u8; limit::ELEMENTS],
     subs: &[Index],
-    totals: Totals,
+    totals: &mut Totals,
     of: Element,
-) -> Result<Totals, Refusal>
+) -> Result<(), Refusal>
     requires by_index { (x : ℕ) → In x subs.now → x < limits.elements }
-    requires le_rank { (2 ≤ of.rank) × TotalsIn limits.elements tally.old totals.met totals.twice }
+    requires le_rank { (2 ≤ of.rank) × TotalsIn limits.elements tally.old totals.old.met totals.old.twice }
     ensures tallied { (seen : List ℕ) → Tally limits.elements tally.old seen
         → Tallied limits.elements tally.new (third of.rank of.index) seen
         subs.now (told result) }
-    ensures totals_in { IfOk result (λ totals. TotalsIn limits.elements tally.new totals.met totals.twice) }
+    ensures totals_in { OnOk result (TotalsIn limits.elements tally.new totals.new.met totals.new.twice) }
 {
-    let mut so_far = totals;
     for &sub_sub in subs {
         let at = usize::from(sub_sub);
         if 2 <= tally[at] {
@@ -62,10 +61,10 @@ fn tally_list(
             };
             return Err(Refusal::ThirdBetween { low, high: of });
         }
-        so_far = totals_after(so_far, tally[at]);
+        *totals = totals_after(*totals, tally[at]);
         tally[at] += 1;
     }
-    Ok(so_far)
+    Ok(())
 }
 
 // Counts the subs of an element's subs, in walking order, in the tally of nothing. The lists of those subs begin at
@@ -86,7 +85,7 @@ fn tally_all(
 {
     let mut totals = Totals { met: 0, twice: 0 };
     for &sub in subs {
-        totals = tally_list(tally, cell.side_of(b, sub, Side::Subs), totals, of)?;
+        tally_list(tally, cell.side_of(b, sub, Side::Subs), &mut totals, of)?;
     }
     Ok(totals)
 }

@@ -17,7 +17,7 @@ use volume_metres::point;
 
 // What a flag adds: the determinant of where the lowest vertex of its face, its vertex and the other vertex of its edge
 // stand. The edges begin at place edges.
-#[tactic(auto, using(crate::proofs::InFlags::part))]
+#[tactic(auto, using(crate::proofs::InFlags::part, valid::proofs::InClosed::ascends))]
 fn part_of(
     cell: ClosedCell<'_>,
     coordinates: &[f64],
@@ -33,7 +33,7 @@ fn part_of(
     ensures { result ≡ in_floats coordinates.now (part_formula (held cell.entry.slices) flag.now) }
 {
     // The change at rank 1 takes out the vertex of the flag, and puts in the other one of its edge.
-    let p = chain::replaced_at(cell, flag, 1, 0, edges);
+    let p = chain::replaced_at(cell.cell(), flag, 1, 0, edges);
     let a = point::point_of(coordinates, lowest[usize::from(flag[3])]);
     let b = point::point_of(coordinates, p.taken);
     let c = point::point_of(coordinates, p.put);

@@ -17,19 +17,16 @@ returns-in_err-cell c =
       bytes_after = o.turns;
     }
 
-pub returns-in_err-found : goal.returns-in_err-found
-returns-in_err-found c =
+pub returns-in-Err : goal.returns-in-Err
+returns-in-Err c =
     let cell = c.in_ok-cell.cell in
     let o = ends_full c.args.slices cell.slices c.in_ok-cell.ensures.same cell.closed _ _ _ c.room_of-room.ensures
-    c.in_err-found.field-0.0 c.in_err-found.ensures in record {
-      value = searched_err _ _ c.from_residual-in_err-found.ensures.1 ∙ o.answer;
-      table_after = o.flags;
-      bytes_after = o.turns;
-    }
+    _ (rw c.in-Err.is at c.search_whole.ensures) in
+    record { value = o.answer; table_after = o.flags; bytes_after = o.turns }
 
-pub returns : goal.returns
-returns c =
+pub returns-in-Ok : goal.returns-in-Ok
+returns-in-Ok c =
     let cell = c.in_ok-cell.cell in
     let o = ends_judged c.args.slices cell.slices c.in_ok-cell.ensures.same cell.closed _ _ _ c.room_of-room.ensures
-    c.in_ok-found.found c.in_ok-found.ensures _ c.flags_in_all.ensures _ c.judged.ensures in
+    _ (rw c.in-Ok.is at c.search_whole.ensures) _ c.flags_in_all.ensures _ c.judged.ensures in
     record { value = o.answer; table_after = o.flags; bytes_after = o.turns }

@@ -5,18 +5,16 @@ use mathlib.Core.Path.{sym, ◌∙◌}
 use native.Mathlib.Omega.{arith}
 use Rattle.search_index.proofs.Indexing.{down_start, down_next, down_found, down_none, chain_below}
 use Rattle.search_index.proofs.Hash.{hash_small}
-use Rattle.search_index.proofs.Rows.{pointwise_same}
 use Rattle.search_store.proofs.Store.find.Goals as goal
 
 pub loop-p-init : goal.loop-p-init
 loop-p-init c =
     down_start _ _ _ _ c.requires.indexed _ _ (omega (arith, hash_small c.args.flag.now)) c.requires.hash
 
-pub returns-then-eq : goal.returns-then-eq
-returns-then-eq c =
+pub returns-then-same_row : goal.returns-then-same_row
+returns-then-same_row c =
     down_found _ _ _ _ c.requires.indexed _ c.loop-p.p c.loop-p.invariant (omega arith)
-    (rw (pointwise_same c.row_at.result.now c.args.flag.now, c.row_at.ensures, c.from.ensures)
-    at (sym c.eq.ensures ∙ c.if-eq.true))
+    (rw c.from.ensures at (sym c.same_row.ensures ∙ c.if-same_row.true))
 
 pub loop-p-smaller : goal.loop-p-smaller
 loop-p-smaller c =
@@ -27,8 +25,7 @@ pub loop-p-preserved : goal.loop-p-preserved
 loop-p-preserved c =
     rw c.from-in-loop-p.ensures
     (down_next _ _ _ _ c.requires.indexed _ c.loop-p.p c.loop-p.invariant (omega arith)
-    (rw (pointwise_same c.row_at.result.now c.args.flag.now, c.row_at.ensures, c.from.ensures)
-    at (sym c.eq.ensures ∙ c.if-eq.false)))
+    (rw c.from.ensures at (sym c.same_row.ensures ∙ c.if-same_row.false)))
 
 pub returns : goal.returns
 returns c = down_none _ _ _ _ c.requires.indexed _ (rw c.loop-p-test.false at c.loop-p.invariant)

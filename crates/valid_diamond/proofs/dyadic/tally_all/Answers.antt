@@ -6,17 +6,17 @@ use Rattle.valid_diamond.proofs.dyadic.tally_all.Goals as goal
 pub loop-sub-init : goal.loop-sub-init
 loop-sub-init c = let T = c.requires.le_rank.1 in (totals_none _ T, walk_none _ _ _ _ _ T)
 
-pub returns-in_err-totals-clause-tallied : goal.returns-in_err-totals-clause-tallied
-returns-in_err-totals-clause-tallied c =
+pub returns-in_err-tally_list-clause-tallied : goal.returns-in_err-tally_list-clause-tallied
+returns-in_err-tally_list-clause-tallied c =
     let w = c.loop-sub.invariant.1 in
-    let counted = c.in_err-totals.ensures.tallied in
+    let counted = c.in_err-tally_list.ensures.tallied in
     let why = c.from_residual.ensures.1 in
     walk_halt _ _ _ _ _ _ _ w c.loop-sub-test.true c.side_of.ensures _ _ why counted
 
 pub loop-sub-preserved : goal.loop-sub-preserved
 loop-sub-preserved c =
     let w = c.loop-sub.invariant.1 in
-    let e = c.in_ok-totals.ensures in
+    let e = c.in_ok-tally_list.ensures in
     (e.totals_in, walk_more _ _ _ _ _ _ _ w c.loop-sub-test.true c.side_of.ensures e.tallied)
 
 pub returns-clause-tallied : goal.returns-clause-tallied

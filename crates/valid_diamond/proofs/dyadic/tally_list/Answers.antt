@@ -11,7 +11,7 @@ pub loop-sub_sub-preserved : goal.loop-sub_sub-preserved
 loop-sub_sub-preserved c =
     let at = c.loop-sub_sub-test.true in
     let v = c.loop-sub_sub.invariant in
-    let e = c.totals_after-so_far.ensures in (
+    let e = c.totals_after.ensures in (
       totals_more _ _ _ v.0 _ (omega (arith, inside_at _ _ _ c.requires.by_index at)) (omega arith) _ _ e.0 e.1,
       λ seen T. list_more seen _ _ c.requires.by_index at _ c.from-at.ensures _ (v.1 seen T) (omega arith),
     )

@@ -10,6 +10,6 @@ use Rattle.valid_diamond.proofs.Walks.{Walked}
 use Rattle.valid_diamond.proofs.dyadic.tally_list.Given as goal
 
 abbrev pub invariant-loop-sub_sub : goal.invariant-loop-sub_sub
-invariant-loop-sub_sub l = TotalsIn limits.elements l.tally l.so_far.met l.so_far.twice
+invariant-loop-sub_sub l = TotalsIn limits.elements l.tally l.totals.met l.totals.twice
     × ((seen : List ℕ) → Tally limits.elements l.initial.tally seen
     → Walked limits.elements (third l.of.rank l.of.index) l.tally seen (take l.sub_sub-index l.subs))
