@@ -26,10 +26,9 @@ use Rattle.search_store.specs.declared.Full.{Full}
 use Rattle.search_store.specs.Held.{state_of}
 use Rattle.search_walk.specs.Ready.{Ended}
 use Rattle.search.specs.declared.Searched.{Searched}
-use Rattle.search.specs.SearchedBy.{refused_as, searched_of}
+use Rattle.search.specs.SearchedBy.{refused_as, searched_of, told_walk}
 use Rattle.search.specs.Promised.{room_in}
 use Rattle.search.proofs.Cases.{Ends, room_is, room_fits, answer_none, ends_start, count_found, full_is, ends_walk}
-use Rattle.search.proofs.Cases.{told_walk}
 use Rattle.body_theory.specs.InAll.{flags_in_all}
 use Rattle.body_theory.specs.First.{sups_flag}
 use Rattle.body_theory.proofs.First.{sups_flag_lem}

@@ -6,9 +6,6 @@ use mathlib.Core.List.{List}
 use Prim.Native.Nat.{ℕ, zero, suc, ◌+◌, ◌≤◌, ◌<◌}
 use native.Mathlib.Omega.{arith}
 use lib.ListN.{length, set}
-use borrow.Rule.Slice.PartMut.{put_mid}
-use Rattle.std.proofs.Common.{rules}
-use Rattle.std.proofs.lemmas.List.{places}
 use Rattle.order.specs.Sums.{sum}
 use Rattle.order.specs.Lists.{over}
 use Rattle.order.proofs.Sums.{sum_none, sum_le, sum_same}
@@ -30,16 +27,6 @@ laid_as at n f g d d' same l = record {
   earlier = l.earlier;
   later = l.later;
 }
-
--- a list written over a part, k being how long the part is
-pub pasted : (at k : ℕ) (s t d : List ℕ) → t ≡ s → k ≡ length s → at + length s ≤ length d
-    → LaidList at s d (put_mid at k d t)
-pasted at k s t d e h room = rw (e, h) (record {
-  same_length = search (rules, places);
-  inside = λ j l. search (rules, places);
-  earlier = λ p l. search (rules, places);
-  later = λ p l. search (rules, places);
-})
 
 -- numbers from the very beginning on
 pub tabulated_over : (f : ℕ → ℕ) (n : ℕ) (old d : List ℕ) → n ≤ length old → Laid 0 f n old d

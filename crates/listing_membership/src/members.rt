@@ -26,8 +26,8 @@ fn found_by_halving(list: &[Index], x: Index) -> bool
     list.binary_search(&x).is_ok()
 }
 
-// Whether x is one of the numbers of a short list, looking from its start. By a loop: a search comes here at nearly each
-// change, and the library's test is a call.
+// Whether x is one of the numbers of a short list, looking from its start. By a loop: a search comes here at nearly
+// each change, and the library's test is a call.
 fn found_by_scanning(list: &[Index], x: Index) -> bool
     ensures { result ≡ has list.now x }
 {

@@ -34,7 +34,7 @@ use Rattle.search_masks.proofs.Ranks.{fits_exact}
 use Rattle.search.specs.declared.Searched.{Searched}
 use Rattle.search_walk.specs.Searched.{found_by}
 use Rattle.search.specs.SearchedBy.{refused_as, found_as, room_of, search_test, searched_of, left_after, searched_by}
-use Rattle.search.specs.SearchedBy.{table_after, bytes_after, told_searched}
+use Rattle.search.specs.SearchedBy.{table_after, bytes_after, told_searched, told_walk}
 use Rattle.search.specs.Exact.{Searchable}
 use Rattle.search.specs.Promised.{room_in}
 use Rattle.search_walk.specs.Ready.{Ended}
@@ -181,11 +181,6 @@ come_bytes : (w : ℕ) (table bytes : List ℕ) (r : Result Found Full)
 unfolding state_of
 come_bytes w table bytes (Ok f) = refl
 come_bytes w table bytes (Err d) = refl
-
--- what a walk that ended so is told as
-abbrev pub told_walk : Result Found Full → Searched
-told_walk (Ok f) = found_as fine f.count f.place
-told_walk (Err d) = refused_as (plain more_flags)
 
 module _ {m : Limits} {L : Listing} {first : List ℕ} {mask : ℕ} (T : Searchable m L first mask) (table bytes : List ℕ)
   where

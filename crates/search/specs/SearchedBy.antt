@@ -2,6 +2,7 @@
 --
 -- refused_as    the answer of a refusal: all numbers are 0
 -- found_as      the answer of a search that came to its end
+-- told_walk     what a walk is told as that has come to its end: what it found, or 22 where there was no more room
 -- searched_as   the answer by its refusal: a refusal's, or that of a search that found so many flags
 -- room_of       how many flags there is room for: the whole flags that fit the table, the bytes, the limit
 -- search_test   the refusals in their order: those of the closed test, 20, 21, and 22 exactly if there are more than
@@ -24,6 +25,7 @@ use Rattle.search_theory.specs.Search.{State}
 use Rattle.search_index.specs.Rows.{flatten}
 use Rattle.search_masks.specs.Masks.{mask_fits}
 use Rattle.search_store.specs.declared.Found.{Found}
+use Rattle.search_store.specs.declared.Full.{Full}
 use Rattle.search.specs.declared.Searched.{Searched}
 use Rattle.search_walk.specs.Searched.{found_by}
 
@@ -36,6 +38,10 @@ found_as a count place = record { answer = a; count = count; place = place; orie
 abbrev pub told_searched : Result Found Refusal → Searched
 told_searched (Ok found) = found_as fine found.count found.place
 told_searched (Err why) = refused_as (answer_of why)
+
+abbrev pub told_walk : Result Found Full → Searched
+told_walk (Ok found) = found_as fine found.count found.place
+told_walk (Err full) = refused_as (plain more_flags)
 
 abbrev pub searched_as : Answer → ℕ → ℕ → Searched
 searched_as a count place = if_zero a.no (found_as a count place) (refused_as a)

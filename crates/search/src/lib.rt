@@ -5,13 +5,14 @@ pub mod crossing;
 
 ghost use Rattle.std.specs.Prelude.{◌≡◌};
 ghost use Rattle.listing.specs.Listing.{held, limits};
-ghost use Rattle.search.specs.SearchedBy.{searched_by, table_after, bytes_after, told_searched};
+ghost use Rattle.search.specs.SearchedBy.{searched_by, table_after, bytes_after, told_searched, told_walk};
 
 use flag_change::chain;
 use listing::{Answer, Index, Refusal, Slices};
 use search_index::row;
 use search_masks::mask;
 pub use search_store::Found;
+use search_store::Full;
 use search_walk::walk;
 
 // What a search answers: a refusal or 0; how many flags there are, how many came before the cell showed itself not
@@ -23,6 +24,16 @@ pub struct Searched {
     pub count: u16,
     pub place: u16,
     pub orientable: u8,
+}
+
+// What is answered after the walk: a refusal where there was no more room.
+fn after_walk(walked: Result<Found, Full>) -> Result<Found, Refusal>
+    ensures { told_searched result ≡ told_walk walked }
+{
+    match walked {
+        Ok(found) => Ok(found),
+        Err(_) => Err(Refusal::MoreFlags),
+    }
 }
 
 // The flags that the changes of a mask lead to from the first flag, written into the table in the order found, one
@@ -45,8 +56,5 @@ pub fn search(
         return Err(Refusal::OutsideRanks);
     }
     let room = row::room_of(table.len(), bytes.len(), w);
-    match walk::search_from(cell, first, mask, table, bytes, room) {
-        Ok(found) => Ok(found),
-        Err(_) => Err(Refusal::MoreFlags),
-    }
+    after_walk(walk::search_from(cell, first, mask, table, bytes, room))
 }

@@ -13,7 +13,6 @@ use lib.ListN.{length, get_or, take, drop, set, length-drop, drop_of_length-le, 
 use lib.Seq.{length-take-le, drop-cons, take_at, get_or_at, get_or-take, get_or-drop, take-add}
 use lib.Seq.{take-append-le, drop-append-le, drop_at, ext_get_or, paste, length_paste_head, length-paste}
 use lib.Seq.{drop-paste, paste-suc, take-length}
-use Rattle.std.specs.Cmp.Lexicographic.{pointwise}
 use Rattle.order.proofs.Tests.{and_true}
 use Rattle.search_theory.specs.Search.{Decides}
 use Rattle.search_theory.proofs.Once.{length_snoc}
@@ -37,14 +36,6 @@ same_eq (x ∷ l) (y ∷ m) e =
 
 pub same_decides : Decides same_list
 same_decides l m = (same_eq l m, λ e. rw e (same_refl m))
-
--- what `==` on slices answers
-pub pointwise_same : (l m : List ℕ) → pointwise eqb l m ≡ same_list l m
-unfolding same_list
-pointwise_same [] [] = refl
-pointwise_same [] (y ∷ m) = refl
-pointwise_same (x ∷ l) [] = refl
-pointwise_same (x ∷ l) (y ∷ m) = ap (λ q. eqb x y && q) (pointwise_same l m)
 
 -- ---- one row
 

@@ -25,8 +25,8 @@ pub fn row_at<'a>(table: &'a [Index], k: usize, w: usize) -> &'a [Index]
     &table[from..from + w]
 }
 
-// Whether the flag stands in row k. Number by number, and not by `==` of slices: that reads several numbers at once, and
-// has to wait for the one that was just written.
+// Whether the flag stands in row k. Number by number, and not by `==` of slices: that reads several numbers at once,
+// and has to wait for the one that was just written.
 #[tactic(auto, using(crate::proofs::Rows::compared))]
 pub fn same_row(table: &[Index], k: usize, flag: &[Index]) -> bool
     requires { k * length flag.now + length flag.now ≤ length table.now }

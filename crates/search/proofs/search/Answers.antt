@@ -1,4 +1,4 @@
--- Four returns: a refusal of the closed test or 20, then 21, and the two that the walk answers.
+-- Three returns: a refusal of the closed test or 20, then 21, and what is answered after the walk.
 -- Assumes nothing.
 use mathlib.Core.Path.{sym, refl, ◌∙◌}
 use Rattle.listing.specs.Listing.{held, limits}
@@ -22,16 +22,9 @@ returns-then-not-fits c =
     (no_of c.in_ok-cell.ensures.value refl) (sym c.fits.ensures ∙ c.if-not-fits.true) in
     record { value = o.answer; table_after = o.flags; bytes_after = o.turns }
 
-pub returns-in-Ok : goal.returns-in-Ok
-returns-in-Ok c =
+pub returns : goal.returns
+returns c =
     let o = ends_search c.args.slices c.args.first.now c.in_ok-cell.cell.slices c.in_ok-cell.ensures.same
     c.in_ok-cell.ensures.value (sym c.if-not-fits.false ∙ c.fits.ensures) c.room_of-room.ensures
-    _ (rw c.in-Ok.is at c.search_from.ensures) in
-    record { value = o.answer; table_after = o.flags; bytes_after = o.turns }
-
-pub returns-in-Err : goal.returns-in-Err
-returns-in-Err c =
-    let o = ends_search c.args.slices c.args.first.now c.in_ok-cell.cell.slices c.in_ok-cell.ensures.same
-    c.in_ok-cell.ensures.value (sym c.if-not-fits.false ∙ c.fits.ensures) c.room_of-room.ensures
-    _ (rw c.in-Err.is at c.search_from.ensures) in
-    record { value = o.answer; table_after = o.flags; bytes_after = o.turns }
+    c.search_from.result c.search_from.ensures in
+    record { value = c.after_walk.ensures ∙ o.answer; table_after = o.flags; bytes_after = o.turns }
